@@ -1,7 +1,6 @@
 -- Proofs of the examples of ends, of what a call leaves, of replies and of hands.
 use Rattle.oneshot_drive.proofs.Names.{true, false, refl, closed_itself, found_closed, looked, between, blocked, waits, withdrew, is_late, is_overtaken, rests_new, rests_open, rests_closed, leaves_open, leaves_closed, left_received, left_closed, timed_received, timed_out, timed_closed, as_it_was, sender_took, came_back, returned, taken, sent, EndsThatAre, EndsThatAreNot, CallsThatLeave, CallsThatDoNot, RepliesThatAre, HandsThatAre, HandsThatAreNot, Polled, unpolled, left_copy, kept_copy, found_sender, has_resolved, leaves_resolved, leaves_gone, leaves_waiting, tried_resolved, tried_its_copy, is_disconnected}
-use Rattle.oneshot_machine.specs.Phases.{By, sending, dropping, fresh, owes}
-use Rattle.oneshot_drive.specs.BetweenCalls.{leaves_received, SenderIsOver, over_finished, over_late, over_overtaken, last_finished, last_overtaken, found_message, found_no_sender, left_first}
+use Rattle.oneshot_drive.specs.BetweenCalls.{leaves_received, over_finished, over_late, over_overtaken, last_finished, last_overtaken, found_message, found_no_sender, left_first}
 
 pub ends_that_are : EndsThatAre
 ends_that_are =
@@ -23,8 +22,8 @@ ends_that_are =
       resolved_is_polled = has_resolved found_closed;
       refused_is_late = is_late;
       overtaken_is_late = is_overtaken;
-      ended_is_over = over_finished;
-      late_is_over = over_late;
+      ended_is_over = λ _. over_finished;
+      refused_is_over = over_late;
       overtaken_is_over = over_overtaken;
       last_finished_it = λ _. last_finished;
       last_came_too_late = λ _. last_overtaken;
@@ -38,14 +37,6 @@ blocked_is_polled (unpolled rests) = elim rests [ ]
 
 withdrawn_is_polled : Polled withdrew → ⊥
 withdrawn_is_polled (unpolled rests) = elim rests [ ]
-
-new_is_over : (by : By) → SenderIsOver by fresh → ⊥
-new_is_over sending over = elim over [ ]
-new_is_over dropping over = elim over [ ]
-
-owing_is_over : (by : By) → SenderIsOver by (owes by) → ⊥
-owing_is_over sending over = elim over [ ]
-owing_is_over dropping over = elim over [ ]
 
 pub ends_that_are_not : EndsThatAreNot
 ends_that_are_not =
@@ -68,12 +59,10 @@ ends_that_are_not =
       withdrawn_is_polled = withdrawn_is_polled;
       sent_is_late = λ _ h. elim h [ ];
       finishing_is_late = λ _ h. elim h [ ];
-      new_is_over = new_is_over;
-      owing_is_over = owing_is_over;
+      new_is_over = λ _ h. elim h [ ];
+      owing_is_over = λ _ h. elim h [ ];
       dropped_is_sent = λ h. elim h [ ];
       sent_is_dropped = λ h. elim h [ ];
-      refused_is_over = λ h. elim h [ ];
-      refused_after_waking_is_over = λ h. elim h [ ];
       last_is_hidden = λ _ h. elim h [ ];
       last_is_of_the_other_call = λ h. elim h [ ];
       looked_and_found_it = λ _ h. elim h [ ];

@@ -5,7 +5,7 @@ use Rattle.std.specs.List.{list_all}
 use Rattle.oneshot_machine.specs.declared.machine.Reply.{Reply}
 use Rattle.oneshot_machine.specs.declared.machine.sender.SenderCall.{SenderCall}
 use Rattle.oneshot_machine.specs.Noted.{Noted}
-use Rattle.oneshot_machine.specs.Phases.{blocked, Row, sender_next, sender_at, phase_from}
+use Rattle.oneshot_machine.specs.Phases.{finished, blocked, Row, sender_next, sender_at, phase_from}
 use Rattle.oneshot_machine.proofs.GrownLogs.{words_after}
 use Rattle.oneshot_machine.proofs.RunsByRows.{next_passes}
 use Rattle.oneshot_drive.specs.Wakes.{finds_waiting, SenderWoke, wakes, wakes_none}
@@ -21,31 +21,30 @@ owed_over : (by : By) → Each (λ n next after. LastLeaves by (not (n == 2)) ne
 owed_over sending = (last_finished, (last_finished, (last_overtaken, tt)))
 owed_over dropping = (last_finished, (last_finished, (last_overtaken, tt)))
 
--- a `send` that finds the receiver is then over, and a drop in either case
-pub sent_over : {by : By} {is_here : Bool} {at : SenderAt} → LastLeaves by is_here at → is_here ≡ true
-    → SenderIsOver by at
-sent_over {by} last_finished e = over_finished by
-sent_over last_overtaken e = absurd (cc e)
+-- it is then over, and finished if it found the receiver
+pub last_is_over : {by : By} {is_here : Bool} {at : SenderAt} → LastLeaves by is_here at → SenderIsOver by at
+last_is_over last_finished = over_finished
+last_is_over last_overtaken = over_overtaken
 
-pub dropped_over : {is_here : Bool} {at : SenderAt} → LastLeaves dropping is_here at → SenderIsOver dropping at
-dropped_over last_finished = over_finished dropping
-dropped_over last_overtaken = over_overtaken
+pub last_found : {by : By} {is_here : Bool} {at : SenderAt} → LastLeaves by is_here at → is_here ≡ true
+    → at ≡ finished by
+last_found last_finished e = refl
+last_found last_overtaken e = absurd (cc e)
 
-over_at : {by : By} {at next : SenderAt} → next ≡ at → SenderIsOver by at → SenderIsOver by next
+pub over_at : {by : By} {at next : SenderAt} → next ≡ at → SenderIsOver by at → SenderIsOver by next
 over_at {by} is over = subst (SenderIsOver by) (sym is) over
 
 module _ {T W : Type 0} where
   module _ {slots : Slots} {b a : GroundState T W} (n : ℕ) (is : StandsWith sender_of fresh slots b) where
     -- its first operation found no receiver that waits
-    pub added_over : n ≡ 3 → SenderMakes Add n b a → Grows b.log a.log (worded Add n ∷ [])
-        → SenderIsOver sending (sender_of a.log)
-    added_over e made grows =
-        over_at (lone (at_word 3 e (sender_lands b Add n is.phase made grows))).stands.phase (over_finished sending)
+    pub added_finished : n ≡ 3 → SenderMakes Add n b a → Grows b.log a.log (worded Add n ∷ [])
+        → sender_of a.log ≡ finished sending
+    added_finished e made grows = (lone (at_word 3 e (sender_lands b Add n is.phase made grows))).stands.phase
 
     pub flipped_over : n ≡ 3 → SenderMakes Xor n b a → Grows b.log a.log (worded Xor n ∷ [])
         → SenderIsOver dropping (sender_of a.log)
     flipped_over e made grows =
-        over_at (lone (at_word 3 e (sender_lands b Xor n is.phase made grows))).stands.phase (over_finished dropping)
+        over_at (lone (at_word 3 e (sender_lands b Xor n is.phase made grows))).stands.phase over_finished
 
     -- or one that waits
     pub added_owes : n ≡ 0 → SenderMakes Add n b a → Grows b.log a.log (worded Add n ∷ [])
@@ -57,8 +56,8 @@ module _ {T W : Type 0} where
     flipped_owes e made grows = (lone (at_word 0 e (sender_lands b Xor n is.phase made grows))).stands.phase
 
   -- or one that was gone
-  pub late_over : {slots : Slots} {a : GroundState T W} → StandsWith sender_of (late dropping) slots a
-      → SenderIsOver dropping (sender_of a.log)
+  pub late_over : {by : By} {slots : Slots} {a : GroundState T W} → StandsWith sender_of (late by) slots a
+      → SenderIsOver by (sender_of a.log)
   late_over stands = over_at stands.phase over_late
 
   last_over : {by : By} {at after : SenderAt} {new n : ℕ} {m m' : Held T} {w w' : Held W} → at ≡ owes by

@@ -10,7 +10,7 @@ use Rattle.oneshot_machine.specs.declared.machine.Reply.TheVariants.{Sent, Refus
 use Rattle.oneshot_machine.specs.declared.machine.Step.TheVariants.{TakeWaker, Wake}
 use Rattle.oneshot_machine.specs.declared.states.Op.TheVariants.{Swap}
 use Rattle.oneshot_machine.specs.Logs.{Event, Log, Grows, sender_of, handed, worded}
-use Rattle.oneshot_machine.specs.Phases.{By, dropping, SenderAt, fresh, finished, late, overtaken, Closing, closed_itself, Open, looked, between, Swapping, Got, ReceiverAt, first, here, waits, claimed, full, unclosed, disconnected, resolved, gone, ended}
+use Rattle.oneshot_machine.specs.Phases.{By, SenderAt, fresh, finished, late, overtaken, Closing, closed_itself, Open, looked, between, Swapping, Got, ReceiverAt, first, here, waits, claimed, full, unclosed, disconnected, resolved, gone, ended}
 use Rattle.oneshot_machine.specs.Slots.{Held, away, vacant, held, SenderMay}
 use Rattle.oneshot_drive.specs.Grounds.{GroundState, SenderStands, StandsIn}
 
@@ -28,12 +28,11 @@ pub data IsLate : SenderAt → Type 0 where
   is_late : (by : By) → IsLate (late by)
   is_overtaken : (by : By) → IsLate (overtaken by)
 
--- A sender that may be let go: it has sent its message, or its drop has performed its last operation. After a refused
--- `send` its error is still to be dropped.
-pub data SenderIsOver : By → SenderAt → Type 0 where
-  over_finished : (by : By) → SenderIsOver by (finished by)
-  over_late : SenderIsOver dropping (late dropping)
-  over_overtaken : SenderIsOver dropping (overtaken dropping)
+-- a sender that has performed its last operation, in its `send` or in its drop
+pub data SenderIsOver (by : By) : SenderAt → Type 0 where
+  over_finished : SenderIsOver by (finished by)
+  over_late : SenderIsOver by (late by)
+  over_overtaken : SenderIsOver by (overtaken by)
 
 -- A sender that found a waiting receiver: it owns the slot with that receiver's waker. Once it has taken
 -- the waker out, it owes this last word.

@@ -44,7 +44,7 @@ pub record EndsThatAre : Type 0 where
   pub overtaken_is_late : (by : By) → IsLate (overtaken by)
   -- an end that may be let go
   pub ended_is_over : (by : By) → SenderIsOver by (finished by)
-  pub late_is_over : SenderIsOver dropping (late dropping)
+  pub refused_is_over : SenderIsOver sending (late sending)
   pub overtaken_is_over : SenderIsOver dropping (overtaken dropping)
   pub last_finished_it : (by : By) → LastLeaves by true (finished by)
   pub last_came_too_late : (by : By) → LastLeaves by false (overtaken by)
@@ -78,9 +78,6 @@ pub record EndsThatAreNot : Type 0 where
   pub owing_is_over : (by : By) → SenderIsOver by (owes by) → ⊥
   pub dropped_is_sent : SenderIsOver sending (finished dropping) → ⊥
   pub sent_is_dropped : SenderIsOver dropping (finished sending) → ⊥
-  -- after a refused `send` its error must be dropped
-  pub refused_is_over : SenderIsOver sending (late sending) → ⊥
-  pub refused_after_waking_is_over : SenderIsOver sending (overtaken sending) → ⊥
   pub last_is_hidden : (by : By) → LastLeaves by true (overtaken by) → ⊥
   pub last_is_of_the_other_call : LastLeaves sending true (finished dropping) → ⊥
   pub looked_and_found_it : (o : Open) → FoundTheEnd (here o) → ⊥

@@ -5,7 +5,7 @@ ghost use Rattle.oneshot_machine.specs.declared.machine.Reply.TheVariants.{Messa
 ghost use Rattle.oneshot_machine.specs.declared.machine.sender.SenderCall.TheVariants.{Send, Drop, IntoInner, DropError};
 ghost use Rattle.oneshot_machine.specs.Counts.{sender_bound, MakesWithin};
 ghost use Rattle.oneshot_machine.specs.Logs.{sender_of, Grows};
-ghost use Rattle.oneshot_machine.specs.Phases.{By, sending, dropping, owes};
+ghost use Rattle.oneshot_machine.specs.Phases.{By, sending, dropping, finished, owes};
 ghost use Rattle.oneshot_machine.specs.Runs.{SenderRan};
 ghost use Rattle.oneshot_machine.specs.Slots.{away, held};
 ghost use Rattle.oneshot_drive.specs.Wakes.{SenderWoke};
@@ -28,8 +28,9 @@ pub fn send<T, W, G: SenderGround<T, W>>(g: &mut G, message: T) -> bool
     ensures refused { result ≡ false →
         IsError (held message) (G.state g.new) }
     ensures late { result ≡ false → IsLate (sender_of (G.state g.new).log) }
-    ensures over { result ≡ true → SenderIsOver sending (sender_of (G.state g.new).log) }
-    ensures ended { result ≡ true → G.ended sending g.new }
+    ensures over { SenderIsOver sending (sender_of (G.state g.new).log) }
+    ensures sent { result ≡ true → sender_of (G.state g.new).log ≡ finished sending }
+    ensures ended { G.ended sending g.new }
     ensures bounded { MakesWithin (sender_bound Send) (G.state g.old).log (G.state g.new).log }
     ensures gave { result ≡ true → G.gave g.new message }
     ensures keeps { G.keeps g.old g.new }

@@ -7,7 +7,7 @@ use Rattle.std.specs.Prelude.{⊤}
 use Rattle.crossbeam_utils.specs.Token.{IsSamePass}
 use Rattle.oneshot_machine.specs.Noted.{Noted}
 use Rattle.oneshot_machine.specs.Slots.{away}
-use Rattle.oneshot_machine.specs.Phases.{By, sending, dropping, sender_at, receiver_at}
+use Rattle.oneshot_machine.specs.Phases.{By, sending, sender_at, receiver_at}
 use Rattle.oneshot_drive.specs.BetweenCalls.{SenderIsOver, over_finished}
 use Rattle.oneshot_drive.specs.Wakes.{finds_waiting}
 use Rattle.oneshot_word.proofs.RuleReceives.{woken_is_put, both_reach, wakers_that_pass, wakers_that_do_not}
@@ -76,8 +76,7 @@ module _ {T P : Type 0} (keeps : P → T → Type 0) where
       senders_gave_tokens by sender receiver parker moment ended found (sleeps.own.gave sleeps.waits)
     where
       over_made : (by : By) (xs : List Noted) → SenderIsOver by (sender_at xs) → has_made xs ≡ true
-      over_made sending [] over = elim over [ ]
-      over_made dropping [] over = elim over [ ]
+      over_made by [] over = elim over [ ]
       over_made by (x ∷ xs) over = refl
 
   pub futures_wake_no_thread : FuturesWakeNoThread keeps
@@ -128,7 +127,7 @@ uses_that_are =
       gives_its_own = gives_its_own;
       ended = λ s half given logs took is same.
           record {
-            over = subst (SenderIsOver sending) (sym (shows_phase s logs)) (over_finished sending);
+            over = subst (SenderIsOver sending) (sym (shows_phase s logs)) over_finished;
             woken = λ found. used_half s half given took is same;
           };
       at_one_moment = λ k.

@@ -1,10 +1,11 @@
 //! The error of a refused `send`, which owns the message, and the block in the sender's place.
 
 ghost use Rattle.std.specs.Prelude.{◌≡◌};
-ghost use Rattle.oneshot_machine.specs.Phases.{sender_at};
+ghost use Rattle.oneshot_machine.specs.Phases.{sending, sender_at};
 ghost use Rattle.oneshot_machine.specs.Slots.{held};
 ghost use Rattle.oneshot_drive.specs.BetweenCalls.{IsLate};
 ghost use Rattle.oneshot_ends.specs.Ends.{SenderIsOrdered, WasRefused, channel_at};
+ghost use Rattle.oneshot_ends.specs.Woken.{HasEnded};
 
 use crate::ground::{Refused, SharedSender};
 use crate::token::WakingHalf;
@@ -62,6 +63,7 @@ impl<T, P: Promise<T>> SendError<T, P> {
 impl<T: Drop, P: Promise<T>> SendError<T, P> {
     /// The error of a `send` that was refused on this ground.
     pub(crate) fn refused(ground: SharedSender<T, P>) -> SendError<T, P>
+        requires ended { HasEnded sending ground }
         requires full { (message : T) × (ground.side.message ≡ held message) }
         requires late { IsLate (sender_at ground.side.log) }
         requires refused { WasRefused T ground.side.log }

@@ -1,7 +1,7 @@
 //! A sender's side before its one call, and its ground in that call.
 
 ghost use Rattle.std.specs.Prelude.{◌≡◌, false, true, Some};
-ghost use Rattle.oneshot_machine.specs.Phases.{sending, dropping};
+ghost use Rattle.oneshot_machine.specs.Phases.{sending, dropping, finished};
 ghost use Rattle.oneshot_machine.specs.Slots.{held};
 ghost use Rattle.oneshot_ends.specs.Ends.{SenderIsOrdered};
 
@@ -52,7 +52,7 @@ impl<T, P: Promise<T>> Unsent<T, WakingHalf, Waker, P> {
     }
 }
 
-// It has no `Drop`: it is let go by `sent` or `dropped`, which require that the call is over, or as an error.
+// It has no `Drop`: it is let go by `sent`, by `dropped` or as an error, which require that the call is over.
 /// The sender's ground.
 pub(crate) struct SharedSender<T, P: Promise<T>> {
     side: SenderSide<T, WakingHalf, Waker, P>,
@@ -89,11 +89,12 @@ impl<T, P: Promise<T>> SharedSender<T, P> {
 }
 
 impl<T: Drop, P: Promise<T>> SharedSender<T, P> {
-    ghost use Rattle.oneshot_ends.specs.Woken.{HasEnded};
+    ghost use Rattle.oneshot_ends.specs.Woken.{HasEnded, phase};
 
     /// Lets the sender go after a `send` to a receiver that was there.
     pub(crate) fn sent(self)
-        requires { HasEnded sending self }
+        requires ended { HasEnded sending self }
+        requires sent { phase self ≡ finished sending }
     {
         self.let_go();
     }
@@ -115,7 +116,8 @@ impl<T: Drop, P: Promise<T>> SharedSender<T, P> {
 
     /// Takes the message out of its slot, and returns it with the side.
     pub(crate) fn into_refused(self) -> (T, SenderSide<T, WakingHalf, Waker, P>)
-        requires { (x : T) × (self.side.message ≡ held x) }
+        requires ended { HasEnded sending self }
+        requires full { (x : T) × (self.side.message ≡ held x) }
         ensures message { self.side.message ≡ held result.0 }
         ensures about { result.1.about ≡ self.side.about }
         ensures table { result.1.table ≡ self.side.table }

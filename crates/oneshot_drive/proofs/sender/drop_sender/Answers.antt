@@ -2,7 +2,7 @@
 use Rattle.oneshot_drive.proofs.Names.{rules, refl, ◌∙◌, [], ◌∷◌, did, Xor, is_room, drop_few}
 use Rattle.oneshot_machine.specs.declared.machine.Step.TheVariants.{Free}
 use Rattle.oneshot_machine.specs.Phases.{dropping}
-use Rattle.oneshot_drive.proofs.EndsOver.{flipped_over, flipped_owes, late_over, dropped_over, sender_stays_over, woken_by}
+use Rattle.oneshot_drive.proofs.EndsOver.{flipped_over, flipped_owes, late_over, last_is_over, sender_stays_over, woken_by}
 use Rattle.oneshot_drive.proofs.AfterOperations.{sender_asks}
 use Rattle.oneshot_drive.proofs.SenderCalls.{drop_owes, flipped, flipped_room}
 use Rattle.oneshot_drive.proofs.SenderRuns.{drop_ran, drop_woke, drop_freed_late, drop_freed}
@@ -42,7 +42,7 @@ returns-then-not-finish g c =
     drop_freed_late _ c.flip.result c.in-0.is c.flip.ensures.log c.if-not-finish.ensures.finishes
     c.free.ensures.log c.free.ensures.woken in
     let over =
-    sender_stays_over (did Free ∷ []) refl c.free.ensures.log (dropped_over (c.if-not-finish.ensures.over dropping
+    sender_stays_over (did Free ∷ []) refl c.free.ensures.log (last_is_over (c.if-not-finish.ensures.over dropping
     (flipped_owes c.flip.result c.requires c.in-0.is c.flip.ensures.finds c.flip.ensures.log))) in
     record {
       run = ran.ran;
@@ -56,7 +56,7 @@ pub returns-else-not-finish : goal.returns-else-not-finish
 returns-else-not-finish g c =
     let ran = drop_woke _ c.flip.result c.in-0.is c.flip.ensures.log c.if-not-finish.ensures.finishes in
     let over =
-    dropped_over (c.if-not-finish.ensures.over dropping
+    last_is_over (c.if-not-finish.ensures.over dropping
     (flipped_owes c.flip.result c.requires c.in-0.is c.flip.ensures.finds c.flip.ensures.log)) in
     record {
       run = ran.ran;

@@ -4,7 +4,8 @@ use Rattle.oneshot_drive.proofs.AfterOperations.{sender_asks}
 use Rattle.oneshot_drive.proofs.SenderCalls.{written, send_owes, added_kept, added, added_given, refused, is_too_late}
 use Rattle.oneshot_drive.proofs.SenderRuns.{send_ran, send_refused, send_woke}
 use Rattle.oneshot_machine.specs.Phases.{sending}
-use Rattle.oneshot_drive.proofs.EndsOver.{added_over, added_owes, sent_over, woken_by}
+use Rattle.oneshot_drive.specs.BetweenCalls.{over_finished}
+use Rattle.oneshot_drive.proofs.EndsOver.{over_at, added_finished, added_owes, last_is_over, last_found, late_over, woken_by}
 use Rattle.oneshot_drive.proofs.sender.send.Goals as goal
 
 pub add-requires : goal.add-requires
@@ -26,14 +27,16 @@ returns-in-3 g c =
     let did =
     send_ran (g.G.SenderGround.woken c.add.new.self) c.add.result c.in-3.is c.write_message.ensures.log
     c.add.ensures.log in
-    let over = added_over c.add.result fresh c.in-3.is c.add.ensures.finds c.add.ensures.log in
+    let sent = added_finished c.add.result fresh c.in-3.is c.add.ensures.finds c.add.ensures.log in
     record {
       run = did.ran;
       woke = did;
       refused = search rules;
       late = search rules;
-      over = λ sent. over;
-      ended = λ sent. g.G.SenderGround.ended_by sending c.add.new.self over (woken_by c.requires.fresh.phase did);
+      over = over_at sent over_finished;
+      sent = λ _. sent;
+      ended = g.G.SenderGround.ended_by sending c.add.new.self (over_at sent over_finished)
+          (woken_by c.requires.fresh.phase did);
       bounded = send_few did.ran;
       gave = λ sent. c.add.ensures.gave c.args.message c.write_message.ensures.message
           (added_given c.add.result fresh c.in-3.is c.add.ensures.finds c.add.ensures.log);
@@ -50,17 +53,17 @@ returns-in-0 g c =
     let did =
     send_woke _ c.add.result c.finish.result c.in-0.is c.write_message.ensures.log c.add.ensures.log
     c.finish.ensures.finishes in
-    let over =
-    sent_over (c.finish.ensures.over sending
-    (added_owes c.add.result fresh c.in-0.is c.add.ensures.finds c.add.ensures.log)) in
+    let last =
+    c.finish.ensures.over sending (added_owes c.add.result fresh c.in-0.is c.add.ensures.finds c.add.ensures.log) in
     record {
       run = did.ran;
       woke = did;
       refused = λ gone.
           let over = c.finish.ensures.gone gone in record { keeps = over.message ∙ kept; no_waker = over.waker };
       late = λ gone. (c.finish.ensures.gone gone).late;
-      over = over;
-      ended = λ sent. g.G.SenderGround.ended_by sending c.finish.new.g (over sent)
+      over = last_is_over last;
+      sent = last_found last;
+      ended = g.G.SenderGround.ended_by sending c.finish.new.g (last_is_over last)
           (woken_by c.requires.fresh.phase did);
       bounded = send_few did.ran;
       gave = λ sent. c.finish.ensures.gave sent c.args.message kept;
@@ -83,8 +86,10 @@ returns-in_default g c =
       refused = λ _. refused c.args.message gone.stands
           (message_kept c.add.ensures.finds c.write_message.ensures.message gone.stands.message);
       late = λ _. is_too_late gone.stands;
-      over = search rules;
-      ended = search rules;
+      over = late_over gone.stands;
+      sent = search rules;
+      ended = g.G.SenderGround.ended_by sending c.add.new.self (late_over gone.stands)
+          (woken_by c.requires.fresh.phase did);
       bounded = send_few did.ran;
       gave = search rules;
       keeps = g.G.SenderGround.keeps_on _ _ _ c.write_message.ensures.keeps c.add.ensures.keeps;
