@@ -199,16 +199,6 @@ pub trait ReceiverGround<T, W> {
         ensures waker { (state self.new).waker ≡ (state self.old).waker }
         ensures keeps { keeps self.old self.new };
 
-    /// Writes `waker` into its slot, which is the end's and empty.
-    fn write_waker(&mut self, waker: W)
-        requires slot { (state self.old).waker ≡ vacant }
-        requires has { has self.old (Some waker) }
-        ensures log { Grows (state self.old).log (state self.new).log (handed WriteWaker waker ∷ []) }
-        ensures message { (state self.new).message ≡ (state self.old).message }
-        ensures waker { (state self.new).waker ≡ held waker }
-        ensures has { has self.new None }
-        ensures keeps { keeps self.old self.new };
-
     /// Takes the waker back out of its slot, and returns it.
     fn withdraw(&mut self) -> W
         requires { (k : W) × ((state self.old).waker ≡ held k) }
@@ -229,8 +219,21 @@ pub trait ReceiverGround<T, W> {
         ensures keeps { keeps self.old self.new };
 }
 
+/// The steps of the receiver in a call that may give its waker.
+pub trait WaitGround<T, W>: ReceiverGround<T, W> {
+    /// Writes `waker` into its slot, which is the end's and empty.
+    fn write_waker(&mut self, waker: W)
+        requires slot { (Self.state self.old).waker ≡ vacant }
+        requires has { Self.has self.old (Some waker) }
+        ensures log { Grows (Self.state self.old).log (Self.state self.new).log (handed WriteWaker waker ∷ []) }
+        ensures message { (Self.state self.new).message ≡ (Self.state self.old).message }
+        ensures waker { (Self.state self.new).waker ≡ held waker }
+        ensures has { Self.has self.new None }
+        ensures keeps { Self.keeps self.old self.new };
+}
+
 /// The steps of the receiver in a call that blocks.
-pub trait BlockGround<T, W>: ReceiverGround<T, W> {
+pub trait BlockGround<T, W>: WaitGround<T, W> {
     // What a park, with a deadline or without, does beside the channel.
     ghost parks: { Bool → Self → Self → Type 0 };
 
@@ -256,7 +259,7 @@ pub trait BlockGround<T, W>: ReceiverGround<T, W> {
 }
 
 /// The steps of the receiver in a poll.
-pub trait TaskGround<T, W>: ReceiverGround<T, W> {
+pub trait TaskGround<T, W>: WaitGround<T, W> {
     // The poll's task will be polled again: it was woken, or its waker was copied.
     ghost heard: { Self → Type 0 };
 

@@ -5,7 +5,7 @@ ghost use Rattle.oneshot_drive.specs.Polls.{IsPolled};
 
 use crate::receiver::MemoryReceiver;
 use crate::task::{MemoryTask, TaskWaker};
-use oneshot_drive::{ReceiverGround, TaskGround};
+use oneshot_drive::{ReceiverGround, TaskGround, WaitGround};
 use std::alloc::Global;
 use std::sync::Wait;
 
@@ -83,16 +83,18 @@ impl<'a, 't, T: Drop, R: Wait> ReceiverGround<T, TaskWaker<'t>> for MemoryFuture
         self.receiver.drop_message();
     }
 
-    fn write_waker(&mut self, waker: TaskWaker<'t>) {
-        self.receiver.write_waker(waker);
-    }
-
     fn withdraw(&mut self) -> TaskWaker<'t> {
         self.receiver.withdraw()
     }
 
     fn free(&mut self) {
         self.receiver.free();
+    }
+}
+
+impl<'a, 't, T: Drop, R: Wait> WaitGround<T, TaskWaker<'t>> for MemoryFuture<'a, 't, T, R> {
+    fn write_waker(&mut self, waker: TaskWaker<'t>) {
+        self.receiver.write_waker(waker);
     }
 }
 

@@ -11,7 +11,7 @@ ghost use Rattle.oneshot_memory.specs.Receiver.{keeps_message, keeps_waker, wake
 
 use crate::wakes::Wakes;
 use crate::{Event, record, sight};
-use oneshot_drive::{BlockGround, ReceiverGround};
+use oneshot_drive::{BlockGround, ReceiverGround, WaitGround};
 use oneshot_machine::machine::{Seen, Step};
 use oneshot_machine::states::{DISCONNECTED, EMPTY, MESSAGE, Op, RECEIVING, UNPARKING};
 use std::alloc::Global;
@@ -333,13 +333,6 @@ impl<'a, T: Drop, W: Drop + Wakes, R: Wait> ReceiverGround<T, W> for MemoryRecei
         record(self.rt, &mut self.events, event);
     }
 
-    fn write_waker(&mut self, waker: W) {
-        let event = Event::handing(Step::WriteWaker, &waker);
-        self.waker = Some(waker);
-        record(self.rt, &mut self.events, event);
-        self.pause();
-    }
-
     fn withdraw(&mut self) -> W {
         let Some(waker) = self.waker.take() else {
             unreachable!()
@@ -354,6 +347,15 @@ impl<'a, T: Drop, W: Drop + Wakes, R: Wait> ReceiverGround<T, W> for MemoryRecei
         self.owns_waker = false;
         let event = Event::of(Step::Free, Seen::Done);
         record(self.rt, &mut self.events, event);
+    }
+}
+
+impl<'a, T: Drop, W: Drop + Wakes, R: Wait> WaitGround<T, W> for MemoryReceiver<'a, T, W, R> {
+    fn write_waker(&mut self, waker: W) {
+        let event = Event::handing(Step::WriteWaker, &waker);
+        self.waker = Some(waker);
+        record(self.rt, &mut self.events, event);
+        self.pause();
     }
 }
 

@@ -151,10 +151,6 @@ impl<T: Drop, P: Promise<T>> ReceiverGround<T, AnyWaker<WakingHalf, Waker>>
         self.side.take_message();
     }
 
-    fn write_waker(&mut self, waker: AnyWaker<WakingHalf, Waker>) {
-        self.give(waker);
-    }
-
     fn withdraw(&mut self) -> AnyWaker<WakingHalf, Waker> {
         self.side.take_waker()
     }

@@ -12,7 +12,7 @@ use super::ChannelReceiver;
 use crate::copies::Copies;
 use crate::waker::ChannelWaker;
 use futures::task::{Context, Poll, Source, Waker};
-use oneshot_drive::{ReceiverGround, TaskGround};
+use oneshot_drive::{ReceiverGround, TaskGround, WaitGround};
 use oneshot_word::Promise;
 
 /// Stands for a copy of a waker that the ground keeps. Dropping it drops no copy.
@@ -98,11 +98,6 @@ impl<'g, 'c, 'x, T: Drop, P: Promise<T>> ReceiverGround<T, Copied>
         self.ground.drop_message();
     }
 
-    fn write_waker(&mut self, _: Copied) {
-        let copy = given(self.copies, self.cx);
-        self.ground.give(copy);
-    }
-
     fn withdraw(&mut self) -> Copied {
         let copy = self.ground.withdraw();
         keep(self.copies, copy);
@@ -111,6 +106,14 @@ impl<'g, 'c, 'x, T: Drop, P: Promise<T>> ReceiverGround<T, Copied>
 
     fn free(&mut self) {
         self.ground.free();
+    }
+}
+
+impl<'g, 'c, 'x, T: Drop, P: Promise<T>> WaitGround<T, Copied>
+    for Polling<'g, 'c, 'x, ChannelReceiver<T, P>> {
+    fn write_waker(&mut self, _: Copied) {
+        let copy = given(self.copies, self.cx);
+        self.ground.give(copy);
     }
 }
 

@@ -8,7 +8,7 @@ use crate::deadline::{Deadline, Reading, read};
 use crate::spin::{SPINS, spin};
 use crate::token::ParkingHalf;
 use crate::waker::ChannelWaker;
-use oneshot_drive::{BlockGround, ReceiverGround};
+use oneshot_drive::{BlockGround, ReceiverGround, WaitGround};
 use oneshot_word::Promise;
 use std::sync::Wait;
 use std::time::Clock;
@@ -137,16 +137,19 @@ impl<'g, 'p, 'r, T: Drop, Rt, P: Promise<T>> ReceiverGround<T, ChannelWaker>
         self.ground.drop_message();
     }
 
-    fn write_waker(&mut self, waker: ChannelWaker) {
-        self.ground.give(waker);
-    }
-
     fn withdraw(&mut self) -> ChannelWaker {
         self.ground.withdraw()
     }
 
     fn free(&mut self) {
         self.ground.free();
+    }
+}
+
+impl<'g, 'p, 'r, T: Drop, Rt, P: Promise<T>> WaitGround<T, ChannelWaker>
+    for Blocking<'g, 'p, 'r, ChannelReceiver<T, P>, Rt> {
+    fn write_waker(&mut self, waker: ChannelWaker) {
+        self.ground.give(waker);
     }
 }
 

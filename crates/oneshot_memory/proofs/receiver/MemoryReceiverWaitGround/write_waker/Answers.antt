@@ -1,9 +1,9 @@
--- Proofs of the goals that `write_waker` of `MemoryReceiver` as a `ReceiverGround` leaves.
+-- Proofs of the goals that `write_waker` of `MemoryReceiver` as a `WaitGround` leaves.
 use Rattle.std.proofs.Common.{Some, refl, ap, ◌∙◌}
 use Rattle.oneshot_memory.proofs.Events.{no_word}
 use Rattle.oneshot_memory.proofs.Memory.{slot_vacant}
 use Rattle.oneshot_memory.proofs.ReceiverMatches.{receiver_stays, receiver_wakers}
-use Rattle.oneshot_memory.proofs.receiver.MemoryReceiverReceiverGround.write_waker.Goals as goal
+use Rattle.oneshot_memory.proofs.receiver.MemoryReceiverWaitGround.write_waker.Goals as goal
 
 pub invariant_of-self : goal.invariant_of-self
 invariant_of-self g c =

@@ -1,11 +1,11 @@
--- Proofs of the goals that `write_waker` of `Polling` as a `ReceiverGround` leaves.
+-- Proofs of the goals that `write_waker` of `Polling` as a `WaitGround` leaves.
 use Rattle.std.proofs.Common.{◌≡◌, refl, [], ◌∷◌, sym, ap, ◌∙◌, subst}
 use Rattle.oneshot_machine.specs.Slots.{held}
 use Rattle.oneshot_ends.specs.OwnWakers.{IsNoThread}
 use Rattle.oneshot_ends.proofs.OwnWakers.{with_slot}
 use Rattle.oneshot_ends.proofs.PollingTokens.{told}
 use Rattle.oneshot_ends.proofs.Taken.{side_keeps}
-use Rattle.oneshot_ends.proofs.ground.task.PollingChannelReceiverReceiverGroundCopied.write_waker.Goals as goal
+use Rattle.oneshot_ends.proofs.ground.task.PollingChannelReceiverWaitGroundCopied.write_waker.Goals as goal
 
 pub returns-clause-log : goal.returns-clause-log
 returns-clause-log g c =
