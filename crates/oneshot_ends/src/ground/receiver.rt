@@ -61,17 +61,13 @@ impl<T: Drop, H: Drop, K: Drop, P: Promise<T>> SharedReceiver<T, H, K, P> {
     pub(crate) fn received(self)
         requires { FoundTheEnd (receiver_of (state_of self).log) }
     {
-        self.let_go();
+        let SharedReceiver { side: _, freed: _ } = self;
     }
 
     /// Lets the receiver go after its drop.
     pub(crate) fn dropped(self)
         requires { HasLeft (receiver_of (state_of self).log) }
     {
-        self.let_go();
-    }
-
-    fn let_go(self) {
         let SharedReceiver { side: _, freed: _ } = self;
     }
 }

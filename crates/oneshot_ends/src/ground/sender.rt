@@ -96,17 +96,17 @@ impl<T: Drop, P: Promise<T>> SharedSender<T, P> {
         requires ended { HasEnded sending self }
         requires sent { phase self ≡ finished sending }
     {
-        self.let_go();
+        let SharedSender {
+            side: _,
+            freed: _,
+            given: _,
+        } = self;
     }
 
     /// Lets the sender go after its drop.
     pub(crate) fn dropped(self)
         requires { HasEnded dropping self }
     {
-        self.let_go();
-    }
-
-    fn let_go(self) {
         let SharedSender {
             side: _,
             freed: _,
