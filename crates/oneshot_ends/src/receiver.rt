@@ -221,29 +221,11 @@ impl<T: Drop, Rt: Wait + Clock + Drop, P: Promise<T>> Receiver<T, Rt, P> {
             source: _,
             rt,
         } = self;
-        let result = receive_last(&mut ground, &mut parker, &rt, &mut hand);
+        let mut lent = Blocking::lend(&mut ground, &mut parker, &rt, Deadline::Never, None);
+        let result = recv(&mut lent, &rt, &mut hand);
         ground.received();
         result
     }
-}
-
-// The last receive of a receiver, which may then be let go.
-fn receive_last<T: Drop, Rt: Wait + Clock + Drop, P: Promise<T>>(
-    ground: &mut ChannelReceiver<T, P>,
-    parker: &mut ParkingHalf,
-    rt: &Rt,
-    hand: &mut Option<ChannelWaker>,
-) -> Result<T, RecvError>
-    requires rests { AtRest (state_of ground.old) }
-    requires ready { IsReady hand.old (receiver_of (state_of ground.old).log) }
-    requires owned { WaitsByHalvesOf parker.old.parker ground.old }
-    requires own { IfSome hand.old (IsHalfOf parker.old.parker) }
-    ensures found { FoundTheEnd (receiver_of (state_of ground.new).log) }
-    ensures stays { IsClosedAt (receiver_of (state_of ground.old).log) → IsErr result }
-    ensures kept { IfOk result (λ message. P.keeps ground.old.about message) }
-{
-    let mut lent = Blocking::lend(ground, parker, rt, Deadline::Never, None);
-    recv(&mut lent, rt, hand)
 }
 
 impl<T: Drop, Rt: Wait + Clock + Drop, P: Promise<T>> Receiver<T, Rt, P> {

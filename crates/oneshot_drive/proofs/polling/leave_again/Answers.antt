@@ -1,9 +1,14 @@
 -- Proofs of the goals that `leave_again` leaves.
-use Rattle.oneshot_drive.proofs.Names.{rules, refl, subst, Exchange, leaves_its_copy, leaves_claimed, is_in}
-use Rattle.oneshot_drive.proofs.AfterOperations.{asks, withdrew_waker}
+use Rattle.oneshot_drive.proofs.Names.{◌≡◌, ℕ, Some, rules, refl, subst, Exchange, Future, AgainCopy, AgainExchange, Path, Found, poll_end, EndsPoll, receiver_of, receiver_row, receiver_moves, waits, again, landings, leaves_its_copy, leaves_claimed, is_in}
+use Rattle.oneshot_machine.specs.declared.machine.Seen.TheVariants.{Word}
+use Rattle.oneshot_drive.specs.declared.waiting.Found.TheVariants as F
+use Rattle.oneshot_drive.specs.Polls.{WritesItsCopy}
+use Rattle.oneshot_drive.proofs.AfterOperations.{Lands, asks, withdrew_waker}
 use Rattle.oneshot_drive.proofs.LeftCopies.{refused, copied_on, owned_ends, may_leave, again_backed, backed_copy, backed_full, backed_none, backed_late, again_to, again_left, again_late}
 use Rattle.oneshot_drive.proofs.OwnCopies.{wrote_none, on_word, on_withdraw, on_own, on_copy, on_refusal}
+use Rattle.oneshot_drive.proofs.polling.leave_again.Given as given
 use Rattle.oneshot_drive.proofs.polling.leave_again.Goals as goal
+use Rattle.oneshot_drive.proofs.polling.leave_again.Goals.{After-exchange}
 
 pub returns-in_default : goal.returns-in_default
 returns-in_default g c =
@@ -22,16 +27,45 @@ exchange-requires g c =
     asks (Exchange 0 3) (copied_on c.copy.result c.requires.open c.copy.ensures.log c.copy.ensures.message
     c.copy.ensures.waker) refl
 
+-- where the exchange leads
+backed : (g : given.Over) (c : After-exchange g)
+    → Lands receiver_of c.exchange.result (g.G.ReceiverGround.state c.exchange.new.self)
+    (landings (Exchange 0 3) (receiver_moves (waits again)))
+backed g c =
+    again_backed c.copy.result c.exchange.result c.requires.open c.copy.ensures.log c.copy.ensures.message
+    c.copy.ensures.waker c.exchange.ensures.finds c.exchange.ensures.log
+
+-- an exchange that found the sender's last word
+ended : (g : given.Over) (c : After-exchange g) (word : ℕ) (f : Found)
+    → receiver_row (Future AgainExchange) (Word word) ≡ Some (poll_end f) → c.exchange.result ≡ word
+    → (f ≡ F.Nothing → ⊥) → EndsPoll f (g.G.ReceiverGround.state c.exchange.new.self)
+    → record {
+      path : Path (Future AgainCopy) (poll_end f) (g.G.ReceiverGround.state c.args.g.now).log
+          (g.G.ReceiverGround.state c.exchange.new.self).log;
+      ends : EndsPoll f (g.G.ReceiverGround.state c.exchange.new.self);
+      heard : f ≡ F.Nothing → g.G.TaskGround.heard c.exchange.new.self;
+      own : WritesItsCopy (g.G.ReceiverGround.state c.args.g.now).log (g.G.ReceiverGround.state c.exchange.new.self).log;
+      keeps : g.G.ReceiverGround.keeps c.args.g.now c.exchange.new.self;
+    }
+ended g c word f leads e some ends =
+    record {
+      path = again_to c.copy.result c.in-Some.copy c.in-Some.is c.copy.ensures.log _ c.exchange.result word leads e
+          c.exchange.ensures.log;
+      ends = ends;
+      heard = λ nothing. absurd (some nothing);
+      own = on_copy c.in-Some.copy c.in-Some.is c.copy.ensures.log
+          (on_word _ c.exchange.result c.exchange.ensures.log (wrote_none _));
+      keeps = g.G.ReceiverGround.keeps_on _ _ _ c.copy.ensures.keeps c.exchange.ensures.keeps;
+    }
+
 pub withdraw-stored-requires : goal.withdraw-stored-requires
 withdraw-stored-requires g c =
-    is_in (backed_copy (again_backed c.copy.result c.exchange.result c.requires.open c.copy.ensures.log
-    c.copy.ensures.message c.copy.ensures.waker c.exchange.ensures.finds c.exchange.ensures.log) c.in-0.is).waker
+    is_in (backed_copy (backed g (goal.at.withdraw-stored-requires g c).After-exchange) c.in-0.is).waker
 
 pub leave-requires-clause-open : goal.leave-requires-clause-open
 leave-requires-clause-open g c =
     may_leave (withdrew_waker
-    (backed_copy (again_backed c.copy.result c.exchange.result c.requires.open c.copy.ensures.log
-    c.copy.ensures.message c.copy.ensures.waker c.exchange.ensures.finds c.exchange.ensures.log) c.in-0.is)
+    (backed_copy (backed g (goal.at.leave-requires-clause-open g c).After-exchange) c.in-0.is)
     c.withdraw-stored.ensures.log c.withdraw-stored.ensures.message c.withdraw-stored.ensures.waker) refl
 
 pub returns-in-0 : goal.returns-in-0
@@ -51,37 +85,20 @@ returns-in-0 g c =
 
 pub returns-in-4 : goal.returns-in-4
 returns-in-4 g c =
-    record {
-      path = again_to c.copy.result c.in-Some.copy c.in-Some.is c.copy.ensures.log _ c.exchange.result 4 refl c.in-4.is
-          c.exchange.ensures.log;
-      ends = backed_full (again_backed c.copy.result c.exchange.result c.requires.open c.copy.ensures.log
-          c.copy.ensures.message c.copy.ensures.waker c.exchange.ensures.finds c.exchange.ensures.log) c.in-4.is;
-      heard = λ nothing. absurd (cc);
-      own = on_copy c.in-Some.copy c.in-Some.is c.copy.ensures.log
-          (on_word _ c.exchange.result c.exchange.ensures.log (wrote_none _));
-      keeps = g.G.ReceiverGround.keeps_on _ _ _ c.copy.ensures.keeps c.exchange.ensures.keeps;
-    }
+    let c' = (goal.at.returns-in-4 g c).After-exchange in
+    ended g c' 4 F.Message refl c.in-4.is (λ e. cc) (backed_full (backed g c') c.in-4.is)
 
 pub returns-in-2 : goal.returns-in-2
 returns-in-2 g c =
-    record {
-      path = again_to c.copy.result c.in-Some.copy c.in-Some.is c.copy.ensures.log _ c.exchange.result 2 refl c.in-2.is
-          c.exchange.ensures.log;
-      ends = backed_none (again_backed c.copy.result c.exchange.result c.requires.open c.copy.ensures.log
-          c.copy.ensures.message c.copy.ensures.waker c.exchange.ensures.finds c.exchange.ensures.log) c.in-2.is;
-      heard = λ nothing. absurd (cc);
-      own = on_copy c.in-Some.copy c.in-Some.is c.copy.ensures.log
-          (on_word _ c.exchange.result c.exchange.ensures.log (wrote_none _));
-      keeps = g.G.ReceiverGround.keeps_on _ _ _ c.copy.ensures.keeps c.exchange.ensures.keeps;
-    }
+    let c' = (goal.at.returns-in-2 g c).After-exchange in
+    ended g c' 2 F.Closed refl c.in-2.is (λ e. cc) (backed_none (backed g c') c.in-2.is)
 
 pub returns-in_default-exchange : goal.returns-in_default-exchange
 returns-in_default-exchange g c =
     let on = g.G.ReceiverGround.keeps_on in
     let late =
-    backed_late (again_backed c.copy.result c.exchange.result c.requires.open c.copy.ensures.log c.copy.ensures.message
-    c.copy.ensures.waker c.exchange.ensures.finds c.exchange.ensures.log)
-    (search rules) (search rules) (search rules) in
+    backed_late (backed g (goal.at.returns-in_default-exchange g c).After-exchange) (search rules) (search rules)
+    (search rules) in
     record {
       path = again_late c.copy.result c.in-Some.copy c.in-Some.is c.copy.ensures.log c.exchange.result late.word
           c.exchange.ensures.log c.wake_own-in_default-exchange.ensures.log;
