@@ -1,5 +1,5 @@
 -- What two views of one end have in common, and the promise of a message as the caller sees it.
-use Rattle.std.proofs.Common.{◌≡◌, Option, Result, ap, ◌∙◌, subst}
+use Rattle.std.proofs.Common.{◌≡◌, Result, ap, ◌∙◌, subst}
 use Rattle.std.specs.Prelude.{IfOk}
 use Rattle.futures.specs.declared.task.Poll.{Poll}
 use Rattle.futures.specs.declared.task.Poll.TheVariants.{Ready, Pending}
@@ -25,10 +25,6 @@ module _ {T P : Type 0} where
 
   pub future_took : {a b : FutureEndOf T P} → a ≡ b → a.took ≡ b.took
   future_took is = ap (λ (e : FutureEndOf T P). e.took) is
-
-  -- a side that was lent has taken what its end has
-  pub lent_took : {W : Type 0} {own s : Side T W P} {took : Option T} → s ≡ own → own.passed ≡ took → s.passed ≡ took
-  lent_took is shown = ap (λ s. s.passed) is ∙ shown
 
 module _ {P : Type 0} where
   pub sent_steps : {a b : SenderEndOf P} → a ≡ b → a.log ≡ b.log

@@ -1,5 +1,5 @@
 -- A driver's run on a real end's ground appends its operations to the end's own log.
-use Rattle.std.proofs.Common.{◌≡◌, Bool, false, List, [], ◌∷◌, ◌++◌, Option, map, refl, sym, ap, ◌∙◌, subst}
+use Rattle.std.proofs.Common.{◌≡◌, ℕ, Bool, false, List, [], ◌∷◌, ◌++◌, Option, map, refl, sym, ap, ◌∙◌, subst}
 use Rattle.std.specs.List.{cons_option}
 use Rattle.std.specs.Option.{option_map}
 use Rattle.oneshot_machine.specs.declared.machine.Reply.{Reply}
@@ -11,6 +11,7 @@ use Rattle.oneshot_machine.specs.declared.machine.receiver.ReceiverStart.TheVari
 use Rattle.oneshot_machine.specs.declared.machine.sender.SenderCall.{SenderCall}
 use Rattle.oneshot_machine.specs.declared.machine.sender.SenderCall.TheVariants.{Send}
 use Rattle.oneshot_machine.specs.Logs.{Event, Log, Grows, noted, words}
+use Rattle.oneshot_machine.specs.Phases.{ReceiverAt, receiver_at}
 use Rattle.oneshot_machine.specs.TableRows.{Outcome}
 use Rattle.oneshot_machine.specs.Runs.{Run, last, more, SenderRan, ReceiverRan}
 use Rattle.oneshot_machine.specs.Receiver.{receiver_start, receiver_step, receiver_row}
@@ -19,7 +20,7 @@ use Rattle.oneshot_machine.specs.Noted.{Noted}
 use Rattle.oneshot_machine.specs.Counts.{receiver_bound, GrewWithin}
 use Rattle.oneshot_machine.proofs.CallBounds.{try_recv_makes, async_try_recv_makes, poll_makes}
 use Rattle.oneshot_machine.proofs.GrownLogs.{words_after}
-use Rattle.oneshot_drive.specs.BetweenCalls.{send_reply}
+use Rattle.oneshot_drive.specs.BetweenCalls.{IsClosedAt, send_reply}
 use Rattle.oneshot_word.specs.Side.{Side}
 use Rattle.oneshot_ends.specs.Ends.{Waking, SenderGrew, ReceiverGrew}
 use Rattle.oneshot_ends.specs.Grounds.{events_of, state_of}
@@ -29,9 +30,10 @@ pub words_of : (T W : Type 0) (xs : List Noted) → words (events_of {T = T} {W 
 words_of T W [] = refl
 words_of T W (x ∷ xs) = ap (λ noted. x ∷ noted) (words_of T W xs)
 
-pub began_at : {T W P : Type 0} {own s : Side T W P} {log : List Noted} → s ≡ own → own.log ≡ log
-    → words (events_of {T = T} {W = W} s.log) ≡ log
-began_at {T} {W} {s} is has = words_of T W s.log ∙ ap (λ s. s.log) is ∙ has
+-- so are those of a ground that was lent, whichever type `V` of wakers it shows
+pub began_at : {T W P : Type 0} {own s : Side T W P} {log : List Noted} (V : Type 0) → s ≡ own → own.log ≡ log
+    → words (events_of {T = T} {W = V} s.log) ≡ log
+began_at {T} {s = s} V is has = words_of T V s.log ∙ ap (λ s. s.log) is ∙ has
 
 module _ {T W : Type 0} where
   -- an event of a run, without the name of its waker
@@ -74,13 +76,31 @@ module _ {T W : Type 0} where
           list = grown_unnamed ran.run ran.grows;
         }
 
+-- a call on the ground of a receiver, its own or lent for the call
+pub grew_by : {T W V P : Type 0} {own s : Side T W P} {log : List Noted} {channel : List ℕ} {channel' : List ℕ}
+    → s ≡ own → own.log ≡ log → (next : Side T W P) (call : ReceiverStart) {reply : Reply} {given got : List T}
+    → ReceiverRan {W = V} call (record { whole = false; channel = channel; list = events_of s.log })
+    (record { whole = false; channel = channel'; list = events_of next.log }) reply given got
+    → ReceiverGrew T call log next.log reply
+grew_by {T} {V = V} is was next = receiver_grew (began_at V is was) (words_of T V next.log)
+
+-- a closed receiver is closed where the call begins
+pub closed_before : {T W P : Type 0} {own s : Side T W P} {log : List Noted} (V : Type 0) → s ≡ own → own.log ≡ log
+    → IsClosedAt (receiver_at log) → IsClosedAt (receiver_at (words (events_of {T = T} {W = V} s.log)))
+closed_before V is was = subst (λ xs. IsClosedAt (receiver_at xs)) (sym (began_at V is was))
+
+-- what holds of the ground's phase at its end holds of the receiver's
+pub at_end : {T W P : Type 0} (V : Type 0) (Holds : ReceiverAt → Type 0) (s : Side T W P)
+    → Holds (receiver_at (words (events_of {T = T} {W = V} s.log))) → Holds (receiver_at s.log)
+at_end {T} V Holds s = subst (λ xs. Holds (receiver_at xs)) (words_of T V s.log)
+
 -- a `send` whose driver found the receiver gone
 pub send_refused : {T W P : Type 0} {own ground : Side T W P} {before last : List Noted} {sent : Bool}
     {given got : List T} (after : Side T W P) → ground ≡ own → own.log ≡ before → after.log ≡ last → sent ≡ false
     → SenderRan Send (state_of ground).log (state_of after).log (send_reply sent) given got
     → SenderGrew T Send before last Refused
 send_refused {T} {W} {ground = ground} {given = given} {got = got} after is was ends found ran =
-    sender_grew (began_at is was) (words_of T W after.log ∙ ends) Send
+    sender_grew (began_at W is was) (words_of T W after.log ∙ ends) Send
     (subst (λ sent. SenderRan Send (state_of ground).log (state_of after).log (send_reply sent) given got) found ran)
 
 -- a log grows by no more operations than a run of the call performs

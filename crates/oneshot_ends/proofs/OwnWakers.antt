@@ -17,9 +17,11 @@ use Rattle.oneshot_word.specs.Seats.{gave}
 use Rattle.oneshot_word.specs.Side.{Side, ReceiverDid}
 use Rattle.oneshot_ends.specs.declared.token.WakingHalf.{WakingHalf}
 use Rattle.oneshot_ends.specs.Grounds.{left_of, state_of, IsNewReceiver}
-use Rattle.oneshot_ends.specs.OwnWakers.{IsHalfOf, is_waiting, Gave, WaitsBy, WaitsByHalvesOf}
+use Rattle.oneshot_ends.specs.OwnWakers.{IsHalfOf, is_waiting, Gave, WaitsBy, IsNoThread, WaitsByNoThread, WaitsByHalvesOf}
+use Rattle.oneshot_ends.specs.Taken.{KeepsTaken}
 use Rattle.oneshot_ends.specs.Tokens as tokens
 use Rattle.oneshot_ends.proofs.GrewByRuns.{words_of}
+use Rattle.oneshot_ends.proofs.Taken.{side_keeps, ground_keeps}
 
 abbrev pub is_put : Share → Share → Bool
 is_put filled none = true
@@ -134,11 +136,26 @@ module _ {W : Type 0} (own : W → Type 0) where
 
 -- so it is with a ground of this side
 module _ {T W P : Type 0} (freed : Bool) (s : Side T W P) {now : Side T W P} (is : left_of freed s ≡ now) where
-  pub ground_after : {op : Op} {word : ℕ} (own : W → Type 0) (next : Side T W P) → freed ≡ false
+  ground_after : {op : Op} {word : ℕ} (own : W → Type 0) (next : Side T W P) → freed ≡ false
       → ReceiverDid s op word next → WaitsBy own now → WaitsBy own (left_of freed next)
   ground_after own next unfreed did owned =
       subst (WaitsBy own) (λ i. left_of (sym unfreed i) next)
       (after_op own s next did (subst (WaitsBy own) (sym is ∙ (λ i. left_of (unfreed i) s)) owned))
+
+-- what an operation keeps of a real receiver's ground
+pub operated : {T K P : Type 0} (freed : Bool) (s : Side T (AnyWaker WakingHalf K) P)
+    {now : Side T (AnyWaker WakingHalf K) P} → left_of freed s ≡ now → freed ≡ false
+    → (next : Side T (AnyWaker WakingHalf K) P) {op : Op} {word : ℕ} → ReceiverDid s op word next
+    → (next.about ≡ now.about)
+    × ((parker : TableId) → WaitsByHalvesOf parker now → WaitsByHalvesOf parker (left_of freed next))
+    × (WaitsByNoThread now → WaitsByNoThread (left_of freed next))
+    × KeepsTaken now.passed next.passed now.log next.log
+operated freed s is unfreed next did = (
+  did.about ∙ ap (λ s. s.about) is,
+  λ parker. ground_after freed s is (IsHalfOf parker) next unfreed did,
+  ground_after freed s is IsNoThread next unfreed did,
+  (ground_keeps freed s is did).1,
+)
 
 no_slot : {W : Type 0} {w : Held W} {k : W} → IsSlot none w → w ≡ held k → ⊥
 no_slot is_away e = cc e
@@ -156,6 +173,19 @@ module _ {T K P : Type 0} where
     subst (λ s. WaitsByHalvesOf q.parker s) (sym is)
         (subst (λ (p : tokens.Parks). WaitsByHalvesOf p.parker own) (sym same) owned),
     subst (λ (p : tokens.Parks). IfSome hand (IsHalfOf p.parker)) (sym same) its,
+  )
+
+  -- a park leaves all but the token of its own parker
+  pub parked : {Token : Type 0} {parker parker' : TableId} (s : Side T (AnyWaker WakingHalf K) P) → Token
+      → parker' ≡ parker
+      → (s.about ≡ s.about) × Token × (parker' ≡ parker)
+      × (WaitsByHalvesOf parker s → WaitsByHalvesOf parker' s) × KeepsTaken s.passed s.passed s.log s.log
+  parked s token same = (
+    refl,
+    token,
+    same,
+    λ owned. subst (λ parker. WaitsByHalvesOf parker s) (sym same) owned,
+    side_keeps s s refl refl,
   )
 
   -- a new receiver has given none

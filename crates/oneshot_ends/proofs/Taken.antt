@@ -237,7 +237,7 @@ module _ {T W P : Type 0} (s : Side T W P) where
   polled_so rests = at_phase rests.stands.phase (polled_either rests.is_one)
 
 -- a closed receiver receives nothing
-pub is_error : {T E : Type 0} {result : Result T E} {e : E} → result ≡ Err e → IsErr result
+is_error : {T E : Type 0} {result : Result T E} {e : E} → result ≡ Err e → IsErr result
 is_error is = ap is_err is
 
 not_error : {T : Type 0} (E : Type 0) (x : T) → IsErr {E = E} (Ok x) → ⊥
@@ -246,14 +246,23 @@ not_error E x e = cc e
 not_ready : {T : Type 0} (x : T) → IsDisconnected (Ready (Ok x)) → ⊥
 not_ready x is = elim is [ ]
 
-module _ {T : Type 0} (log next : List Noted) {before after : Option T} (stays : StaysTaken before after)
-    (was : TookAsFound before log × IsEither (receiver_at log)) (is : TookAsFound after next) where
+-- what a receiver has taken before and after a call
+pub record TakenBy {T : Type 0} (log next : List Noted) (before after : Option T) : Type 0 where
+  pub stays : StaysTaken before after
+  pub was : TookAsFound before log
+  pub either : IsEither (receiver_at log)
+  pub is : TookAsFound after next
+
+module _ {T : Type 0} {log next : List Noted} {before after : Option T} (by : TakenBy log next before after) where
   takes_none : has_found next ≡ (has_found log || false) → after ≡ before
-  takes_none grew = same_taken before after stays (is ∙ grew ∙ or_no (has_found log) ∙ sym was.0)
+  takes_none grew = same_taken before after by.stays (by.is ∙ grew ∙ or_no (has_found log) ∙ sym by.was)
 
   none_before : (IsClosedAt (receiver_at log) → ⊥) → before ≡ None
   none_before not_closed =
-      elim was.1 [ inl is_open ↦ open_took_none before log was.0 is_open | inr closed ↦ absurd (not_closed closed) ]
+      elim by.either [
+        | inl is_open ↦ open_took_none before log by.was is_open
+        | inr closed ↦ absurd (not_closed closed)
+      ]
 
   takes : {E : Type 0} (result : Result T E) → has_found next ≡ (has_found log || is_answer result)
       → (IsClosedAt (receiver_at log) → IsErr result) → IfOk result (λ x. after ≡ Some x) → Takes result before after
@@ -261,10 +270,12 @@ module _ {T : Type 0} (log next : List Noted) {before after : Option T} (stays :
   takes (Err e) grew closed had = takes_none grew
 
   pub tried_takes : (call : ReceiverStart) → begins call ≡ true → (result : Result T TryRecvError)
-      → ReceiverGrew T call log next (try_recv_reply result) → (IsClosedAt (receiver_at log) → IsErr result)
+      → ReceiverGrew T call log next (try_recv_reply result)
+      → (IsClosedAt (receiver_at log) → result ≡ Err E.Disconnected)
       → IfOk result (λ x. after ≡ Some x) → Takes result before after
-  tried_takes call e result grew =
+  tried_takes call e result grew closed =
       takes result (grew_found call e grew ∙ ap (λ b. has_found log || b) (told_tried result))
+      (λ is_closed. is_error (closed is_closed))
 
   pub recv_takes : (call : ReceiverStart) → begins call ≡ true → (result : Result T RecvError)
       → ReceiverGrew T call log next (recv_reply result) → (IsClosedAt (receiver_at log) → IsErr result)
@@ -273,10 +284,12 @@ module _ {T : Type 0} (log next : List Noted) {before after : Option T} (stays :
       takes result (grew_found call e grew ∙ ap (λ b. has_found log || b) (told_recv result))
 
   pub timed_takes : (call : ReceiverStart) → begins call ≡ true → (result : Result T RecvTimeoutError)
-      → ReceiverGrew T call log next (timed_reply result) → (IsClosedAt (receiver_at log) → IsErr result)
+      → ReceiverGrew T call log next (timed_reply result)
+      → (IsClosedAt (receiver_at log) → result ≡ Err Timeouts.Disconnected)
       → IfOk result (λ x. after ≡ Some x) → Takes result before after
-  timed_takes call e result grew =
+  timed_takes call e result grew closed =
       takes result (grew_found call e grew ∙ ap (λ b. has_found log || b) (told_timed result))
+      (λ is_closed. is_error (closed is_closed))
 
   pub poll_takes : (result : Poll (Result T RecvError)) → ReceiverGrew T RC.Poll log next (poll_reply result)
       → (IsClosedAt (receiver_at log) → IsDisconnected result)
@@ -316,6 +329,18 @@ module _ {T W P : Type 0} where
   -- a ground that was lent
   pub lent_found : {own s : Side T W P} → s ≡ own → TookAsFound own.passed own.log → TookAsFound s.passed s.log
   lent_found is so = subst (λ s. TookAsFound s.passed s.log) (sym is) so
+
+  -- a call on the ground of a receiver, its own or lent for the call
+  pub taken_by : {own s : Side T W P} {log : List Noted} {took : Option T} → s ≡ own → own.log ≡ log
+      → own.passed ≡ took → (next : Side T W P) → KeepsTaken s.passed next.passed s.log next.log
+      → TookAsFound own.passed own.log → IsEither (receiver_at own.log) → TakenBy log next.log took next.passed
+  taken_by is logs takes next keeps so either =
+      record {
+        stays = λ x e. keeps.stays x (ap (λ s. s.passed) is ∙ takes ∙ e);
+        was = ap is_some (sym takes) ∙ so ∙ ap has_found logs;
+        either = subst (λ xs. IsEither (receiver_at xs)) logs either;
+        is = keeps.found (lent_found is so);
+      }
 
   -- a new one
   pub new_found : (s now : Side T W P) → now ≡ s → s.log ≡ [] → s.passed ≡ None → TookAsFound now.passed now.log

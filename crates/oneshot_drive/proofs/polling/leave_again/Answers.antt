@@ -44,7 +44,8 @@ ended : (g : given.Over) (c : After-exchange g) (word : ℕ) (f : Found)
           (g.G.ReceiverGround.state c.exchange.new.self).log;
       ends : EndsPoll f (g.G.ReceiverGround.state c.exchange.new.self);
       heard : f ≡ F.Nothing → g.G.TaskGround.heard c.exchange.new.self;
-      own : WritesItsCopy (g.G.ReceiverGround.state c.args.g.now).log (g.G.ReceiverGround.state c.exchange.new.self).log;
+      own : WritesItsCopy (g.G.ReceiverGround.state c.args.g.now).log
+          (g.G.ReceiverGround.state c.exchange.new.self).log;
       keeps : g.G.ReceiverGround.keeps c.args.g.now c.exchange.new.self;
     }
 ended g c word f leads e some ends =

@@ -1,42 +1,34 @@
 -- Proofs of the goals that `try_recv` of `AsyncReceiver` leaves.
-use Rattle.std.proofs.Common.{refl, sym, ◌∙◌, subst}
+use Rattle.std.proofs.Common.{refl, ◌∙◌}
 use Rattle.oneshot_machine.specs.declared.machine.receiver.ReceiverStart.TheVariants.{AsyncTryRecv}
-use Rattle.oneshot_machine.specs.Phases.{receiver_at}
-use Rattle.oneshot_drive.specs.BetweenCalls.{IsClosedAt}
 use Rattle.oneshot_drive.specs.Polls.{LeavesTried}
 use Rattle.oneshot_ends.proofs.CallsAnswered.{one_answered}
 use Rattle.oneshot_ends.proofs.EndViews.{future_steps, future_about, future_took, kept_about}
-use Rattle.oneshot_ends.proofs.GrewByRuns.{words_of, receiver_grew, async_try_recv_few}
+use Rattle.oneshot_ends.proofs.GrewByRuns.{words_of, grew_by, closed_before, at_end, async_try_recv_few}
 use Rattle.oneshot_ends.proofs.PolledEnds.{closed_tried, open_tried, registered_by}
-use Rattle.oneshot_ends.specs.Taken.{TookAsFound}
-use Rattle.oneshot_ends.proofs.Taken.{IsEither, polled_so, is_error, tried_takes}
+use Rattle.oneshot_ends.proofs.Taken.{polled_so, taken_by, tried_takes}
 use Rattle.oneshot_ends.proofs.future.AsyncReceiver.try_recv.Goals as goal
 
 pub invariant_of-self : goal.invariant_of-self
 invariant_of-self g c = (
   c.async_try_recv.ensures.rests,
   one_answered AsyncTryRecv refl c.self.invariant.1
-      (receiver_grew (words_of _ _ c.self.inside.ground.log) (words_of _ _ c.async_try_recv.new.g.log) AsyncTryRecv
-      c.async_try_recv.ensures.run),
+      (grew_by {own = c.self.inside.ground} refl refl c.async_try_recv.new.g AsyncTryRecv c.async_try_recv.ensures.run),
   c.async_try_recv.ensures.keeps.2 c.self.invariant.2,
   c.async_try_recv.ensures.keeps.3.found c.self.invariant.3,
 )
 
 pub returns-clause-run : goal.returns-clause-run
 returns-clause-run g c =
-    receiver_grew (words_of _ _ c.self.inside.ground.log ∙ future_steps c.self.view_is)
-    (words_of _ _ c.async_try_recv.new.g.log) AsyncTryRecv c.async_try_recv.ensures.run
+    grew_by {own = c.self.inside.ground} refl (future_steps c.self.view_is) c.async_try_recv.new.g AsyncTryRecv c.async_try_recv.ensures.run
 
 pub returns-clause-leaves : goal.returns-clause-leaves
 returns-clause-leaves g c =
-    subst (λ xs. LeavesTried c.async_try_recv.result (receiver_at xs)) (words_of _ _ c.async_try_recv.new.g.log)
-    c.async_try_recv.ensures.leaves
+    at_end _ (LeavesTried c.async_try_recv.result) c.async_try_recv.new.g c.async_try_recv.ensures.leaves
 
 pub returns-clause-stays_closed : goal.returns-clause-stays_closed
-returns-clause-stays_closed g c = λ closed.
-    c.async_try_recv.ensures.stays
-    (subst (λ xs. IsClosedAt (receiver_at xs))
-    (future_steps (sym c.self.view_is) ∙ sym (words_of _ _ c.self.inside.ground.log)) closed)
+returns-clause-stays_closed g c closed =
+    c.async_try_recv.ensures.stays (closed_before {own = c.self.inside.ground} _ refl (future_steps c.self.view_is) closed)
 
 pub returns-clause-registered : goal.returns-clause-registered
 returns-clause-registered g c =
@@ -61,8 +53,8 @@ returns-clause-kept g c =
 
 pub returns-clause-took : goal.returns-clause-took
 returns-clause-took g c =
-    tried_takes _ _ (λ x is. c.async_try_recv.ensures.keeps.3.stays x (future_took c.self.view_is ∙ is))
-    (subst (λ e. TookAsFound e.took e.log × IsEither (receiver_at e.log)) c.self.view_is
-    (c.self.invariant.3, polled_so c.self.inside.ground c.self.invariant.0))
-    (c.async_try_recv.ensures.keeps.3.found c.self.invariant.3) AsyncTryRecv refl c.async_try_recv.result
-    (returns-clause-run g c) (λ closed. is_error (returns-clause-stays_closed g c closed)) c.async_try_recv.ensures.had
+    tried_takes
+    (taken_by {own = c.self.inside.ground} refl (future_steps c.self.view_is) (future_took c.self.view_is)
+    c.async_try_recv.new.g c.async_try_recv.ensures.keeps.3 c.self.invariant.3 (polled_so c.self.inside.ground c.self.invariant.0))
+    AsyncTryRecv refl c.async_try_recv.result (returns-clause-run g c)
+    (returns-clause-stays_closed g c) c.async_try_recv.ensures.had

@@ -1,16 +1,13 @@
 -- Proofs of the goals that `poll` of `AsyncReceiver` as a `Future` leaves.
-use Rattle.std.proofs.Common.{[], ◌∷◌, refl, sym, ◌∙◌, subst}
+use Rattle.std.proofs.Common.{[], ◌∷◌, refl, ◌∙◌}
 use Rattle.oneshot_machine.specs.declared.machine.receiver.ReceiverStart.TheVariants as C
-use Rattle.oneshot_machine.specs.Phases.{receiver_at}
-use Rattle.oneshot_drive.specs.BetweenCalls.{IsClosedAt}
 use Rattle.oneshot_drive.specs.Polls.{LeavesPolled}
 use Rattle.oneshot_ends.proofs.CallsAnswered.{one_answered}
 use Rattle.oneshot_ends.proofs.EndViews.{future_steps, future_about, future_took, polled_about, pending_about}
-use Rattle.oneshot_ends.proofs.GrewByRuns.{words_of, receiver_grew, poll_few}
+use Rattle.oneshot_ends.proofs.GrewByRuns.{grew_by, closed_before, at_end, poll_few}
 use Rattle.oneshot_ends.proofs.PolledEnds.{closed_polled, open_polled}
 use Rattle.oneshot_ends.proofs.PollingTokens.{stands_by_tokens, stands_as_told}
-use Rattle.oneshot_ends.specs.Taken.{TookAsFound}
-use Rattle.oneshot_ends.proofs.Taken.{IsEither, polled_so, poll_takes}
+use Rattle.oneshot_ends.proofs.Taken.{polled_so, taken_by, poll_takes}
 use Rattle.oneshot_ends.proofs.future.AsyncReceiverFuture.poll.Goals as goal
 
 pub poll-requires-clause-rests : goal.poll-requires-clause-rests
@@ -20,27 +17,23 @@ pub invariant_of-self : goal.invariant_of-self
 invariant_of-self g c = (
   stands_as_told (_ ∷ _ ∷ _ ∷ []) c.poll.new.g.ground.now c.poll.ensures.rests,
   one_answered C.Poll refl c.self.invariant.1
-      (receiver_grew (words_of _ _ c.self.inside.ground.log) (words_of _ _ c.poll.new.g.ground.now.log) C.Poll
-      c.poll.ensures.run),
+      (grew_by {own = c.self.inside.ground} refl refl c.poll.new.g.ground.now C.Poll c.poll.ensures.run),
   c.poll.ensures.keeps.3 c.self.invariant.2,
   c.poll.ensures.keeps.4.found c.self.invariant.3,
 )
 
 pub returns-clause-run : goal.returns-clause-run
 returns-clause-run g c =
-    receiver_grew (words_of _ _ c.self.inside.ground.log ∙ future_steps c.self.view_is)
-    (words_of _ _ c.poll.new.g.ground.now.log) C.Poll c.poll.ensures.run
+    grew_by {own = c.self.inside.ground} refl (future_steps c.self.view_is) c.poll.new.g.ground.now C.Poll
+    c.poll.ensures.run
 
 pub returns-clause-leaves : goal.returns-clause-leaves
 returns-clause-leaves g c =
-    subst (λ xs. LeavesPolled c.poll.result (receiver_at xs)) (words_of _ _ c.poll.new.g.ground.now.log)
-    c.poll.ensures.leaves
+    at_end _ (LeavesPolled c.poll.result) c.poll.new.g.ground.now c.poll.ensures.leaves
 
 pub returns-clause-stays_closed : goal.returns-clause-stays_closed
 returns-clause-stays_closed g c closed =
-    c.poll.ensures.stays
-    (subst (λ xs. IsClosedAt (receiver_at xs))
-    (future_steps (sym c.self.view_is) ∙ sym (words_of _ _ c.self.inside.ground.log)) closed)
+    c.poll.ensures.stays (closed_before {own = c.self.inside.ground} _ refl (future_steps c.self.view_is) closed)
 
 pub returns-clause-closes : goal.returns-clause-closes
 returns-clause-closes g c = closed_polled c.poll.result (returns-clause-leaves g c)
@@ -64,8 +57,7 @@ returns-clause-same g c =
 
 pub returns-clause-took : goal.returns-clause-took
 returns-clause-took g c =
-    poll_takes _ _ (λ x is. c.poll.ensures.keeps.4.stays x (future_took c.self.view_is ∙ is))
-    (subst (λ e. TookAsFound e.took e.log × IsEither (receiver_at e.log)) c.self.view_is
-    (c.self.invariant.3, polled_so c.self.inside.ground c.self.invariant.0))
-    (c.poll.ensures.keeps.4.found c.self.invariant.3) c.poll.result (returns-clause-run g c)
-    (returns-clause-stays_closed g c) c.poll.ensures.had
+    poll_takes
+    (taken_by {own = c.self.inside.ground} refl (future_steps c.self.view_is) (future_took c.self.view_is)
+    c.poll.new.g.ground.now c.poll.ensures.keeps.4 c.self.invariant.3 (polled_so c.self.inside.ground c.self.invariant.0))
+    c.poll.result (returns-clause-run g c) (returns-clause-stays_closed g c) c.poll.ensures.had

@@ -1,9 +1,7 @@
 -- Proofs of the goals that `recv` of `Receiver` leaves.
-use Rattle.std.proofs.Common.{ap, sym, subst}
-use Rattle.oneshot_machine.specs.Phases.{receiver_at}
-use Rattle.oneshot_drive.specs.BetweenCalls.{IsClosedAt}
+use Rattle.std.proofs.Common.{ap}
 use Rattle.oneshot_ends.proofs.EndViews.{same_steps}
-use Rattle.oneshot_ends.proofs.GrewByRuns.{began_at}
+use Rattle.oneshot_ends.proofs.GrewByRuns.{closed_before}
 use Rattle.oneshot_ends.proofs.OwnWakers.{has_lent}
 use Rattle.oneshot_ends.proofs.receiver.Receiver.recv.Goals as goal
 
@@ -15,5 +13,4 @@ recv-result-requires-clause-has g c =
 pub returns-clause-stays_closed : goal.returns-clause-stays_closed
 returns-clause-stays_closed g c closed =
     c.recv-result.ensures.stays
-    (subst (λ xs. IsClosedAt (receiver_at xs))
-    (sym (began_at (ap (λ r. r.now) c.lend-lent.ensures.ground) (same_steps c.self.view_is))) closed)
+    (closed_before _ (ap (λ r. r.now) c.lend-lent.ensures.ground) (same_steps c.self.view_is) closed)

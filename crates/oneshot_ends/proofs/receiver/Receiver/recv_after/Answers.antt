@@ -1,19 +1,17 @@
 -- Proofs of the goals that `recv_after` of `Receiver` leaves.
 use Rattle.std.proofs.Common.{[], ◌∷◌, refl, sym, ap, ◌∙◌, subst}
-use Rattle.oneshot_machine.specs.Phases.{receiver_at}
 use Rattle.std.specs.Prelude.{◌↔◌, IsTrue}
 use Rattle.oneshot_machine.specs.declared.machine.receiver.ReceiverStart.TheVariants.{RecvTimeout}
-use Rattle.oneshot_drive.specs.BetweenCalls.{IsClosedAt, LeavesTimed}
+use Rattle.oneshot_drive.specs.BetweenCalls.{LeavesTimed}
 use Rattle.oneshot_drive.proofs.ReadyHands.{ready_timed}
 use Rattle.oneshot_ends.specs.Deadlines.{HasEnd}
 use Rattle.oneshot_ends.proofs.CallsAnswered.{one_answered}
-use Rattle.oneshot_ends.proofs.EndViews.{same_steps, same_about, same_took, lent_about, lent_took, kept_about}
-use Rattle.oneshot_ends.proofs.GrewByRuns.{words_of, began_at, receiver_grew}
+use Rattle.oneshot_ends.proofs.EndViews.{same_steps, same_about, same_took, lent_about, kept_about}
+use Rattle.oneshot_ends.proofs.GrewByRuns.{grew_by, closed_before, at_end}
 use Rattle.oneshot_ends.proofs.OwnWakers.{has_lent}
 use Rattle.oneshot_ends.proofs.LentGrounds.{as_lent, given_back, hand_lent}
 use Rattle.oneshot_ends.proofs.TimeoutEnds.{ends_where_held}
-use Rattle.oneshot_ends.specs.Taken.{TookAsFound}
-use Rattle.oneshot_ends.proofs.Taken.{IsEither, rests_so, is_error, lent_found, timed_takes}
+use Rattle.oneshot_ends.proofs.Taken.{rests_so, lent_found, taken_by, timed_takes}
 use Rattle.oneshot_ends.proofs.receiver.Receiver.recv_after.Goals as goal
 
 pub recv_timeout-requires-clause-rests : goal.recv_timeout-requires-clause-rests
@@ -27,8 +25,8 @@ invariant_of-self g c = (
       (hand_lent c.self.inside.hand (ap (λ r. r.now) c.lend-lent.ensures.ground) c.self.invariant.1)
       c.recv_timeout.ensures.stays c.recv_timeout.ensures.leaves c.recv_timeout.ensures.hand,
   one_answered (RecvTimeout c.has_end.result) refl c.self.invariant.2
-      (receiver_grew (began_at (ap (λ r. r.now) c.lend-lent.ensures.ground) refl)
-      (words_of _ _ c.recv_timeout.new.g.ground.now.log) (RecvTimeout c.has_end.result) c.recv_timeout.ensures.run),
+      (grew_by (ap (λ r. r.now) c.lend-lent.ensures.ground) refl c.recv_timeout.new.g.ground.now
+      (RecvTimeout c.has_end.result) c.recv_timeout.ensures.run),
   c.recv_timeout.ensures.has.0,
   c.recv_timeout.ensures.has.1,
   c.recv_timeout.ensures.keeps.4.found (lent_found (ap (λ r. r.now) c.lend-lent.ensures.ground) c.self.invariant.5),
@@ -40,21 +38,18 @@ returns-clause-run g c =
       has_end = c.has_end.result;
       held = subst (λ ends. IsTrue ends ↔ HasEnd c.args.timeout c.args.reading) (sym c.has_end.ensures)
           (ends_where_held c.args.timeout c.args.reading c.after-deadline.result c.after-deadline.ensures);
-      grew = receiver_grew (began_at (ap (λ r. r.now) c.lend-lent.ensures.ground) (same_steps c.self.view_is))
-          (words_of _ _ c.recv_timeout.new.g.ground.now.log) (RecvTimeout c.has_end.result)
-          c.recv_timeout.ensures.run;
+      grew = grew_by (ap (λ r. r.now) c.lend-lent.ensures.ground) (same_steps c.self.view_is)
+          c.recv_timeout.new.g.ground.now (RecvTimeout c.has_end.result) c.recv_timeout.ensures.run;
     }
 
 pub returns-clause-leaves : goal.returns-clause-leaves
 returns-clause-leaves g c =
-    subst (λ xs. LeavesTimed c.recv_timeout.result (receiver_at xs))
-    (words_of _ _ c.recv_timeout.new.g.ground.now.log) c.recv_timeout.ensures.leaves
+    at_end _ (LeavesTimed c.recv_timeout.result) c.recv_timeout.new.g.ground.now c.recv_timeout.ensures.leaves
 
 pub returns-clause-stays_closed : goal.returns-clause-stays_closed
-returns-clause-stays_closed g c = λ closed.
+returns-clause-stays_closed g c closed =
     c.recv_timeout.ensures.stays
-    (subst (λ xs. IsClosedAt (receiver_at xs))
-    (sym (began_at (ap (λ r. r.now) c.lend-lent.ensures.ground) (same_steps c.self.view_is))) closed)
+    (closed_before _ (ap (λ r. r.now) c.lend-lent.ensures.ground) (same_steps c.self.view_is) closed)
 
 pub returns-clause-about : goal.returns-clause-about
 returns-clause-about g c =
@@ -73,11 +68,9 @@ recv_timeout-requires-clause-has g c =
 
 pub returns-clause-took : goal.returns-clause-took
 returns-clause-took g c =
-    timed_takes _ _ (λ x is. c.recv_timeout.ensures.keeps.4.stays x
-    (lent_took (ap (λ r. r.now) c.lend-lent.ensures.ground) (same_took c.self.view_is) ∙ is))
-    (subst (λ e. TookAsFound e.took e.log × IsEither (receiver_at e.log)) c.self.view_is
-    (c.self.invariant.5, rests_so c.self.inside.ground c.self.invariant.0))
-    (c.recv_timeout.ensures.keeps.4.found (lent_found (ap (λ r. r.now) c.lend-lent.ensures.ground) c.self.invariant.5))
-    (RecvTimeout (returns-clause-run g c).has_end) refl
-    c.recv_timeout.result (returns-clause-run g c).grew (λ closed. is_error (returns-clause-stays_closed g c closed))
-    c.recv_timeout.ensures.had
+    timed_takes
+    (taken_by (ap (λ r. r.now) c.lend-lent.ensures.ground) (same_steps c.self.view_is) (same_took c.self.view_is)
+    c.recv_timeout.new.g.ground.now c.recv_timeout.ensures.keeps.4 c.self.invariant.5
+    (rests_so c.self.inside.ground c.self.invariant.0))
+    (RecvTimeout (returns-clause-run g c).has_end) refl c.recv_timeout.result (returns-clause-run g c).grew
+    (returns-clause-stays_closed g c) c.recv_timeout.ensures.had

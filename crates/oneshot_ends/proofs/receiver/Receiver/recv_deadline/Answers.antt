@@ -1,16 +1,14 @@
 -- Proofs of the goals that `recv_deadline` of `Receiver` leaves.
-use Rattle.std.proofs.Common.{[], ◌∷◌, refl, sym, ap, ◌∙◌, subst}
-use Rattle.oneshot_machine.specs.Phases.{receiver_at}
+use Rattle.std.proofs.Common.{[], ◌∷◌, refl, ap, ◌∙◌}
 use Rattle.oneshot_machine.specs.declared.machine.receiver.ReceiverStart.TheVariants.{RecvDeadline}
-use Rattle.oneshot_drive.specs.BetweenCalls.{IsClosedAt, LeavesTimed}
+use Rattle.oneshot_drive.specs.BetweenCalls.{LeavesTimed}
 use Rattle.oneshot_drive.proofs.ReadyHands.{closed_in_time, open_too_late, ready_timed}
 use Rattle.oneshot_ends.proofs.CallsAnswered.{one_answered}
-use Rattle.oneshot_ends.proofs.EndViews.{same_steps, same_about, same_took, lent_about, lent_took, kept_about}
-use Rattle.oneshot_ends.proofs.GrewByRuns.{words_of, began_at, receiver_grew}
+use Rattle.oneshot_ends.proofs.EndViews.{same_steps, same_about, same_took, lent_about, kept_about}
+use Rattle.oneshot_ends.proofs.GrewByRuns.{grew_by, closed_before, at_end}
 use Rattle.oneshot_ends.proofs.OwnWakers.{has_lent}
 use Rattle.oneshot_ends.proofs.LentGrounds.{as_lent, given_back, hand_lent}
-use Rattle.oneshot_ends.specs.Taken.{TookAsFound}
-use Rattle.oneshot_ends.proofs.Taken.{IsEither, rests_so, is_error, lent_found, timed_takes}
+use Rattle.oneshot_ends.proofs.Taken.{rests_so, lent_found, taken_by, timed_takes}
 use Rattle.oneshot_ends.proofs.receiver.Receiver.recv_deadline.Goals as goal
 
 pub recv_deadline-requires-clause-rests : goal.recv_deadline-requires-clause-rests
@@ -24,8 +22,8 @@ invariant_of-self g c = (
       (hand_lent c.self.inside.hand (ap (λ r. r.now) c.lend-lent.ensures.ground) c.self.invariant.1)
       c.recv_deadline.ensures.stays c.recv_deadline.ensures.leaves c.recv_deadline.ensures.hand,
   one_answered RecvDeadline refl c.self.invariant.2
-      (receiver_grew (began_at (ap (λ r. r.now) c.lend-lent.ensures.ground) refl)
-      (words_of _ _ c.recv_deadline.new.g.ground.now.log) RecvDeadline c.recv_deadline.ensures.run),
+      (grew_by (ap (λ r. r.now) c.lend-lent.ensures.ground) refl c.recv_deadline.new.g.ground.now
+      RecvDeadline c.recv_deadline.ensures.run),
   c.recv_deadline.ensures.has.0,
   c.recv_deadline.ensures.has.1,
   c.recv_deadline.ensures.keeps.4.found (lent_found (ap (λ r. r.now) c.lend-lent.ensures.ground) c.self.invariant.5),
@@ -33,19 +31,17 @@ invariant_of-self g c = (
 
 pub returns-clause-run : goal.returns-clause-run
 returns-clause-run g c =
-    receiver_grew (began_at (ap (λ r. r.now) c.lend-lent.ensures.ground) (same_steps c.self.view_is))
-    (words_of _ _ c.recv_deadline.new.g.ground.now.log) RecvDeadline c.recv_deadline.ensures.run
+    grew_by (ap (λ r. r.now) c.lend-lent.ensures.ground) (same_steps c.self.view_is) c.recv_deadline.new.g.ground.now
+    RecvDeadline c.recv_deadline.ensures.run
 
 pub returns-clause-leaves : goal.returns-clause-leaves
 returns-clause-leaves g c =
-    subst (λ xs. LeavesTimed c.recv_deadline.result (receiver_at xs))
-    (words_of _ _ c.recv_deadline.new.g.ground.now.log) c.recv_deadline.ensures.leaves
+    at_end _ (LeavesTimed c.recv_deadline.result) c.recv_deadline.new.g.ground.now c.recv_deadline.ensures.leaves
 
 pub returns-clause-stays_closed : goal.returns-clause-stays_closed
-returns-clause-stays_closed g c = λ closed.
+returns-clause-stays_closed g c closed =
     c.recv_deadline.ensures.stays
-    (subst (λ xs. IsClosedAt (receiver_at xs))
-    (sym (began_at (ap (λ r. r.now) c.lend-lent.ensures.ground) (same_steps c.self.view_is))) closed)
+    (closed_before _ (ap (λ r. r.now) c.lend-lent.ensures.ground) (same_steps c.self.view_is) closed)
 
 pub returns-clause-closes : goal.returns-clause-closes
 returns-clause-closes g c = closed_in_time (returns-clause-leaves g c)
@@ -71,11 +67,9 @@ recv_deadline-requires-clause-has g c =
 
 pub returns-clause-took : goal.returns-clause-took
 returns-clause-took g c =
-    timed_takes _ _ (λ x is. c.recv_deadline.ensures.keeps.4.stays x
-    (lent_took (ap (λ r. r.now) c.lend-lent.ensures.ground) (same_took c.self.view_is) ∙ is))
-    (subst (λ e. TookAsFound e.took e.log × IsEither (receiver_at e.log)) c.self.view_is
-    (c.self.invariant.5, rests_so c.self.inside.ground c.self.invariant.0))
-    (c.recv_deadline.ensures.keeps.4.found (lent_found (ap (λ r. r.now) c.lend-lent.ensures.ground) c.self.invariant.5))
-    RecvDeadline refl
-    c.recv_deadline.result (returns-clause-run g c) (λ closed. is_error (returns-clause-stays_closed g c closed))
-    c.recv_deadline.ensures.had
+    timed_takes
+    (taken_by (ap (λ r. r.now) c.lend-lent.ensures.ground) (same_steps c.self.view_is) (same_took c.self.view_is)
+    c.recv_deadline.new.g.ground.now c.recv_deadline.ensures.keeps.4 c.self.invariant.5
+    (rests_so c.self.inside.ground c.self.invariant.0))
+    RecvDeadline refl c.recv_deadline.result (returns-clause-run g c)
+    (returns-clause-stays_closed g c) c.recv_deadline.ensures.had

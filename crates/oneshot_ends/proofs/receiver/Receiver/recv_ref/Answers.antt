@@ -1,16 +1,14 @@
 -- Proofs of the goals that `recv_ref` of `Receiver` leaves.
-use Rattle.std.proofs.Common.{[], ◌∷◌, refl, sym, ap, ◌∙◌, subst}
-use Rattle.oneshot_machine.specs.Phases.{receiver_at}
+use Rattle.std.proofs.Common.{[], ◌∷◌, refl, ap, ◌∙◌}
 use Rattle.oneshot_machine.specs.declared.machine.receiver.ReceiverStart.TheVariants.{RecvRef}
-use Rattle.oneshot_drive.specs.BetweenCalls.{IsClosedAt, LeavesClosed}
+use Rattle.oneshot_drive.specs.BetweenCalls.{LeavesClosed}
 use Rattle.oneshot_drive.proofs.ReadyHands.{closed_by, ready_closed}
 use Rattle.oneshot_ends.proofs.CallsAnswered.{one_answered}
-use Rattle.oneshot_ends.proofs.EndViews.{same_steps, same_about, same_took, lent_about, lent_took, kept_about}
-use Rattle.oneshot_ends.proofs.GrewByRuns.{words_of, began_at, receiver_grew}
+use Rattle.oneshot_ends.proofs.EndViews.{same_steps, same_about, same_took, lent_about, kept_about}
+use Rattle.oneshot_ends.proofs.GrewByRuns.{grew_by, closed_before, at_end}
 use Rattle.oneshot_ends.proofs.OwnWakers.{has_lent}
 use Rattle.oneshot_ends.proofs.LentGrounds.{as_lent, given_back}
-use Rattle.oneshot_ends.specs.Taken.{TookAsFound}
-use Rattle.oneshot_ends.proofs.Taken.{IsEither, rests_so, lent_found, recv_takes}
+use Rattle.oneshot_ends.proofs.Taken.{rests_so, lent_found, taken_by, recv_takes}
 use Rattle.oneshot_ends.proofs.receiver.Receiver.recv_ref.Goals as goal
 
 pub recv_ref-requires-clause-rests : goal.recv_ref-requires-clause-rests
@@ -20,11 +18,10 @@ recv_ref-requires-clause-rests g c =
 pub invariant_of-self : goal.invariant_of-self
 invariant_of-self g c = (
   given_back (_ ∷ _ ∷ []) c.recv_ref.new.g.ground.now c.recv_ref.ensures.rests,
-  ready_closed c.recv_ref.new.hand
-      c.recv_ref.result _ c.recv_ref.ensures.leaves,
+  ready_closed c.recv_ref.new.hand c.recv_ref.result _ c.recv_ref.ensures.leaves,
   one_answered RecvRef refl c.self.invariant.2
-      (receiver_grew (began_at (ap (λ r. r.now) c.lend-lent.ensures.ground) refl)
-      (words_of _ _ c.recv_ref.new.g.ground.now.log) RecvRef c.recv_ref.ensures.run),
+      (grew_by (ap (λ r. r.now) c.lend-lent.ensures.ground) refl c.recv_ref.new.g.ground.now
+      RecvRef c.recv_ref.ensures.run),
   c.recv_ref.ensures.has.0,
   c.recv_ref.ensures.has.1,
   c.recv_ref.ensures.keeps.4.found (lent_found (ap (λ r. r.now) c.lend-lent.ensures.ground) c.self.invariant.5),
@@ -32,19 +29,17 @@ invariant_of-self g c = (
 
 pub returns-clause-run : goal.returns-clause-run
 returns-clause-run g c =
-    receiver_grew (began_at (ap (λ r. r.now) c.lend-lent.ensures.ground) (same_steps c.self.view_is))
-    (words_of _ _ c.recv_ref.new.g.ground.now.log) RecvRef c.recv_ref.ensures.run
+    grew_by (ap (λ r. r.now) c.lend-lent.ensures.ground) (same_steps c.self.view_is) c.recv_ref.new.g.ground.now
+    RecvRef c.recv_ref.ensures.run
 
 pub returns-clause-leaves : goal.returns-clause-leaves
 returns-clause-leaves g c =
-    subst (λ xs. LeavesClosed c.recv_ref.result (receiver_at xs)) (words_of _ _ c.recv_ref.new.g.ground.now.log)
-    c.recv_ref.ensures.leaves
+    at_end _ (LeavesClosed c.recv_ref.result) c.recv_ref.new.g.ground.now c.recv_ref.ensures.leaves
 
 pub returns-clause-stays_closed : goal.returns-clause-stays_closed
-returns-clause-stays_closed g c = λ closed.
+returns-clause-stays_closed g c closed =
     c.recv_ref.ensures.stays
-    (subst (λ xs. IsClosedAt (receiver_at xs))
-    (sym (began_at (ap (λ r. r.now) c.lend-lent.ensures.ground) (same_steps c.self.view_is))) closed)
+    (closed_before _ (ap (λ r. r.now) c.lend-lent.ensures.ground) (same_steps c.self.view_is) closed)
 
 pub returns-clause-closes : goal.returns-clause-closes
 returns-clause-closes g c = closed_by _ _ (returns-clause-leaves g c)
@@ -66,10 +61,8 @@ recv_ref-requires-clause-has g c =
 
 pub returns-clause-took : goal.returns-clause-took
 returns-clause-took g c =
-    recv_takes _ _ (λ x is. c.recv_ref.ensures.keeps.4.stays x
-    (lent_took (ap (λ r. r.now) c.lend-lent.ensures.ground) (same_took c.self.view_is) ∙ is))
-    (subst (λ e. TookAsFound e.took e.log × IsEither (receiver_at e.log)) c.self.view_is
-    (c.self.invariant.5, rests_so c.self.inside.ground c.self.invariant.0))
-    (c.recv_ref.ensures.keeps.4.found (lent_found (ap (λ r. r.now) c.lend-lent.ensures.ground) c.self.invariant.5))
-    RecvRef refl
-    c.recv_ref.result (returns-clause-run g c) (returns-clause-stays_closed g c) c.recv_ref.ensures.had
+    recv_takes
+    (taken_by (ap (λ r. r.now) c.lend-lent.ensures.ground) (same_steps c.self.view_is) (same_took c.self.view_is)
+    c.recv_ref.new.g.ground.now c.recv_ref.ensures.keeps.4 c.self.invariant.5
+    (rests_so c.self.inside.ground c.self.invariant.0))
+    RecvRef refl c.recv_ref.result (returns-clause-run g c) (returns-clause-stays_closed g c) c.recv_ref.ensures.had

@@ -1,8 +1,5 @@
 -- Proofs of the goals that `swap` of `SharedReceiver` as a `ReceiverGround` leaves.
-use Rattle.std.proofs.Common.{ap, ◌∙◌}
-use Rattle.oneshot_ends.specs.OwnWakers.{IsHalfOf, IsNoThread}
-use Rattle.oneshot_ends.proofs.OwnWakers.{ground_after}
-use Rattle.oneshot_ends.proofs.Taken.{ground_keeps}
+use Rattle.oneshot_ends.proofs.OwnWakers.{operated}
 use Rattle.oneshot_ends.proofs.GroundSlots.{receiver_unfreed, receiver_can, receiver_stays, receiver_found}
 use Rattle.oneshot_ends.proofs.ground.receiver.SharedReceiverWakingHalfWakerReceiverGroundAnyWakerWakingHalfWaker.swap.Goals as goal
 
@@ -20,14 +17,7 @@ returns-clause-finds g c =
     c.swap.new.self c.swap.ensures.finds
 
 pub returns-clause-keeps : goal.returns-clause-keeps
-returns-clause-keeps g c = (
-  c.swap.ensures.about ∙ ap (λ s. s.about) c.self.view_is,
-  λ parker owned. ground_after c.self.inside.freed.value c.self.inside.side c.self.view_is (IsHalfOf parker)
-      c.swap.new.self
-      (receiver_unfreed c.self.inside.freed.value c.self.inside.side c.self.invariant c.self.view_is c.requires).0
-      c.swap.ensures owned,
-  λ free. ground_after c.self.inside.freed.value c.self.inside.side c.self.view_is IsNoThread c.swap.new.self
-      (receiver_unfreed c.self.inside.freed.value c.self.inside.side c.self.invariant c.self.view_is c.requires).0
-      c.swap.ensures free,
-  (ground_keeps c.self.inside.freed.value c.self.inside.side c.self.view_is c.swap.ensures).1,
-)
+returns-clause-keeps g c =
+    operated c.self.inside.freed.value c.self.inside.side c.self.view_is
+    (receiver_unfreed c.self.inside.freed.value c.self.inside.side c.self.invariant c.self.view_is c.requires).0
+    c.swap.new.self c.swap.ensures
