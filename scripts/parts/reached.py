@@ -15,7 +15,7 @@ from parts.sources import CRATES, block_end, code_of, functions, sources
 # Left out are the definitions of texts and programs, which tests compare with what is read and written, and those of
 # grounds in memory, which serve tests.
 READ = ["machine", "drive", "word", "ends", "channel", "world", "laws", "law_examples", "replay", "bridge", "values"]
-EXAMPLES = re.compile(r"\w+\.\w*Examples\.|oneshot_law_examples\.|oneshot_word\.Received\.Messages|\w+\.\w*Order\.W")
+EXAMPLES = re.compile(r"\w+\.\w*Examples\.|oneshot_law_examples\.|oneshot_word\.Received\.(?:Messages|Wakers)|\w+\.\w*Order\.W")
 
 # "crate.File", its definitions (also as patterns of the shell), and why no example has to reach them.
 UNREACHED = [

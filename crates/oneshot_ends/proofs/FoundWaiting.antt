@@ -13,15 +13,11 @@ use Rattle.oneshot_machine.specs.Slots.{In}
 use Rattle.oneshot_machine.specs.TableRows.{is_same_seen}
 use Rattle.oneshot_drive.specs.Wakes.{finds_waiting}
 use Rattle.oneshot_word.proofs.Between.{between, sender_told}
-use Rattle.oneshot_word.proofs.Hands.{none_made}
+use Rattle.oneshot_word.proofs.Hands.{none_made, is_put}
 use Rattle.oneshot_word.proofs.Meets.{word_between, Is, is}
 use Rattle.oneshot_word.specs.Rule.{has_made}
 use Rattle.oneshot_ends.specs.OwnWakers.{is_waiting}
-use Rattle.oneshot_ends.proofs.OwnWakers.{is_put, is_out, left_by, all_left, no_and}
-
-if_so : (b c : Bool) → (if b then c else true) ≡ true → b ≡ true → c ≡ true
-if_so true c e so = e
-if_so false c e so = absurd (cc so)
+use Rattle.oneshot_ends.proofs.OwnWakers.{is_out, left_by, all_left, if_so, no_and}
 
 either_so : (b c c' : Bool) → (c ≡ true → c' ≡ true) → (b || c) ≡ true → (b || c') ≡ true
 either_so true c c' on e = refl

@@ -1,27 +1,30 @@
 -- No wakeup is lost: by the rule of the table, which has one waker in the views of both ends, and by the token's rule.
-use Rattle.std.proofs.Common.{◌≡◌, ℕ, Bool, true, false, List, [], ◌∷◌, Option, Some, None, refl, sym, ap, ◌∙◌, subst, inl, inr}
+use Rattle.std.proofs.Common.{◌≡◌, ℕ, zero, suc, Bool, true, false, List, [], ◌∷◌, Option, Some, None, refl, sym, ap, ◌∙◌, subst, inl, inr}
 use mathlib.Core.Option.{some}
+use lib.ListN.{get_elem?}
 use Rattle.atomic_table.specs.Seated.{TableId}
 use Rattle.futures.specs.declared.task.waker.Waker.{Waker}
 use Rattle.std.specs.Prelude.{⊤}
 use Rattle.crossbeam_utils.specs.Token.{IsSamePass}
 use Rattle.oneshot_machine.specs.Noted.{Noted}
 use Rattle.oneshot_machine.specs.Slots.{away}
-use Rattle.oneshot_machine.specs.Phases.{By, sending, sender_at, receiver_at}
+use Rattle.oneshot_machine.specs.Phases.{By, sending, blocked, sender_at, ReceiverAt, receiver_at}
 use Rattle.oneshot_drive.specs.BetweenCalls.{SenderIsOver, over_finished}
+use Rattle.oneshot_drive.specs.Blocking.{Parks, parks_waiting, parks_overdue}
 use Rattle.oneshot_drive.specs.Wakes.{finds_waiting}
 use Rattle.oneshot_word.proofs.RuleReceives.{woken_is_put, both_reach, wakers_that_pass, wakers_that_do_not}
 use Rattle.oneshot_word.specs.declared.any_waker.AnyWaker.{AnyWaker}
 use Rattle.oneshot_word.specs.declared.any_waker.AnyWaker.TheVariants.{Thread, Task, Nobody}
 use Rattle.oneshot_word.specs.Received.{both_views}
-use Rattle.oneshot_word.specs.Rule.{out, Tied, has_made}
+use Rattle.oneshot_word.specs.Rule.{out, bare, has_message, Tied, has_made}
 use Rattle.oneshot_word.specs.Side.{Side}
 use Rattle.oneshot_ends.specs.declared.token.Given.{Given}
 use Rattle.oneshot_ends.specs.declared.token.Half.{Half}
-use Rattle.oneshot_ends.specs.declared.token.Half.TheVariants.{Waking}
+use Rattle.oneshot_ends.specs.declared.token.Half.TheVariants.{Parking, Waking}
 use Rattle.oneshot_ends.specs.declared.token.WakingHalf.{WakingHalf}
-use Rattle.oneshot_ends.specs.NoLostWakeup.{RealWaker, AtOneMoment, IsThereOrTaken, HasGivenTokenOf, EndedSendersGaveTokens, NoSleeperIsForgotten, FuturesWakeNoThread}
-use Rattle.oneshot_ends.specs.OwnExamples.{blocks, UsesThatAre, UsesThatAreNot}
+use Rattle.oneshot_ends.specs.NoLostWakeup.{RealWaker, AtOneMoment, SleepsOn, IsThereOrTaken, HasGivenTokenOf, EndedSendersGaveTokens, NoSleeperIsForgotten, FuturesWakeNoThread}
+use Rattle.oneshot_word.specs.Examples.{waits as blocks}
+use Rattle.oneshot_ends.specs.OwnExamples.{side_with, sender_of_it, UsesThatAre, UsesThatAreNot}
 use Rattle.oneshot_ends.specs.OwnWakers.{IsHalfOf, IsNoThread, is_waiting, Gave, WaitsByHalvesOf}
 use Rattle.oneshot_ends.specs.Woken.{Sending, IsWoken, phase, found_waiting as shown_waiting, HasEnded}
 use Rattle.oneshot_ends.proofs.FoundWaiting.{found_waiting}
@@ -49,6 +52,16 @@ own_given parker (Thread half) sender (Some g) is own woken =
 own_given parker (Task copy) sender given is own woken = absurd own
 own_given parker Nobody sender given is own woken = absurd own
 
+-- a receiver that sleeps waits
+sleeper_waits : {T P : Type 0} {parker : TableId} (s : Side T RealWaker P) → SleepsOn parker s
+    → is_waiting (receiver_at s.log) ≡ true
+sleeper_waits {T} s sleeps =
+    sym (ap (λ xs. is_waiting (receiver_at xs)) (words_of T RealWaker s.log)) ∙ parking_waits sleeps.parks
+  where
+    parking_waits : {timed : Bool} {at : ReceiverAt} → Parks timed at → is_waiting at ≡ true
+    parking_waits (parks_waiting timed w) = refl
+    parking_waits parks_overdue = refl
+
 module _ {T P : Type 0} (keeps : P → T → Type 0) where
   -- at each moment, what the sender took is what the receiver gave
   taken_is_given : (sender : Sending T RealWaker P) (receiver : Side T RealWaker P) {own : RealWaker → Type 0}
@@ -71,9 +84,9 @@ module _ {T P : Type 0} (keeps : P → T → Type 0) where
   pub no_sleeper_is_forgotten : NoSleeperIsForgotten keeps
   no_sleeper_is_forgotten by sender receiver parker moment ended sleeps =
       let found =
-      found_waiting (both_reach moment.allowed refl).1 sleeps.waits (over_made by sender.side.log
+      found_waiting (both_reach moment.allowed refl).1 (sleeper_waits receiver sleeps) (over_made by sender.side.log
       (subst (λ xs. SenderIsOver by (sender_at xs)) (words_of T RealWaker sender.side.log) ended.over)) in
-      senders_gave_tokens by sender receiver parker moment ended found (sleeps.own.gave sleeps.waits)
+      senders_gave_tokens by sender receiver parker moment ended found (sleeps.own.gave (sleeper_waits receiver sleeps))
     where
       over_made : (by : By) (xs : List Noted) → SenderIsOver by (sender_at xs) → has_made xs ≡ true
       over_made by [] over = elim over [ ]
@@ -109,6 +122,29 @@ gives_its_own : {K : Type 0} (s : Side ⊤ (AnyWaker WakingHalf K) ⊤) (half : 
 gives_its_own s half logs slot gave =
     record { slot = λ k e. absurd (let no = sym slot ∙ e in cc no); gave = λ _. (Thread half, gave, refl) }
 
+sleeps_on : (s : Side ⊤ RealWaker ⊤) (half : WakingHalf) → s.log ≡ blocks → s.waker ≡ away
+    → s.handed ≡ Some (Thread half) → SleepsOn half.pass.table_id s
+sleeps_on s half logs slot gave =
+    record {
+      timed = false;
+      parks = subst (λ xs. Parks false (receiver_at xs)) (sym (words_of ⊤ RealWaker s.log ∙ logs))
+          (parks_waiting false blocked);
+      own = gives_its_own s half logs slot gave;
+    }
+
+-- a token that no half gave
+never_there : IsThereOrTaken false (Parking false ∷ Waking false ∷ []) → ⊥
+never_there there =
+    elim there [
+      | inl e ↦ absurd (cc e)
+      | inr taken ↦ at taken.0 taken.1
+    ]
+  where
+    at : (id : ℕ) → get_elem? (Parking false ∷ Waking false ∷ []) id ≡ some (Parking true) → ⊥
+    at zero e = cc e
+    at (suc zero) e = cc e
+    at (suc (suc id)) e = cc e
+
 never_over : (s : Sending ⊤ (AnyWaker WakingHalf ℕ) ⊤) {log : List Noted} → s.side.log ≡ log
     → (SenderIsOver sending (sender_at log) → ⊥) → HasEnded sending s → ⊥
 never_over s logs never ended = never (subst (SenderIsOver sending) (shows_phase s logs) ended.over)
@@ -123,6 +159,8 @@ uses_that_are =
       its_own = λ half. refl;
       waits = refl;
       is_overdue = refl;
+      found_the_sender = refl;
+      stopped_in_time = refl;
       is_new = refl;
       gives_its_own = gives_its_own;
       ended = λ s half given logs took is same.
@@ -137,8 +175,21 @@ uses_that_are =
             homes = out ∷ out ∷ [];
             allowed = (wakers_that_pass WakingHalf Waker (λ about message. ⊤)).was_taken tt k;
           };
-      sleeps = λ s half logs slot gave.
-          record { waits = ap (λ xs. is_waiting (receiver_at xs)) logs; own = gives_its_own s half logs slot gave };
+      sleeps = sleeps_on;
+      gave_its_token = λ half given same. own_given half.pass.table_id (Thread half) (sender_of_it half given)
+          (Some given) refl refl same;
+      token_is_there = inl refl;
+      token_was_taken = inr (0, refl);
+      ended_beside_a_sleeper = λ half given same. (
+        record {
+          about = tt;
+          words = 4 ∷ [];
+          homes = has_message tt ∷ bare ∷ [];
+          allowed = (wakers_that_pass WakingHalf Waker (λ about message. ⊤)).was_used tt tt (Thread half) tt;
+        },
+        record { over = over_finished; woken = λ found. (Thread half, (refl, same)) },
+        sleeps_on (side_with blocks (Thread half)) half refl refl refl,
+      );
     }
 
 pub uses_that_are_not : UsesThatAreNot
@@ -153,6 +204,7 @@ uses_that_are_not =
       of_another = λ parker half other own. other own;
       left_nobody = λ s parker logs gave owned.
           same_put (IsHalfOf parker) (owned.gave (ap (λ xs. is_waiting (receiver_at xs)) logs)) gave;
+      has_anothers = λ s parker half slot other owned. other (owned.slot (Thread half) slot);
       left_a_thread = λ s half logs gave free.
           same_put IsNoThread (free.gave (ap (λ xs. is_waiting (receiver_at xs)) logs)) gave;
       is_fresh = λ s logs ended. never_over s logs (λ over. elim over [ ]) ended;
@@ -162,8 +214,13 @@ uses_that_are_not =
       took_another = λ k other apart moment.
           (wakers_that_do_not WakingHalf Waker (λ about message. ⊤)).took_another k other apart moment.allowed;
       sleeps_unasked = λ s parker logs sleeps.
-          let e : false ≡ true = sym (ap (λ xs. is_waiting (receiver_at xs)) logs) ∙ sleeps.waits in absurd (cc e);
+          let e : false ≡ true = sym (ap (λ xs. is_waiting (receiver_at xs)) logs) ∙ sleeper_waits s sleeps in
+          absurd (cc e);
       sleeps_by_nobody = λ s parker logs gave sleeps.
-          same_put (IsHalfOf parker) (sleeps.own.gave sleeps.waits) gave;
+          same_put (IsHalfOf parker) (sleeps.own.gave (sleeper_waits s sleeps)) gave;
+      gave_anothers_token = λ s parker given is other gave.
+          let same : gave.evidence ≡ given = cc (sym gave.is_it ∙ is) in
+          other (sym (ap (λ (g : Given). g.pass.table_id) same) ∙ gave.of_parker);
+      token_is_to_come = λ there. never_there there;
       gave_no_token = λ s parker none gave. let e = sym none ∙ gave.is_it in absurd (cc e);
     }

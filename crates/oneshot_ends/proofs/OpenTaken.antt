@@ -1,6 +1,6 @@
 -- An open receiver has taken none: once a log has found the message, its phase is past the open ones.
 use Rattle.std.proofs.Common.{◌≡◌, Bool, true, false, List, [], ◌∷◌, Option, Some, None, refl, sym, ap, ◌∙◌, true≢false}
-use Rattle.std.proofs.lemmas.Bool.{and_parts}
+use Rattle.std.proofs.lemmas.Bool.{and_parts, or_right}
 use Rattle.std.specs.Prelude.{◌&&◌, ◌||◌, if◌then◌else◌}
 use Rattle.std.specs.List.{list_all}
 use Rattle.oneshot_machine.specs.declared.machine.Seen.{Seen}
@@ -11,7 +11,7 @@ use Rattle.oneshot_machine.specs.Phases.{Row, looked, blocked, storing, at_once,
 use Rattle.oneshot_machine.specs.TableRows.{is_same_seen}
 use Rattle.oneshot_drive.specs.BetweenCalls.{is_open_at}
 use Rattle.oneshot_ends.specs.Taken.{has_found, TookAsFound}
-use Rattle.oneshot_machine.proofs.RunsByRows.{seens_are_same}
+use Rattle.oneshot_machine.proofs.RunsByRows.{seens_are_same, next_passes}
 
 -- the phases of a receiver that may have found the message
 abbrev past : ReceiverAt → Bool
@@ -24,7 +24,7 @@ past overdue = false
 past _ = true
 
 abbrev leads_past : Row ReceiverAt → Bool
-leads_past (made, before, word, next, after) = past next
+leads_past row = past row.3
 
 past_rows : (at : ReceiverAt) → past at ≡ true → list_all leads_past (receiver_moves at) ≡ true
 past_rows (full at_once) e = refl
@@ -53,18 +53,6 @@ found_rows (disconnected found_closed) = refl
 found_rows (resolved found_closed) = refl
 found_rows _ = refl
 
-row_next : (op : Op) (seen : Seen) (rows : List (Row ReceiverAt)) → list_all leads_past rows ≡ true
-    → past (next_by no_receiver rows op seen) ≡ true
-row_next op seen [] all = refl
-row_next op seen (row ∷ rows) all =
-    let parts = and_parts (leads_past row) (list_all leads_past rows) all in
-    by (is_row_for op seen row) parts.0 (row_next op seen rows parts.1)
-  where
-    by : (b : Bool) → past row.3 ≡ true → past (next_by no_receiver rows op seen) ≡ true
-        → past (if b then row.3 else next_by no_receiver rows op seen) ≡ true
-    by true now there = now
-    by false now there = there
-
 row_found : (op : Op) (rows : List (Row ReceiverAt)) → list_all found_row rows ≡ true
     → past (next_by no_receiver rows op (Word 4)) ≡ true
 row_found op [] all = refl
@@ -84,10 +72,6 @@ found_next at op seen e =
     ap (λ seen. past (receiver_next at op seen)) (seens_are_same seen (Word 4) e)
     ∙ row_found op (receiver_moves at) (found_rows at)
 
-either_way : (d c : Bool) → c ≡ true → (d || c) ≡ true
-either_way true c e = refl
-either_way false c e = e
-
 found_past : (at : ReceiverAt) (log : List Noted) → (past at || has_found log) ≡ true
     → past (phase_from receiver_next at log) ≡ true
 found_past at [] e = by (past at) e
@@ -101,9 +85,9 @@ found_past at (x ∷ xs) e =
     by : (a : Bool) → past at ≡ a → (b : Bool) → is_same_seen x.1 (Word 4) ≡ b → (a || (b || has_found xs)) ≡ true
         → (past (receiver_next at x.0 x.1) || has_found xs) ≡ true
     by true is b sees e =
-        ap (λ d. d || has_found xs) (row_next x.0 x.1 (receiver_moves at) (past_rows at is))
+        ap (λ d. d || has_found xs) (next_passes past no_receiver (receiver_moves at) x.0 x.1 refl (past_rows at is))
     by false is true sees e = ap (λ d. d || has_found xs) (found_next at x.0 x.1 sees)
-    by false is false sees e = either_way (past (receiver_next at x.0 x.1)) (has_found xs) e
+    by false is false sees e = or_right (past (receiver_next at x.0 x.1)) (has_found xs) e
 
 not_past : (at : ReceiverAt) → is_open_at at ≡ true → past at ≡ false
 not_past first e = refl

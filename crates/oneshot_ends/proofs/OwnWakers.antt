@@ -4,6 +4,7 @@ use Rattle.std.proofs.lemmas.Bool.{and_parts}
 use Rattle.std.specs.Prelude.{◌&&◌, ◌||◌, if◌then◌else◌, IfSome}
 use Rattle.std.specs.List.{list_all}
 use Rattle.atomic_table.specs.Seated.{TableId}
+use Rattle.oneshot_word.proofs.Hands.{is_put, is_got}
 use Rattle.oneshot_machine.proofs.GrownLogs.{phase_from-snoc}
 use Rattle.oneshot_machine.proofs.Sameness.{each_passes}
 use Rattle.oneshot_machine.specs.declared.states.Op.{Op}
@@ -23,17 +24,9 @@ use Rattle.oneshot_ends.specs.Tokens as tokens
 use Rattle.oneshot_ends.proofs.GrewByRuns.{words_of}
 use Rattle.oneshot_ends.proofs.Taken.{side_keeps, ground_keeps}
 
-abbrev pub is_put : Share → Share → Bool
-is_put filled none = true
-is_put _ _ = false
-
 abbrev pub is_out : Share → Share → Bool
 is_out none none = true
 is_out _ _ = false
-
-abbrev is_got : Share → Share → Bool
-is_got none filled = true
-is_got _ _ = false
 
 -- a receiver that waits has given a waker by this row, or it waited before and has no share of the slot
 abbrev pub left_by : ReceiverAt → Row ReceiverAt → Bool
@@ -63,6 +56,10 @@ all_got (unclosed storing) = refl
 all_got (disconnected found_closed) = refl
 all_got (resolved found_closed) = refl
 all_got _ = refl
+
+pub if_so : (b c : Bool) → (if b then c else true) ≡ true → b ≡ true → c ≡ true
+if_so true c e so = e
+if_so false c e so = absurd (cc so)
 
 pub no_and : (b : Bool) → (b && false) ≡ true → ⊥
 no_and true e = cc e
@@ -96,10 +93,6 @@ module _ {W : Type 0} (own : W → Type 0) where
   left_on was_left test (gives_thing x) slot left hands = (x, hands, slot x refl)
   left_on was_left test gets_room slot left hands = absurd (no_and was_left test)
   left_on was_left test (gets_thing x) slot left hands = absurd (no_and was_left test)
-
-  if_so : (b c : Bool) → (if b then c else true) ≡ true → b ≡ true → c ≡ true
-  if_so true c e so = e
-  if_so false c e so = absurd (cc so)
 
   turned : {T P : Type 0} (s next : Side T W P) (q : ReceiverAt) {op : Op} {word : ℕ} → receiver_at s.log ≡ q
       → receiver_at next.log ≡ receiver_next q op (saw op word)
@@ -159,10 +152,6 @@ operated freed s is unfreed next did = (
 
 no_slot : {W : Type 0} {w : Held W} {k : W} → IsSlot none w → w ≡ held k → ⊥
 no_slot is_away e = cc e
-
-pub or_so : (a b : Bool) → b ≡ true → (a || b) ≡ true
-or_so true b e = refl
-or_so false b e = e
 
 module _ {T K P : Type 0} where
   -- what a receiver lends to a call

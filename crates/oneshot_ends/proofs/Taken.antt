@@ -1,6 +1,8 @@
 -- What a receiver took, by its log: each run of a call that stays in place finds the message exactly if it returns it.
 use Rattle.std.proofs.Common.{◌≡◌, ◌⊎◌, inl, inr, Bool, true, false, List, [], ◌∷◌, ◌++◌, Option, Some, None, Result, Ok, Err, refl, sym, ap, ◌∙◌, subst}
 use Rattle.std.proofs.lemmas.Bool.{and_parts}
+use Rattle.std.proofs.lemmas.List.Folds.{list_any-append}
+use mathlib.Core.Bool.{or_assoc, or_comm}
 use Rattle.std.specs.Prelude.{ℕ, ◌&&◌, ◌||◌, is_some, is_err, IfOk, IsErr}
 use Rattle.std.specs.List.{list_all}
 use Rattle.futures.specs.declared.task.Poll.{Poll}
@@ -46,19 +48,8 @@ use Rattle.oneshot_ends.proofs.GrewByRuns.{words_of}
 use Rattle.oneshot_ends.proofs.OpenTaken.{open_took_none}
 use Rattle.oneshot_ends.specs.Taken.{StaysTaken, has_found, TookAsFound, KeepsTaken, Takes, TakesReady, WasSent, is_message}
 
-or_no : (b : Bool) → (b || false) ≡ b
-or_no true = refl
-or_no false = refl
-
-or_then : (a b c : Bool) → (a || (b || c)) ≡ ((a || b) || c)
-or_then true b c = refl
-or_then false b c = refl
-
 pub found_both : (xs ys : List Noted) → has_found (xs ++ ys) ≡ (has_found xs || has_found ys)
-found_both [] ys = refl
-found_both (x ∷ xs) ys =
-    ap (λ b. is_same_seen x.1 (Word 4) || b) (found_both xs ys)
-    ∙ or_then (is_same_seen x.1 (Word 4)) (has_found xs) (has_found ys)
+found_both xs ys = list_any-append (λ x. is_same_seen x.1 (Word 4)) xs ys
 
 -- positions at which a call has found the message
 abbrev has_it : ReceiverPos → Bool
@@ -146,9 +137,9 @@ each_row p found seen (Answers r) stands leads =
     (row_passes (row_told p) (receiver_rows p) seen (Answers r) (told_rows p stands.0) leads)
 
 found_from : (found : Bool) (xs : List Noted) → phase_from finds_it found xs ≡ (found || has_found xs)
-found_from found [] = sym (or_no found)
+found_from found [] = sym (or_comm found false)
 found_from found (x ∷ xs) =
-    found_from (found || is_same_seen x.1 (Word 4)) xs ∙ sym (or_then found (is_same_seen x.1 (Word 4)) (has_found xs))
+    found_from (found || is_same_seen x.1 (Word 4)) xs ∙ or_assoc found (is_same_seen x.1 (Word 4)) (has_found xs)
 
 -- a call that leaves the receiver in place, and does not begin with the message
 abbrev pub begins : ReceiverStart → Bool
@@ -255,7 +246,7 @@ pub record TakenBy {T : Type 0} (log next : List Noted) (before after : Option T
 
 module _ {T : Type 0} {log next : List Noted} {before after : Option T} (by : TakenBy log next before after) where
   takes_none : has_found next ≡ (has_found log || false) → after ≡ before
-  takes_none grew = same_taken before after by.stays (by.is ∙ grew ∙ or_no (has_found log) ∙ sym by.was)
+  takes_none grew = same_taken before after by.stays (by.is ∙ grew ∙ or_comm (has_found log) false ∙ sym by.was)
 
   none_before : (IsClosedAt (receiver_at log) → ⊥) → before ≡ None
   none_before not_closed =
@@ -306,7 +297,7 @@ module _ {T W P : Type 0} where
       record {
         stays = did.stays;
         found = λ so. did.takes ∙ ap (λ b. b || is_same_seen (saw op word) (Word 4)) so
-            ∙ ap (λ b. has_found s.log || b) (sym (or_no (is_same_seen (saw op word) (Word 4))))
+            ∙ ap (λ b. has_found s.log || b) (or_comm false (is_same_seen (saw op word) (Word 4)))
             ∙ sym (ap has_found did.list ∙ found_both s.log ((op, saw op word) ∷ []));
       }
 

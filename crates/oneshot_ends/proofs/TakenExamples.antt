@@ -31,5 +31,8 @@ takes_that_are_not =
       returned_untaken = λ took. let e : ◌≡◌ {A = Option ℕ} None (Some 7) = took.1 in cc e;
       returned_again = λ took. let e : ◌≡◌ {A = Option ℕ} (Some 7) None = took.0 in cc e;
       took_in_an_error = λ took. let e : ◌≡◌ {A = Option ℕ} (Some 7) None = took in cc e;
+      ready_untaken = λ took. let e : ◌≡◌ {A = Option ℕ} None (Some 7) = took.1 in cc e;
+      ready_again = λ took. let e : ◌≡◌ {A = Option ℕ} (Some 7) None = took.0 in cc e;
+      ready_in_an_error = λ took. let e : ◌≡◌ {A = Option ℕ} (Some 7) None = took in cc e;
       took_while_pending = λ took. let e : ◌≡◌ {A = Option ℕ} (Some 7) None = took in cc e;
     }

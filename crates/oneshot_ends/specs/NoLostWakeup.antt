@@ -5,7 +5,9 @@ use lib.ListN.{get_elem?}
 use Rattle.atomic_table.specs.Seated.{TableId}
 use Rattle.crossbeam_utils.specs.Token.{parker_view}
 use Rattle.futures.specs.declared.task.waker.Waker.{Waker}
+use Rattle.oneshot_machine.specs.Logs.{receiver_of}
 use Rattle.oneshot_machine.specs.Phases.{By, receiver_at}
+use Rattle.oneshot_drive.specs.Blocking.{Parks}
 use Rattle.oneshot_drive.specs.Wakes.{finds_waiting}
 use Rattle.oneshot_word.specs.declared.any_waker.AnyWaker.{AnyWaker}
 use Rattle.oneshot_word.specs.Received.{both_views}
@@ -16,6 +18,7 @@ use Rattle.oneshot_ends.specs.declared.token.Half.{Half}
 use Rattle.oneshot_ends.specs.declared.token.Half.TheVariants.{Parking}
 use Rattle.oneshot_ends.specs.declared.token.WakingHalf.{WakingHalf}
 use Rattle.oneshot_ends.specs.OwnWakers.{IsHalfOf, IsNoThread, is_waiting, Gave, WaitsByHalvesOf, WaitsByNoThread}
+use Rattle.oneshot_ends.specs.Grounds.{state_of}
 use Rattle.oneshot_ends.specs.Tokens.{TokenIs}
 use Rattle.oneshot_ends.specs.Woken.{Sending, HasEnded}
 
@@ -32,9 +35,10 @@ pub record AtOneMoment {T P : Type 0} (keeps : P → T → Type 0) (sender recei
   pub allowed : Tied keeps about words homes
       (both_views about sender.log sender.passed sender.handed receiver.log receiver.passed receiver.handed)
 
--- A receiver that blocks on this parker, as `park` requires of it.
+-- A receiver that sleeps on this parker: what `park` requires of it, by the log and the wakers of its ground.
 pub record SleepsOn {T P : Type 0} (parker : TableId) (receiver : Side T RealWaker P) : Type 0 where
-  pub waits : is_waiting (receiver_at receiver.log) ≡ true
+  pub timed : Bool
+  pub parks : Parks timed (receiver_of (state_of receiver).log)
   pub own : WaitsByHalvesOf parker receiver
 
 -- in this state of its parker the token is there, or the parking half took it

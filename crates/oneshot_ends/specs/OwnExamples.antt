@@ -1,27 +1,24 @@
 -- Examples and counterexamples of senders that used the waker that they took, and of a receiver's own wakers.
-use Rattle.std.specs.Prelude.{◌≡◌, ◌≢◌, ⊤, ℕ, true, false, List, [], ◌∷◌, Some, None}
+use Rattle.std.specs.Prelude.{◌≡◌, ◌≢◌, ⊤, ℕ, true, false, List, [], ◌∷◌, ◌++◌, Some, None}
 use Rattle.atomic_table.specs.Seated.{TableId}
 use Rattle.crossbeam_utils.specs.Token.{IsSamePass}
 use Rattle.oneshot_machine.specs.declared.machine.Seen.TheVariants.{Word}
-use Rattle.oneshot_machine.specs.declared.states.Op.TheVariants.{Load, Add, Swap, Xor}
+use Rattle.oneshot_machine.specs.declared.states.Op.TheVariants.{Load, Add, Xor}
 use Rattle.oneshot_machine.specs.Noted.{Noted}
 use Rattle.oneshot_machine.specs.Phases.{sending, receiver_at}
-use Rattle.oneshot_machine.specs.Slots.{away}
+use Rattle.oneshot_machine.specs.Slots.{away, held}
 use Rattle.oneshot_word.specs.declared.any_waker.AnyWaker.{AnyWaker}
 use Rattle.oneshot_word.specs.declared.any_waker.AnyWaker.TheVariants.{Thread, Task, Nobody}
-use Rattle.oneshot_word.specs.Examples.{claims}
+use Rattle.oneshot_word.specs.Examples.{waits as blocks, polled, claims, stopped_over, sent_over}
 use Rattle.oneshot_word.specs.SeatExamples.{table}
 use Rattle.oneshot_word.specs.Side.{Side}
 use Rattle.oneshot_ends.specs.declared.token.Given.{Given}
+use Rattle.oneshot_ends.specs.declared.token.Half.TheVariants.{Parking, Waking}
 use Rattle.oneshot_ends.specs.declared.token.WakingHalf.{WakingHalf}
-use Rattle.oneshot_ends.specs.NoLostWakeup.{RealWaker, AtOneMoment, SleepsOn, HasGivenTokenOf}
+use Rattle.oneshot_ends.specs.NoLostWakeup.{RealWaker, AtOneMoment, SleepsOn, IsThereOrTaken, HasGivenTokenOf}
 use Rattle.oneshot_ends.specs.OwnWakers.{IsHalfOf, IsNoThread, WaitsByNoThread, WaitsByHalvesOf, is_waiting}
 use Rattle.oneshot_ends.specs.Tokens.{Parks}
 use Rattle.oneshot_ends.specs.Woken.{Sending, HasWoken, HasEnded}
-
--- a receiver that waits in a call that blocks
-abbrev pub blocks : List Noted
-blocks = (Load, Word 3) ∷ (Swap 0, Word 3) ∷ []
 
 -- a side with this log, which gave or took this waker
 abbrev pub side_with : List Noted → RealWaker → Side ⊤ RealWaker ⊤
@@ -38,9 +35,15 @@ side_with log k =
 
 -- a `send` that found the receiver waiting
 abbrev pub sent_to_it : List Noted
-sent_to_it = (Add, Word 0) ∷ (Swap 4, Word 1) ∷ []
+sent_to_it = sent_over 1
 
--- a sender that woke the thread that it took, one that found nobody waiting, and a parker's own half
+-- the sender that has given its message by it, and used this half
+abbrev pub sender_of_it : WakingHalf → Given → Sending ⊤ RealWaker ⊤
+sender_of_it half given =
+    record { side = record (side_with sent_to_it (Thread half)) { passed = Some tt }; given = Some given }
+
+-- senders that used the wakers that they took, wakers of their own parker, receivers that wait and sleep, and
+-- moments of a channel
 pub record UsesThatAre : Type 0 where
   pub woke_it : (s : Sending ⊤ (AnyWaker WakingHalf ℕ) ⊤) (half : WakingHalf) (given : Given)
       → s.side.handed ≡ Some (Thread half) → s.given ≡ Some given → IsSamePass half.pass given.pass → HasWoken s
@@ -49,8 +52,10 @@ pub record UsesThatAre : Type 0 where
       → IsHalfOf {K = ℕ} p.parker (Thread half)
   pub of_nobody : (k : RealWaker) → k ≡ Nobody → IsNoThread k
   pub its_own : (half : WakingHalf) → IsHalfOf {K = ℕ} half.pass.table_id (Thread half)
-  pub waits : is_waiting (receiver_at ((Load, Word 3) ∷ (Swap 0, Word 3) ∷ [])) ≡ true
-  pub is_overdue : is_waiting (receiver_at ((Load, Word 3) ∷ (Swap 0, Word 3) ∷ (Swap 3, Word 1) ∷ [])) ≡ true
+  pub waits : is_waiting (receiver_at blocks) ≡ true
+  pub is_overdue : is_waiting (receiver_at (stopped_over 1)) ≡ true
+  pub found_the_sender : is_waiting (receiver_at (polled ++ (Load, Word 1) ∷ [])) ≡ true
+  pub stopped_in_time : is_waiting (receiver_at (stopped_over 0)) ≡ false
   pub is_new : is_waiting (receiver_at []) ≡ false
   pub gives_its_own : (s : Side ⊤ (AnyWaker WakingHalf ℕ) ⊤) (half : WakingHalf) → s.log ≡ blocks → s.waker ≡ away
       → s.handed ≡ Some (Thread half) → WaitsByHalvesOf half.pass.table_id s
@@ -62,8 +67,16 @@ pub record UsesThatAre : Type 0 where
       → AtOneMoment {P = ⊤} (λ about message. ⊤) (side_with claims k) (side_with blocks k)
   pub sleeps : (s : Side ⊤ RealWaker ⊤) (half : WakingHalf) → s.log ≡ blocks → s.waker ≡ away
       → s.handed ≡ Some (Thread half) → SleepsOn half.pass.table_id s
+  pub gave_its_token : (half : WakingHalf) (given : Given) → IsSamePass half.pass given.pass
+      → HasGivenTokenOf half.pass.table_id (sender_of_it half given)
+  pub token_is_there : IsThereOrTaken true (Parking false ∷ Waking true ∷ [])
+  pub token_was_taken : IsThereOrTaken false (Parking true ∷ Waking true ∷ [])
+  -- a sender that has ended, and beside it the receiver that sleeps
+  pub ended_beside_a_sleeper : (half : WakingHalf) (given : Given) → IsSamePass half.pass given.pass
+      → AtOneMoment {P = ⊤} (λ about message. ⊤) (sender_of_it half given).side (side_with blocks (Thread half))
+      × HasEnded sending (sender_of_it half given) × SleepsOn half.pass.table_id (side_with blocks (Thread half))
 
--- SENDERS WHOSE LOG IS REAL, each wrong in one thing, and wakers that are not a parker's own
+-- senders and receivers with real logs, each wrong in one thing, and wakers that are not a parker's own
 pub record UsesThatAreNot : Type 0 where
   pub gave_none : (s : Sending ⊤ (AnyWaker WakingHalf ℕ) ⊤) (half : WakingHalf) → s.side.log ≡ sent_to_it
       → s.side.handed ≡ Some (Thread half) → s.given ≡ None → HasWoken s → ⊥
@@ -75,6 +88,8 @@ pub record UsesThatAreNot : Type 0 where
       → IsHalfOf {K = ℕ} parker (Thread half) → ⊥
   pub left_nobody : (s : Side ⊤ (AnyWaker WakingHalf ℕ) ⊤) (parker : TableId) → s.log ≡ blocks
       → s.handed ≡ Some Nobody → WaitsByHalvesOf parker s → ⊥
+  pub has_anothers : (s : Side ⊤ (AnyWaker WakingHalf ℕ) ⊤) (parker : TableId) (half : WakingHalf)
+      → s.waker ≡ held (Thread half) → (half.pass.table_id ≡ parker → ⊥) → WaitsByHalvesOf parker s → ⊥
   pub left_a_thread : (s : Side ⊤ (AnyWaker WakingHalf ℕ) ⊤) (half : WakingHalf) → s.log ≡ blocks
       → s.handed ≡ Some (Thread half) → WaitsByNoThread s → ⊥
   -- a sender that is to be let go, and has performed no operation, woken nobody, or ended by its drop
@@ -88,4 +103,7 @@ pub record UsesThatAreNot : Type 0 where
   pub sleeps_unasked : (s : Side ⊤ RealWaker ⊤) (parker : TableId) → s.log ≡ [] → SleepsOn parker s → ⊥
   pub sleeps_by_nobody : (s : Side ⊤ RealWaker ⊤) (parker : TableId) → s.log ≡ blocks → s.handed ≡ Some Nobody
       → SleepsOn parker s → ⊥
+  pub gave_anothers_token : (s : Sending ⊤ RealWaker ⊤) (parker : TableId) (given : Given) → s.given ≡ Some given
+      → (given.pass.table_id ≡ parker → ⊥) → HasGivenTokenOf parker s → ⊥
+  pub token_is_to_come : IsThereOrTaken false (Parking false ∷ Waking false ∷ []) → ⊥
   pub gave_no_token : (s : Sending ⊤ RealWaker ⊤) (parker : TableId) → s.given ≡ None → HasGivenTokenOf parker s → ⊥

@@ -1,5 +1,6 @@
 -- The message that a receiver took: which one, when, and how its log shows it.
-use Rattle.std.specs.Prelude.{◌≡◌, ℕ, Bool, true, false, ◌||◌, List, [], ◌∷◌, Option, Some, None, is_some, Result, Ok, Err}
+use Rattle.std.specs.Prelude.{◌≡◌, ℕ, Bool, true, false, List, Option, Some, None, is_some, Result, Ok, Err}
+use Rattle.std.specs.List.{list_any}
 use Rattle.futures.specs.declared.task.Poll.{Poll}
 use Rattle.futures.specs.declared.task.Poll.TheVariants.{Ready, Pending}
 use Rattle.oneshot_machine.specs.declared.machine.Reply.{Reply}
@@ -17,8 +18,7 @@ StaysTaken {T} before after = (x : T) → before ≡ Some x → after ≡ Some x
 
 -- whether one of these operations found the message
 abbrev pub has_found : List Noted → Bool
-has_found [] = false
-has_found (x ∷ xs) = is_same_seen x.1 (Word 4) || has_found xs
+has_found = list_any (λ x. is_same_seen x.1 (Word 4))
 
 -- a receiver has taken a message exactly if its log has an operation that found one
 abbrev pub TookAsFound : {T : Type 0} → Option T → List Noted → Type 0
@@ -47,6 +47,7 @@ abbrev pub TakesReady : {T E : Type 0} → Poll (Result T E) → Option T → Op
 TakesReady (Ready answer) before after = Takes answer before after
 TakesReady Pending before after = after ≡ before
 
+-- a reply with the message
 abbrev pub is_message : Reply → Bool
 is_message R.Message = true
 is_message _ = false

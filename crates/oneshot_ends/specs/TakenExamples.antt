@@ -28,4 +28,7 @@ pub record TakesThatAreNot : Type 0 where
   pub returned_untaken : Takes {T = ℕ} {E = ℕ} (Ok 7) None None → ⊥
   pub returned_again : Takes {T = ℕ} {E = ℕ} (Ok 7) (Some 7) (Some 7) → ⊥
   pub took_in_an_error : Takes {T = ℕ} {E = ℕ} (Err 0) None (Some 7) → ⊥
+  pub ready_untaken : TakesReady {T = ℕ} {E = ℕ} (Ready (Ok 7)) None None → ⊥
+  pub ready_again : TakesReady {T = ℕ} {E = ℕ} (Ready (Ok 7)) (Some 7) (Some 7) → ⊥
+  pub ready_in_an_error : TakesReady {T = ℕ} {E = ℕ} (Ready (Err 0)) None (Some 7) → ⊥
   pub took_while_pending : TakesReady {T = ℕ} {E = ℕ} Pending None (Some 7) → ⊥

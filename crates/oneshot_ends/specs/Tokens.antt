@@ -83,8 +83,7 @@ abbrev pub TokensAreGivenOnce : Type 0
 TokensAreGivenOnce =
     (acts : List Act) (is_there : Bool) (halves : List Half) → Life acts is_there halves → IsGivenOnce acts is_there
 
--- A parker has one waking half: in each of its states, those that know what a waking half knows have one number. So the
--- half in a receiver's hand after a `Timeout` is the one that it had before.
+-- A parker has one waking half: in each of its states, those that know what a waking half knows have one number.
 abbrev pub HasOneWakingHalf : Type 0
 HasOneWakingHalf =
     (is_there : Bool) (halves : List Half) → TokenIs is_there halves → (one other : ℕ) (gave given : Bool)

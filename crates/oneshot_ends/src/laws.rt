@@ -163,8 +163,9 @@ pub fn a_token_is_given_once_and_then_taken()
 /// - a receiver that sleeps on a parker has that parker's token there, or has taken it;
 /// - from a future that waits, the sender took no thread's waker.
 ///
-/// What the law requires of the sender (`HasEnded`), its ground requires to be let go; what it requires of a
-/// receiver that sleeps (`SleepsOn`), each `park` requires.
+/// What the law requires of the sender (`HasEnded`), its ground requires to be let go. What it requires of a
+/// receiver that sleeps (`SleepsOn`), each `park` requires. That the table's rule allows what both ends show
+/// (`AtOneMoment`), the shared table guarantees between any two steps.
 pub fn no_wakeup_is_lost<T, P: Promise<T>>()
     ensures tokens { EndedSendersGaveTokens P.keeps }
     ensures sleepers { NoSleeperIsForgotten P.keeps }

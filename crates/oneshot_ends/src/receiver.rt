@@ -1,8 +1,6 @@
 //! The end that receives, and may block until a message comes.
 
 ghost use Rattle.std.specs.Prelude.{◌≡◌, ◌≢◌, Err, IsErr, IfOk, IfSome};
-ghost use Rattle.oneshot_machine.specs.Logs.{receiver_of};
-ghost use Rattle.oneshot_drive.specs.BetweenCalls.{AtRest, IsReady, IsClosedAt, FoundTheEnd};
 ghost use Rattle.std.specs.Time.{instant_nanos, FitsClock};
 ghost use Rattle.oneshot_drive.specs.declared.errors.recv_timeout.RecvTimeoutError.TheVariants as Timed;
 ghost use Rattle.oneshot_drive.specs.declared.errors.try_recv.TryRecvError.TheVariants as Tried;
@@ -11,8 +9,8 @@ ghost use Rattle.oneshot_machine.specs.Counts.{receiver_bound, GrewWithin};
 ghost use Rattle.oneshot_machine.specs.Phases.{receiver_at};
 ghost use Rattle.oneshot_drive.specs.BetweenCalls.{Leaves, LeavesClosed, LeavesTimed, try_recv_reply, recv_reply, timed_reply};
 ghost use Rattle.oneshot_ends.specs.Ends.{ReceiverGrew, TimeoutGrew, TimeoutRan, IsClosed, IsOpen, channel_at};
-ghost use Rattle.oneshot_ends.specs.Grounds.{IsNewReceiver, state_of};
-ghost use Rattle.oneshot_ends.specs.OwnWakers.{IsHalfOf, WaitsByHalvesOf};
+ghost use Rattle.oneshot_ends.specs.Grounds.{IsNewReceiver};
+ghost use Rattle.oneshot_ends.specs.OwnWakers.{IsHalfOf};
 ghost use Rattle.oneshot_ends.specs.Taken.{Takes};
 
 use crate::deadline::{Deadline, Reading, read};

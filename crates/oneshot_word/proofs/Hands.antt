@@ -125,10 +125,16 @@ module _ {W : Type 0} where
   gets_put w' put k from put_so =
       (λ i. gave (from i) w' put) ∙ (λ i. gave (sym from i) away put) ∙ put_so
 
--- Only to a sender that has made no operation does the receiver give a waker: computed for each row.
-abbrev is_put : Share → Share → Bool
+-- whether an end puts what it has into a slot, or gets what is there
+abbrev pub is_put : Share → Share → Bool
 is_put filled none = true
 is_put _ _ = false
+
+abbrev pub is_got : Share → Share → Bool
+is_got none filled = true
+is_got _ _ = false
+
+-- Only to a sender that has made no operation does the receiver give a waker: computed for each row.
 
 abbrev is_fresh : SenderAt → Bool
 is_fresh fresh = true

@@ -2,7 +2,7 @@
 -- and so it is with the waker.
 use Rattle.std.proofs.Common.{◌≡◌, ℕ, List, [], ◌∷◌, Option, Some, refl}
 use mathlib.Core.Option as maybe
-use Rattle.oneshot_word.proofs.Names.{sym, ap, ◌∙◌, subst, Load, Add, Noted, nothing_made, sender_makes, receiver_makes, has_row, head, tail, View, both_views, ReceivedIsSent, MessagesThatPass, MessagesThatDoNot, Home, has_message, lies_out, lies_bare, lies_filled, IsTaken, took_none, took_it, Tied, opened, dealt, runs, view, Swap, Word, Reaches, AnyWaker, Share, Held, away, held, waker_of, with_waker, bare, has_waker, Lies, IsPut, IsClaimed, claimed_none, claimed_it, WokenIsPut, WakersThatPass, WakersThatDoNot}
+use Rattle.oneshot_word.proofs.Names.{sym, ap, ◌∙◌, subst, Load, Add, Noted, has_made, nothing_made, sender_makes, receiver_makes, has_row, head, tail, View, both_views, ReceivedIsSent, MessagesThatPass, MessagesThatDoNot, Home, has_message, lies_out, lies_bare, lies_filled, IsTaken, took_none, took_it, Tied, opened, dealt, runs, view, Swap, Word, Reaches, AnyWaker, Share, Held, away, held, waker_of, with_waker, bare, has_waker, Lies, IsPut, IsClaimed, claimed_none, claimed_it, WokenIsPut, WakersThatPass, WakersThatDoNot}
 use Rattle.oneshot_word.specs.declared.any_waker.AnyWaker.TheVariants as R
 use Rattle.oneshot_word.specs.Examples.{waits}
 use Rattle.oneshot_word.proofs.SlotReads.{reads_back}
@@ -19,6 +19,11 @@ claimed_so : {W : Type 0} {put woke : Option W} {xs : List Noted} {k : W} → Is
     → put ≡ Some k
 claimed_so claimed_none is = absurd (cc)
 claimed_so (claimed_it x same made) is = same ∙ is
+
+unmade : {W : Type 0} {put woke : Option W} {xs : List Noted} {k : W} → IsClaimed put xs woke → xs ≡ []
+    → woke ≡ Some k → ⊥
+unmade claimed_none new is = cc is
+unmade (claimed_it x same made) new is = let e = sym (ap has_made new) ∙ made in cc e
 
 -- the waker at home is the one that was given
 bare_no : {T H K : Type 0} (k : AnyWaker H K) → ◌≡◌ {A = Home T H K} bare (has_waker k) → ⊥
@@ -107,6 +112,17 @@ module _ {T H K P : Type 0} {keeps : P → T → Type 0} {q : P} where
       let alike = pass_alike are in
       sym alike.put_so ∙ claimed_so claimed (alike.woke_so ∙ is)
 
+  -- a sender without an operation has taken none
+  never_claimed : {words : List ℕ} {homes : List (Home T H K)} {views : List (View T H K P)} {ys : List Noted}
+      {given taken : Option T} {put woke : Option (AnyWaker H K)} {k : AnyWaker H K} → Tied keeps q words homes views
+      → views ≡ both_views q [] given woke ys taken put → woke ≡ Some k → ⊥
+  never_claimed opened are is = absurd (cc are)
+  never_claimed dealt are is = absurd (cc are)
+  never_claimed {ys} {given} {taken} {put} {woke} (runs xs' ys' {given = given'} {put = put'} {woke = woke'} order
+      lies lies' same claimed) are is =
+      let senders : ◌≡◌ {A = View T H K P} (view q Sender xs' given' woke') (view q Sender [] given woke) = cc are in
+      unmade claimed (ap (λ (v : View T H K P). v.log) senders) (ap (λ (v : View T H K P). v.handed) senders ∙ is)
+
   rests_put : {words : List ℕ} {homes : List (Home T H K)} {h : Home T H K} {views : List (View T H K P)}
       {xs ys : List Noted} {given taken : Option T} {put woke : Option (AnyWaker H K)} {k : AnyWaker H K}
       → Tied keeps q words homes views
@@ -163,6 +179,10 @@ module _ {T P : Type 0} (H K : Type 0) (keeps : P → T → Type 0) where
         was_taken = λ q k.
             runs _ _ (sender_makes Add begins_to_wait (has_row (tail head))) lies_out lies_out took_none
             (claimed_it k refl refl);
+        was_used = λ q m k kept.
+            runs _ _
+            (sender_makes (Swap 4) (sender_makes Add begins_to_wait (has_row (tail head))) (has_row head))
+            (lies_filled m (kept, refl)) lies_bare took_none (claimed_it k refl refl);
       }
 
   pub wakers_that_do_not : WakersThatDoNot H K keeps
@@ -170,5 +190,6 @@ module _ {T P : Type 0} (H K : Type 0) (keeps : P → T → Type 0) where
       record {
         took_another = λ k other not_it tied. let is = was_put tied refl refl in not_it (cc is);
         took_what_none_gave = λ k tied. let is = was_put tied refl refl in cc is;
+        took_it_unasked = λ k tied. never_claimed tied refl refl;
         another_rests = λ k other not_it tied. let is = rests_put tied refl refl in not_it (cc is);
       }

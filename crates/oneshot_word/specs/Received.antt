@@ -7,7 +7,7 @@ use Rattle.oneshot_machine.specs.Noted.{Noted}
 use Rattle.oneshot_word.specs.declared.any_waker.AnyWaker.{AnyWaker}
 use Rattle.oneshot_word.specs.declared.rule.Role.TheVariants.{Sender, Receiver}
 use Rattle.oneshot_word.specs.declared.rule.View.{View}
-use Rattle.oneshot_word.specs.Examples.{waits, claims}
+use Rattle.oneshot_word.specs.Examples.{waits, claims, sent_over}
 use Rattle.oneshot_word.specs.Rule.{Home, out, bare, has_message, has_waker, Tied}
 use Rattle.oneshot_word.specs.Seats.{view}
 
@@ -62,12 +62,15 @@ module _ {T P : Type 0} (H K : Type 0) (keeps : P → T → Type 0) where
         {put woke : Option (AnyWaker H K)} (m : T)
         → Tied keeps q words (has_message m ∷ k ∷ []) (both_views q xs None woke ys taken put) → ⊥
 
-  -- a waker that lies in the table once the receiver waits, and that the sender took
+  -- a waker that lies in the table once the receiver waits, that the sender took, and that it used to end its `send`
   pub record WakersThatPass : Type 0 where
     pub rests_there : (q : P) (k : AnyWaker H K) → Tied {H = H} {K = K} keeps q (0 ∷ []) (out ∷ has_waker k ∷ [])
         (both_views q [] None None waits None (Some k))
     pub was_taken : (q : P) (k : AnyWaker H K) → Tied {H = H} {K = K} keeps q (1 ∷ []) (out ∷ out ∷ [])
         (both_views q claims None (Some k) waits None (Some k))
+    pub was_used : (q : P) (m : T) (k : AnyWaker H K) → keeps q m
+        → Tied {H = H} {K = K} keeps q (4 ∷ []) (has_message m ∷ bare ∷ [])
+        (both_views q (sent_over 1) (Some m) (Some k) waits None (Some k))
 
   pub record WakersThatDoNot : Type 0 where
     pub took_another : {q : P} {words : List ℕ} {homes : List (Home T H K)} {xs ys : List Noted}
@@ -76,6 +79,9 @@ module _ {T P : Type 0} (H K : Type 0) (keeps : P → T → Type 0) where
     pub took_what_none_gave : {q : P} {words : List ℕ} {homes : List (Home T H K)} {xs ys : List Noted}
         {given taken : Option T} (k : AnyWaker H K)
         → Tied keeps q words homes (both_views q xs given (Some k) ys taken None) → ⊥
+    pub took_it_unasked : {q : P} {words : List ℕ} {homes : List (Home T H K)} {ys : List Noted}
+        {given taken : Option T} {put : Option (AnyWaker H K)} (k : AnyWaker H K)
+        → Tied keeps q words homes (both_views q [] given (Some k) ys taken put) → ⊥
     pub another_rests : {q : P} {words : List ℕ} {h : Home T H K} {xs ys : List Noted} {given taken : Option T}
         {woke : Option (AnyWaker H K)} (k other : AnyWaker H K) → k ≢ other
         → Tied keeps q words (h ∷ has_waker other ∷ []) (both_views q xs given woke ys taken (Some k)) → ⊥

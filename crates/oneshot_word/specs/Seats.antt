@@ -182,7 +182,7 @@ took _ _ taken = taken
 abbrev pub TakesAsFound : {T : Type 0} → Op → ℕ → Option T → Option T → Type 0
 TakesAsFound op word before after = is_some after ≡ (is_some before || is_same_seen (saw op word) (Word 4))
 
--- a sender takes none
+-- of a sender, which takes no message, it states nothing
 abbrev pub TakesNone : {T : Type 0} → Op → ℕ → Option T → Option T → Type 0
 TakesNone op word before after = ⊤
 

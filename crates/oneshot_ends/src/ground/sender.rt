@@ -136,7 +136,6 @@ impl<T: Drop, P: Promise<T>> SharedSender<T, P> {
 impl<T: Drop, P: Promise<T>> SenderGround<T, AnyWaker<WakingHalf, Waker>> for SharedSender<T, P> {
     ghost use Rattle.oneshot_ends.specs.Grounds.{state_of};
     ghost use Rattle.oneshot_ends.specs.Woken.{IsWoken, HasEnded};
-    ghost use Rattle.std.specs.Prelude.{Some};
     ghost use Rattle.std.proofs.Common.{◌∙◌};
 
     ghost state = { λ s. state_of s.side };

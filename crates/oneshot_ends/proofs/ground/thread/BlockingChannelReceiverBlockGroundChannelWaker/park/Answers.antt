@@ -1,7 +1,8 @@
 -- Proofs of the goals that `park` of `Blocking` as a `BlockGround` leaves.
 use Rattle.std.proofs.Common.{ap, ◌∙◌}
 use Rattle.oneshot_ends.specs.Tokens.{Parks}
-use Rattle.oneshot_ends.proofs.OwnWakers.{or_so, parked}
+use Rattle.std.proofs.lemmas.Bool.{or_right}
+use Rattle.oneshot_ends.proofs.OwnWakers.{parked}
 use Rattle.oneshot_ends.proofs.ground.thread.BlockingChannelReceiverBlockGroundChannelWaker.park.Goals as goal
 
 pub returns-then-not-timed-clause-keeps : goal.returns-then-not-timed-clause-keeps
@@ -21,5 +22,5 @@ returns-in-At-clause-keeps g c =
     let takes = c.park_until-in_time.ensures.takes in
     parked c.args.self.now.ground.now
     (λ has slept. ap (λ (p : Parks). p.taken) takes
-    ∙ or_so c.park_until-in_time.result c.args.self.now.parker.now.taken (has slept))
+    ∙ or_right c.park_until-in_time.result c.args.self.now.parker.now.taken (has slept))
     (ap (λ (p : Parks). p.parker) takes)
