@@ -1,6 +1,6 @@
 -- Proofs of the examples of ends, of what a call leaves, of replies and of hands.
 use Rattle.oneshot_drive.proofs.Names.{true, false, refl, closed_itself, found_closed, looked, between, blocked, waits, withdrew, is_late, is_overtaken, rests_new, rests_open, rests_closed, leaves_open, leaves_closed, left_received, left_closed, timed_received, timed_out, timed_closed, as_it_was, sender_took, came_back, returned, taken, sent, EndsThatAre, EndsThatAreNot, CallsThatLeave, CallsThatDoNot, RepliesThatAre, HandsThatAre, HandsThatAreNot, Polled, unpolled, left_copy, kept_copy, found_sender, has_resolved, leaves_resolved, leaves_gone, leaves_waiting, tried_resolved, tried_its_copy, is_disconnected}
-use Rattle.oneshot_drive.specs.BetweenCalls.{leaves_received, over_finished, over_late, over_overtaken, last_finished, last_overtaken, found_message, found_no_sender, left_first}
+use Rattle.oneshot_drive.specs.BetweenCalls.{leaves_received, over_finished, over_late, over_overtaken, last_finished, last_overtaken, found_message, found_unclosed, found_no_sender, left_first, left_last}
 
 pub ends_that_are : EndsThatAre
 ends_that_are =
@@ -28,8 +28,10 @@ ends_that_are =
       last_finished_it = λ _. last_finished;
       last_came_too_late = λ _. last_overtaken;
       received_found_it = found_message;
+      unclosed_found_it = found_unclosed;
       closed_found_it = found_no_sender;
       gone_has_left = left_first;
+      ended_has_left = left_last;
     }
 
 blocked_is_polled : Polled (waits blocked) → ⊥
@@ -63,14 +65,27 @@ ends_that_are_not =
       owing_is_over = λ _ h. elim h [ ];
       dropped_is_sent = λ h. elim h [ ];
       sent_is_dropped = λ h. elim h [ ];
+      late_drop_is_sent = λ h. elim h [ ];
+      late_send_is_dropped = λ h. elim h [ ];
+      overtaken_drop_is_sent = λ h. elim h [ ];
+      overtaken_send_is_dropped = λ h. elim h [ ];
       last_is_hidden = λ _ h. elim h [ ];
+      last_finished_too_late = λ _ h. elim h [ ];
       last_is_of_the_other_call = λ h. elim h [ ];
+      new_and_found_it = λ h. elim h [ ];
       looked_and_found_it = λ _ h. elim h [ ];
       waits_and_found_it = λ _ h. elim h [ ];
+      claimed_and_found_it = λ h. elim h [ ];
+      overdue_and_found_it = λ h. elim h [ ];
+      withdrew_and_found_it = λ h. elim h [ ];
       gone_and_found_it = λ h. elim h [ ];
+      ended_and_found_it = λ h. elim h [ ];
       new_has_left = λ h. elim h [ ];
+      looked_has_left = λ _ h. elim h [ ];
+      waits_has_left = λ _ h. elim h [ ];
       overdue_has_left = λ h. elim h [ ];
       received_has_left = λ _ h. elim h [ ];
+      disconnected_has_left = λ _ h. elim h [ ];
     }
 
 pub calls_that_leave : CallsThatLeave

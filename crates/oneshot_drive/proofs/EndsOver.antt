@@ -1,5 +1,5 @@
 -- After its last call an end is over: by the rows of its last operation.
-use Rattle.oneshot_drive.proofs.Names.{◌≡◌, ℕ, false, List, [], ◌∷◌, refl, sym, ◌∙◌, subst, TakeWaker, Wake, Swap, Add, Xor, Event, Log, Grows, words, sender_of, receiver_of, handed, worded, By, sending, dropping, SenderAt, fresh, owes, late, no_sender, sender_moves, ReceiverAt, first, here, looked, between, waits, claimed, withdrew, full, at_once, by_future, disconnected, receiver_moves, Slots, Held, In, finds, SenderFinds, leads, sender_moved, GroundState, StandsWith, SenderMakes, ReceiverMakes, EndsAt, landings, landings_of, landed, Each, each, sender_apart}
+use Rattle.oneshot_drive.proofs.Names.{◌≡◌, ℕ, false, List, [], ◌∷◌, refl, sym, ◌∙◌, subst, TakeWaker, Wake, Swap, Xor, Event, Log, Grows, words, sender_of, receiver_of, handed, worded, By, sending, dropping, SenderAt, fresh, owes, late, no_sender, sender_moves, ReceiverAt, first, here, looked, between, waits, claimed, withdrew, full, at_once, by_future, disconnected, receiver_moves, Slots, Held, In, finds, SenderFinds, leads, sender_moved, GroundState, StandsWith, SenderMakes, ReceiverMakes, EndsAt, landings, landings_of, landed, Each, each, sender_apart}
 use Rattle.std.proofs.Common.{Bool, true, ◌==◌, not, ◌++◌, ap}
 use Rattle.std.specs.List.{list_all}
 use Rattle.oneshot_machine.specs.declared.machine.Reply.{Reply}
@@ -37,20 +37,12 @@ over_at {by} is over = subst (SenderIsOver by) (sym is) over
 module _ {T W : Type 0} where
   module _ {slots : Slots} {b a : GroundState T W} (n : ℕ) (is : StandsWith sender_of fresh slots b) where
     -- its first operation found no receiver that waits
-    pub added_finished : n ≡ 3 → SenderMakes Add n b a → Grows b.log a.log (worded Add n ∷ [])
-        → sender_of a.log ≡ finished sending
-    added_finished e made grows = (lone (at_word 3 e (sender_lands b Add n is.phase made grows))).stands.phase
-
     pub flipped_over : n ≡ 3 → SenderMakes Xor n b a → Grows b.log a.log (worded Xor n ∷ [])
         → SenderIsOver dropping (sender_of a.log)
     flipped_over e made grows =
         over_at (lone (at_word 3 e (sender_lands b Xor n is.phase made grows))).stands.phase over_finished
 
     -- or one that waits
-    pub added_owes : n ≡ 0 → SenderMakes Add n b a → Grows b.log a.log (worded Add n ∷ [])
-        → sender_of a.log ≡ owes sending
-    added_owes e made grows = (lone (at_word 0 e (sender_lands b Add n is.phase made grows))).stands.phase
-
     pub flipped_owes : n ≡ 0 → SenderMakes Xor n b a → Grows b.log a.log (worded Xor n ∷ [])
         → sender_of a.log ≡ owes dropping
     flipped_owes e made grows = (lone (at_word 0 e (sender_lands b Xor n is.phase made grows))).stands.phase

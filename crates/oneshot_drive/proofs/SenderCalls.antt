@@ -1,5 +1,6 @@
 -- The obligations of each call of the sender to its ground.
-use Rattle.oneshot_drive.proofs.Names.{◌≡◌, ℕ, Bool, true, false, not, [], ◌∷◌, refl, sym, ◌∙◌, subst, ◌==◌, TakeWaker, Wake, Op, Swap, Add, Xor, Log, Grows, sender_of, wrote, handed, worded, By, sending, dropping, SenderAt, fresh, owes, late, no_sender, sender_moves, Share, none, empty, filled, Slots, Held, away, vacant, held, IsSlot, is_away, is_vacant, is_held, Turns, stays_away, stays_vacant, stays_held, gives_room, gives_thing, gets_room, gets_thing, In, finds, SenderMay, SenderFinds, leads, and_then, sender_moved, GroundState, StandsWith, SenderMakes, IsFresh, IsError, IsLate, is_late, is_overtaken, Owes, LastFinds, finds_waiting, finds_overdue, finds_gone, Finishes, IsOvertaken, is_in, is_room, put_in, as_before, turned, message_kept, has_row, landings_of, landed, Each, each, found_so, sender_apart}
+use Rattle.oneshot_drive.proofs.Names.{◌≡◌, ℕ, Bool, true, false, not, [], ◌∷◌, refl, sym, ◌∙◌, subst, ◌==◌, TakeWaker, Wake, Op, Swap, Add, Xor, Log, Grows, sender_of, wrote, handed, worded, By, sending, dropping, SenderAt, fresh, owes, late, no_sender, sender_moves, Share, none, empty, filled, Slots, Held, away, vacant, held, IsSlot, is_away, is_vacant, is_held, Turns, stays_away, stays_vacant, stays_held, gives_room, gives_thing, gets_room, gets_thing, In, finds, SenderMay, SenderFinds, leads, and_then, sender_moved, GroundState, StandsWith, SenderMakes, IsFresh, IsError, IsLate, is_late, is_overtaken, Owes, LastFinds, finds_waiting, finds_overdue, finds_gone, Finishes, IsOvertaken, is_in, is_room, put_in, as_before, turned, has_row, landings_of, landed, Each, each, found_so, sender_apart}
+use Rattle.oneshot_machine.specs.Phases.{finished}
 use Rattle.oneshot_drive.proofs.AfterOperations.{Lone, lone, at_word, not_at, sender_asks, sender_lands, sender_still}
 
 -- whether the operation is the sender's swap
@@ -78,14 +79,18 @@ module _ {T W : Type 0} where
       }
 
   module _ {slots : Slots} {b a : GroundState T W} (n : ℕ) (is : StandsWith sender_of fresh slots b) where
-    -- it found a waiting receiver, or none
+    -- it found the receiver, which has its message then; or a waiting receiver; or none
+    pub added_here : n ≡ 3 → SenderMakes Add n b a → Grows b.log a.log (worded Add n ∷ [])
+        → Lone sender_of n a (3, finished sending, (none, none))
+    added_here e made grows = lone (at_word 3 e (sender_lands b Add n is.phase made grows))
+
+    pub added_waiting : n ≡ 0 → SenderMakes Add n b a → Grows b.log a.log (worded Add n ∷ [])
+        → Lone sender_of n a (0, owes sending, (filled, filled))
+    added_waiting e made grows = lone (at_word 0 e (sender_lands b Add n is.phase made grows))
+
     pub added : ¬ (n ≡ 3) → ¬ (n ≡ 0) → SenderMakes Add n b a → Grows b.log a.log (worded Add n ∷ [])
         → Lone sender_of n a (2, late sending, (filled, empty))
     added not_3 not_0 made grows = lone (not_at 0 not_0 (not_at 3 not_3 (sender_lands b Add n is.phase made grows)))
-
-    -- it found the receiver, and gave its message
-    pub added_given : n ≡ 3 → SenderMakes Add n b a → Grows b.log a.log (worded Add n ∷ []) → a.message ≡ away
-    added_given e made grows = left (lone (at_word 3 e (sender_lands b Add n is.phase made grows))).stands.message
 
     pub flipped : ¬ (n ≡ 3) → ¬ (n ≡ 0) → SenderMakes Xor n b a → Grows b.log a.log (worded Xor n ∷ [])
         → Lone sender_of n a (2, late dropping, (empty, empty))
@@ -104,14 +109,7 @@ module _ {T W : Type 0} where
         }
 
     pub send_owes : n ≡ 0 → SenderMakes Add n b a → Grows b.log a.log (worded Add n ∷ []) → Owes 4 a
-    send_owes e made grows =
-        owed 4 (λ e. cc) (lone (at_word 0 e (sender_lands b Add n is.phase made grows))).stands refl
-
-    -- the message that it wrote is still in its slot
-    pub added_kept : {x : T} → n ≡ 0 → SenderMakes Add n b a → Grows b.log a.log (worded Add n ∷ [])
-        → b.message ≡ held x → a.message ≡ held x
-    added_kept e made grows message =
-        message_kept made message (lone (at_word 0 e (sender_lands b Add n is.phase made grows))).stands.message
+    send_owes e made grows = owed 4 (λ e. cc) (added_waiting e made grows).stands refl
 
     pub drop_owes : n ≡ 0 → SenderMakes Xor n b a → Grows b.log a.log (worded Xor n ∷ []) → Owes 2 a
     drop_owes e made grows =
@@ -125,6 +123,9 @@ module _ {T W : Type 0} where
   pub refused : {by : By} {a : GroundState T W} (x : T) → StandsWith sender_of (late by) (filled, empty) a
       → a.message ≡ held x → IsError (held x) a
   refused x stands message = record { keeps = message; no_waker = is_room stands.waker }
+
+  pub overtaken_error : {b a : GroundState T W} {x : T} → IsOvertaken b a → b.message ≡ held x → IsError (held x) a
+  overtaken_error over message = record { keeps = over.message ∙ message; no_waker = over.waker }
 
   pub is_too_late : {by : By} {slots : Slots} {a : GroundState T W} → StandsWith sender_of (late by) slots a
       → IsLate (sender_of a.log)

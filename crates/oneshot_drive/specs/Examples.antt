@@ -49,8 +49,10 @@ pub record EndsThatAre : Type 0 where
   pub last_finished_it : (by : By) → LastLeaves by true (finished by)
   pub last_came_too_late : (by : By) → LastLeaves by false (overtaken by)
   pub received_found_it : (g : Got) → FoundTheEnd (full g)
+  pub unclosed_found_it : (s : Swapping) → FoundTheEnd (unclosed s)
   pub closed_found_it : (c : Closing) → FoundTheEnd (disconnected c)
   pub gone_has_left : HasLeft gone
+  pub ended_has_left : HasLeft ended
 
 pub record EndsThatAreNot : Type 0 where
   pub disconnected_is_open : (c : Closing) → IsOpenAt (disconnected c) → ⊥
@@ -78,14 +80,27 @@ pub record EndsThatAreNot : Type 0 where
   pub owing_is_over : (by : By) → SenderIsOver by (owes by) → ⊥
   pub dropped_is_sent : SenderIsOver sending (finished dropping) → ⊥
   pub sent_is_dropped : SenderIsOver dropping (finished sending) → ⊥
+  pub late_drop_is_sent : SenderIsOver sending (late dropping) → ⊥
+  pub late_send_is_dropped : SenderIsOver dropping (late sending) → ⊥
+  pub overtaken_drop_is_sent : SenderIsOver sending (overtaken dropping) → ⊥
+  pub overtaken_send_is_dropped : SenderIsOver dropping (overtaken sending) → ⊥
   pub last_is_hidden : (by : By) → LastLeaves by true (overtaken by) → ⊥
+  pub last_finished_too_late : (by : By) → LastLeaves by false (finished by) → ⊥
   pub last_is_of_the_other_call : LastLeaves sending true (finished dropping) → ⊥
+  pub new_and_found_it : FoundTheEnd first → ⊥
   pub looked_and_found_it : (o : Open) → FoundTheEnd (here o) → ⊥
   pub waits_and_found_it : (w : Waiting) → FoundTheEnd (waits w) → ⊥
+  pub claimed_and_found_it : FoundTheEnd claimed → ⊥
+  pub overdue_and_found_it : FoundTheEnd overdue → ⊥
+  pub withdrew_and_found_it : FoundTheEnd withdrew → ⊥
   pub gone_and_found_it : FoundTheEnd gone → ⊥
+  pub ended_and_found_it : FoundTheEnd ended → ⊥
   pub new_has_left : HasLeft first → ⊥
+  pub looked_has_left : (o : Open) → HasLeft (here o) → ⊥
+  pub waits_has_left : (w : Waiting) → HasLeft (waits w) → ⊥
   pub overdue_has_left : HasLeft overdue → ⊥
   pub received_has_left : (g : Got) → HasLeft (full g) → ⊥
+  pub disconnected_has_left : (c : Closing) → HasLeft (disconnected c) → ⊥
 
 -- WHAT A CALL LEAVES
 pub record CallsThatLeave : Type 0 where

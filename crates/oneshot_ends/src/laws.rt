@@ -70,7 +70,7 @@ pub fn one_channel_of_a_future_is_about_one_value<T, Rt, P: Promise<T>>(
     let _ground = &future.ground;
 }
 
-/// A receiver has taken a message exactly if an operation of its log found one. It has taken at most one.
+/// A receiver has taken a message exactly if an operation of its log found one.
 pub fn a_receiver_took_what_it_found<T, Rt, P: Promise<T>>(receiver: &Receiver<T, Rt, P>)
     ensures { TookAsFound receiver.now.took receiver.now.log }
 {

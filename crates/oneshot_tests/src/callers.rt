@@ -4,6 +4,7 @@ mod awaited;
 mod bare;
 mod glanced;
 mod inbox;
+mod paired;
 mod promised;
 mod results;
 mod taken;

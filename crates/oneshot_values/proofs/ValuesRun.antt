@@ -112,7 +112,6 @@ receiver_runs T form took ys calls (xs, word, order) so =
       order = order;
       calls = calls;
       runs = λ message calls was. calls_run T Waking message form calls xs ys word order was;
-      takes = λ message took calls was. calls_run T Waking message form calls xs ys word order was;
       gets = λ calls was.
           gets_so took (message_replies calls) (λ m. one_call_gets T Waking m form calls xs ys word order was)
           (so ∙ shows was);

@@ -11,9 +11,9 @@ use std::test::Fail;
 use std::thread::join;
 use std::time::Clock;
 
-/// Blocks until the message is there or will never come. Its contract states why it does not sleep on: once the
-/// sender has ended, a receiver that sleeps has the token of its own parker there, or has taken it, and no token is
-/// given twice.
+/// Blocks until the message is there or will never come. Its contract adds two laws of all channels with this
+/// promise, by which it does not sleep on: once the sender has ended, a receiver that sleeps has the token of its
+/// own parker there, or has taken it; and no token is given twice.
 fn wait<T: Drop, Rt: Wait + Clock + Drop, P: Promise<T>>(
     receiver: Receiver<T, Rt, P>,
 ) -> Result<T, RecvError>

@@ -1,27 +1,31 @@
 -- Proofs of the goals that `receive` leaves.
-use Rattle.oneshot_drive.proofs.Names.{rules, refl, sym, ◌∙◌, Store, closed_itself, by_ref, is_in}
+use Rattle.oneshot_drive.proofs.Names.{rules, refl, sym, ◌∙◌, Store, receiver_of, disconnected, closed_itself, filled, empty, StandsWith, by_ref, is_in}
 use Rattle.oneshot_drive.proofs.AfterOperations.{asks, took_message}
 use Rattle.oneshot_drive.proofs.RestLoads.{rests_over}
 use Rattle.oneshot_drive.proofs.Receives.{full_asks, ended_full, full_ran, full_leaves, shut, shut_ran, over_leaves, out_rests, out_leaves, hands, out_hands}
 use Rattle.oneshot_drive.proofs.Stretches.{whole}
+use Rattle.oneshot_drive.proofs.blocking.receive.Given as given
 use Rattle.oneshot_drive.proofs.blocking.receive.Goals as goal
+use Rattle.oneshot_drive.proofs.blocking.receive.Goals.{After-store}
 
 pub store-requires : goal.store-requires
 store-requires g c = (let ends = rw c.in-Message.is at c.find.ensures.ends in full_asks ends.2)
 
+-- it found the message, and closed the channel
+closed : (g : given.Over) (c : After-store g)
+    → StandsWith receiver_of (disconnected closed_itself) (filled, empty) (g.G.ReceiverGround.state c.store.new.self)
+closed g c =
+    ended_full c.store.result (rw c.in-Message.is at c.find.ensures.ends) c.store.ensures.finds c.store.ensures.log
+
 pub take_message-requires : goal.take_message-requires
-take_message-requires g c =
-    is_in (ended_full c.store.result (rw c.in-Message.is at c.find.ensures.ends) c.store.ensures.finds
-    c.store.ensures.log).message
+take_message-requires g c = is_in (closed g (goal.at.take_message-requires g c).After-store).message
 
 pub returns-in-Message : goal.returns-in-Message
 returns-in-Message g c =
     let on = g.G.ReceiverGround.keeps_on in
     let gives = g.G.ReceiverGround.gives_on in
-    let over =
-    took_message
-    (ended_full c.store.result (rw c.in-Message.is at c.find.ensures.ends) c.store.ensures.finds c.store.ensures.log)
-    c.take_message.ensures.log c.take_message.ensures.message c.take_message.ensures.waker in
+    let over = took_message (closed g (goal.at.returns-in-Message g c).After-store) c.take_message.ensures.log
+    c.take_message.ensures.message c.take_message.ensures.waker in
     record {
       run = full_ran c.store.result c.take_message.result
           (rw c.in-Message.is at (c.find.ensures.path (by_ref c.args.timed))) c.store.ensures.log

@@ -22,6 +22,7 @@ returns-in-Message g c =
     c.take_message.ensures.log c.take_message.ensures.message c.take_message.ensures.waker in
     let run = poll_ran c.store.result c.take_message.result (rw c.in-Message.is at c.meet.ensures.path)
     c.store.ensures.log c.take_message.ensures.log in
+    let kept = g.G.ReceiverGround.keeps_on _ _ _ c.meet.ensures.keeps c.store.ensures.keeps in
     record {
       run = run;
       rests = taken_rests ends.0 over;
@@ -31,11 +32,9 @@ returns-in-Message g c =
       own_copy = then_took c.take_message.result
           (then_word _ c.store.result c.meet.ensures.own c.store.ensures.log) c.take_message.ensures.log;
       heard = search rules;
-      given = g.G.ReceiverGround.gives_on _ _ _ c.meet.ensures.keeps
-          (g.G.ReceiverGround.gives_on _ _ _ c.store.ensures.keeps c.take_message.ensures.given);
+      given = g.G.ReceiverGround.gives_on _ _ _ kept c.take_message.ensures.given;
       had = c.take_message.ensures.had;
-      keeps = g.G.ReceiverGround.keeps_on _ _ _ c.meet.ensures.keeps
-          (g.G.ReceiverGround.keeps_on _ _ _ c.store.ensures.keeps c.take_message.ensures.keeps);
+      keeps = g.G.ReceiverGround.keeps_on _ _ _ kept c.take_message.ensures.keeps;
     }
 
 pub returns-in-Nothing : goal.returns-in-Nothing

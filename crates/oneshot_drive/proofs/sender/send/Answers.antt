@@ -1,84 +1,89 @@
 -- Proofs of the goals that `send` leaves.
-use Rattle.oneshot_drive.proofs.Names.{rules, refl, ◌∙◌, Add, message_kept, send_few}
+use Rattle.oneshot_drive.proofs.Names.{[], ◌∷◌, rules, refl, Send, Add, sender_of, sending, fresh, none, filled, Reply, StandsWith, SenderWoke, message_kept, send_few}
+use Rattle.oneshot_drive.specs.BetweenCalls.{SenderIsOver, over_finished}
 use Rattle.oneshot_drive.proofs.AfterOperations.{sender_asks}
-use Rattle.oneshot_drive.proofs.SenderCalls.{written, send_owes, added_kept, added, added_given, refused, is_too_late}
+use Rattle.oneshot_drive.proofs.SenderCalls.{left, written, send_owes, added_here, added_waiting, added, refused, overtaken_error, is_too_late}
 use Rattle.oneshot_drive.proofs.SenderRuns.{send_ran, send_refused, send_woke}
-use Rattle.oneshot_machine.specs.Phases.{sending}
-use Rattle.oneshot_drive.specs.BetweenCalls.{over_finished}
-use Rattle.oneshot_drive.proofs.EndsOver.{over_at, added_finished, added_owes, last_is_over, last_found, late_over, woken_by}
+use Rattle.oneshot_drive.proofs.EndsOver.{over_at, last_is_over, last_found, late_over, woken_by}
+use Rattle.oneshot_drive.proofs.sender.send.Given as given
 use Rattle.oneshot_drive.proofs.sender.send.Goals as goal
+use Rattle.oneshot_drive.proofs.sender.send.Goals.{After-write_message, After-add}
+
+-- the message is in its slot before the addition
+written_first : (g : given.Over) (c : After-write_message g)
+    → StandsWith sender_of fresh (filled, none) (g.G.SenderGround.state c.write_message.new.self)
+written_first g c =
+    written c.args.message c.requires.fresh c.write_message.ensures.log c.write_message.ensures.message
+    c.write_message.ensures.waker
+
+-- the write and the addition keep what the ground has beside the channel
+keeps_both : (g : given.Over) (c : After-add g) → g.G.SenderGround.keeps c.args.g.now c.add.new.self
+keeps_both g c = g.G.SenderGround.keeps_on _ _ _ c.write_message.ensures.keeps c.add.ensures.keeps
+
+-- a call that is over, and has woken the receiver that it found waiting, may let its end go
+let_go : (g : given.Over) (c : After-add g) {a : g.row.G.Denot} {reply : Reply}
+    → SenderIsOver sending (sender_of (g.G.SenderGround.state a).log)
+    → SenderWoke (g.G.SenderGround.woken a) Send (g.G.SenderGround.state c.args.g.now).log
+    (g.G.SenderGround.state a).log reply (c.args.message ∷ []) [] → g.G.SenderGround.ended sending a
+let_go g c over did = g.G.SenderGround.ended_by sending _ over (woken_by c.requires.fresh.phase did)
 
 pub add-requires : goal.add-requires
-add-requires g c =
-    sender_asks Add (written c.args.message c.requires.fresh c.write_message.ensures.log
-    c.write_message.ensures.message c.write_message.ensures.waker) refl
+add-requires g c = sender_asks Add (written_first g (goal.at.add-requires g c).After-write_message) refl
 
 pub finish-requires : goal.finish-requires
 finish-requires g c =
-    send_owes c.add.result (written c.args.message c.requires.fresh c.write_message.ensures.log
-    c.write_message.ensures.message c.write_message.ensures.waker) c.in-0.is c.add.ensures.finds
-    c.add.ensures.log
+    send_owes c.add.result (written_first g (goal.at.finish-requires g c).After-write_message) c.in-0.is
+    c.add.ensures.finds c.add.ensures.log
 
 pub returns-in-3 : goal.returns-in-3
 returns-in-3 g c =
-    let fresh =
-    written c.args.message c.requires.fresh c.write_message.ensures.log c.write_message.ensures.message
-    c.write_message.ensures.waker in
-    let did =
-    send_ran (g.G.SenderGround.woken c.add.new.self) c.add.result c.in-3.is c.write_message.ensures.log
+    let c' = goal.at.returns-in-3 g c in
+    let fresh = written_first g c'.After-write_message in
+    let here = added_here c.add.result fresh c.in-3.is c.add.ensures.finds c.add.ensures.log in
+    let over = over_at here.stands.phase over_finished in
+    let did = send_ran (g.G.SenderGround.woken c.add.new.self) c.add.result c.in-3.is c.write_message.ensures.log
     c.add.ensures.log in
-    let sent = added_finished c.add.result fresh c.in-3.is c.add.ensures.finds c.add.ensures.log in
     record {
       run = did.ran;
       woke = did;
       refused = search rules;
       late = search rules;
-      over = over_at sent over_finished;
-      sent = λ _. sent;
-      ended = g.G.SenderGround.ended_by sending c.add.new.self (over_at sent over_finished)
-          (woken_by c.requires.fresh.phase did);
+      over = over;
+      sent = λ _. here.stands.phase;
+      ended = let_go g c'.After-add over did;
       bounded = send_few did.ran;
-      gave = λ sent. c.add.ensures.gave c.args.message c.write_message.ensures.message
-          (added_given c.add.result fresh c.in-3.is c.add.ensures.finds c.add.ensures.log);
-      keeps = g.G.SenderGround.keeps_on _ _ _ c.write_message.ensures.keeps c.add.ensures.keeps;
+      gave = λ sent. c.add.ensures.gave c.args.message c.write_message.ensures.message (left here.stands.message);
+      keeps = keeps_both g c'.After-add;
     }
 
 pub returns-in-0 : goal.returns-in-0
 returns-in-0 g c =
-    let fresh =
-    written c.args.message c.requires.fresh c.write_message.ensures.log c.write_message.ensures.message
-    c.write_message.ensures.waker in
-    let kept =
-    added_kept c.add.result fresh c.in-0.is c.add.ensures.finds c.add.ensures.log c.write_message.ensures.message in
-    let did =
-    send_woke _ c.add.result c.finish.result c.in-0.is c.write_message.ensures.log c.add.ensures.log
+    let c' = goal.at.returns-in-0 g c in
+    let fresh = written_first g c'.After-write_message in
+    let waits = added_waiting c.add.result fresh c.in-0.is c.add.ensures.finds c.add.ensures.log in
+    let kept = message_kept c.add.ensures.finds c.write_message.ensures.message waits.stands.message in
+    let last = c.finish.ensures.over sending waits.stands.phase in
+    let did = send_woke _ c.add.result c.finish.result c.in-0.is c.write_message.ensures.log c.add.ensures.log
     c.finish.ensures.finishes in
-    let last =
-    c.finish.ensures.over sending (added_owes c.add.result fresh c.in-0.is c.add.ensures.finds c.add.ensures.log) in
     record {
       run = did.ran;
       woke = did;
-      refused = λ gone.
-          let over = c.finish.ensures.gone gone in record { keeps = over.message ∙ kept; no_waker = over.waker };
+      refused = λ gone. overtaken_error (c.finish.ensures.gone gone) kept;
       late = λ gone. (c.finish.ensures.gone gone).late;
       over = last_is_over last;
       sent = last_found last;
-      ended = g.G.SenderGround.ended_by sending c.finish.new.g (last_is_over last)
-          (woken_by c.requires.fresh.phase did);
+      ended = let_go g c'.After-add (last_is_over last) did;
       bounded = send_few did.ran;
       gave = λ sent. c.finish.ensures.gave sent c.args.message kept;
-      keeps = g.G.SenderGround.keeps_on _ _ _ c.write_message.ensures.keeps
-          (g.G.SenderGround.keeps_on _ _ _ c.add.ensures.keeps c.finish.ensures.keeps);
+      keeps = g.G.SenderGround.keeps_on _ _ _ (keeps_both g c'.After-add) c.finish.ensures.keeps;
     }
 
 pub returns-in_default : goal.returns-in_default
 returns-in_default g c =
-    let fresh =
-    written c.args.message c.requires.fresh c.write_message.ensures.log c.write_message.ensures.message
-    c.write_message.ensures.waker in
+    let c' = goal.at.returns-in_default g c in
+    let fresh = written_first g c'.After-write_message in
     let gone = added c.add.result fresh (search rules) (search rules) c.add.ensures.finds c.add.ensures.log in
-    let did =
-    send_refused (g.G.SenderGround.woken c.add.new.self) c.add.result gone.word c.write_message.ensures.log
+    let did = send_refused (g.G.SenderGround.woken c.add.new.self) c.add.result gone.word c.write_message.ensures.log
     c.add.ensures.log in
     record {
       run = did.ran;
@@ -88,9 +93,8 @@ returns-in_default g c =
       late = λ _. is_too_late gone.stands;
       over = late_over gone.stands;
       sent = search rules;
-      ended = g.G.SenderGround.ended_by sending c.add.new.self (late_over gone.stands)
-          (woken_by c.requires.fresh.phase did);
+      ended = let_go g c'.After-add (late_over gone.stands) did;
       bounded = send_few did.ran;
       gave = search rules;
-      keeps = g.G.SenderGround.keeps_on _ _ _ c.write_message.ensures.keeps c.add.ensures.keeps;
+      keeps = keeps_both g c'.After-add;
     }

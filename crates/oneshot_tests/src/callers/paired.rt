@@ -1,0 +1,90 @@
+//! Callers that have both ends of one channel, and callers of a future that know which message it took.
+
+ghost use Rattle.std.specs.Prelude.{◌≡◌, ◌<◌, None, Err, IfSome};
+ghost use Rattle.oneshot_channel.specs.Taken.{WasSent};
+ghost use Rattle.oneshot_channel.specs.TryRecvError.TheVariants as Tried;
+
+use crate::asserts::assert_same;
+use oneshot_channel::laws::{
+    an_unfinished_future_took_none, one_channel_is_about_one_value,
+    one_channel_of_a_future_is_about_one_value, what_a_future_took_was_sent,
+};
+use oneshot_channel::{
+    AsyncReceiver, Promise, Receiver, Sender, TryRecvError, async_channel, async_channel_for,
+    channel_for,
+};
+use std::test::Fail;
+
+/// Promises an index below this length.
+#[derive(Drop)]
+struct Below(usize);
+
+impl Promise<usize> for Below {
+    ghost keeps = { λ below index. index < below.0 };
+}
+
+/// Drops the sender, and returns the index if it is there: it is below the length that the sender's channel is about.
+fn left_by<Rt: Drop>(
+    sender: Sender<usize, Below>,
+    receiver: &mut Receiver<usize, Rt, Below>,
+) -> Option<usize>
+    requires one { sender.channel ≡ receiver.old.channel }
+    ensures below { IfSome result (λ index. index < sender.about.0) }
+{
+    one_channel_is_about_one_value(&sender, receiver);
+    drop(sender);
+    receiver.try_recv().ok()
+}
+
+/// The same of a future.
+fn left_to_a_future<Rt: Drop>(
+    sender: Sender<usize, Below>,
+    future: &mut AsyncReceiver<usize, Rt, Below>,
+) -> Option<usize>
+    requires one { sender.channel ≡ future.old.channel }
+    ensures below { IfSome result (λ index. index < sender.about.0) }
+{
+    one_channel_of_a_future_is_about_one_value(&sender, future);
+    drop(sender);
+    future.try_recv().ok()
+}
+
+/// Receives if the message is there, which the sender gave. After `Empty` the future has taken none.
+fn tried<T: Drop, Rt: Drop, H, K, P: Promise<T>>(
+    future: &mut AsyncReceiver<T, Rt, P>,
+) -> Result<T, TryRecvError>
+    ensures sent { WasSent H K P.keeps future.new.log future.new.took }
+    ensures none { result ≡ Err Tried.Empty → future.new.took ≡ None }
+{
+    let result = future.try_recv();
+    what_a_future_took_was_sent::<T, Rt, H, K, P>(future);
+    an_unfinished_future_took_none(future);
+    result
+}
+
+#[test]
+fn both_ends_are_about_one_length(rt: HostRuntime) -> Result<(), Fail> {
+    let (sender, mut receiver) = channel_for((), rt.alloc(), &Below(3))?;
+    assert_same(&rt, left_by(sender, &mut receiver), None);
+    let (sender, mut future) = async_channel_for((), rt.alloc(), &Below(3))?;
+    assert_same(&rt, left_to_a_future(sender, &mut future), None);
+    Ok(())
+}
+
+#[test]
+fn a_future_takes_its_message_once(rt: HostRuntime) -> Result<(), Fail> {
+    let (sender, mut future) = async_channel::<u8, ()>((), rt.alloc())?;
+    assert_same(
+        &rt,
+        tried::<u8, (), (), (), ()>(&mut future),
+        Err(TryRecvError::Empty),
+    );
+    assert_same(&rt, sender.send(7).is_ok(), true);
+    assert_same(&rt, tried::<u8, (), (), (), ()>(&mut future), Ok(7));
+    assert_same(
+        &rt,
+        tried::<u8, (), (), (), ()>(&mut future),
+        Err(TryRecvError::Disconnected),
+    );
+    Ok(())
+}
