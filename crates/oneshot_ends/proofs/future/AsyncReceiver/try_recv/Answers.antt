@@ -20,7 +20,8 @@ invariant_of-self g c = (
 
 pub returns-clause-run : goal.returns-clause-run
 returns-clause-run g c =
-    grew_by {own = c.self.inside.ground} refl (future_steps c.self.view_is) c.async_try_recv.new.g AsyncTryRecv c.async_try_recv.ensures.run
+    grew_by {own = c.self.inside.ground} refl (future_steps c.self.view_is) c.async_try_recv.new.g AsyncTryRecv
+    c.async_try_recv.ensures.run
 
 pub returns-clause-leaves : goal.returns-clause-leaves
 returns-clause-leaves g c =
@@ -28,7 +29,8 @@ returns-clause-leaves g c =
 
 pub returns-clause-stays_closed : goal.returns-clause-stays_closed
 returns-clause-stays_closed g c closed =
-    c.async_try_recv.ensures.stays (closed_before {own = c.self.inside.ground} _ refl (future_steps c.self.view_is) closed)
+    c.async_try_recv.ensures.stays
+    (closed_before {own = c.self.inside.ground} _ refl (future_steps c.self.view_is) closed)
 
 pub returns-clause-registered : goal.returns-clause-registered
 returns-clause-registered g c =
@@ -55,6 +57,7 @@ pub returns-clause-took : goal.returns-clause-took
 returns-clause-took g c =
     tried_takes
     (taken_by {own = c.self.inside.ground} refl (future_steps c.self.view_is) (future_took c.self.view_is)
-    c.async_try_recv.new.g c.async_try_recv.ensures.keeps.3 c.self.invariant.3 (polled_so c.self.inside.ground c.self.invariant.0))
+    c.async_try_recv.new.g c.async_try_recv.ensures.keeps.3
+    c.self.invariant.3 (polled_so c.self.inside.ground c.self.invariant.0))
     AsyncTryRecv refl c.async_try_recv.result (returns-clause-run g c)
     (returns-clause-stays_closed g c) c.async_try_recv.ensures.had

@@ -59,5 +59,6 @@ pub returns-clause-took : goal.returns-clause-took
 returns-clause-took g c =
     poll_takes
     (taken_by {own = c.self.inside.ground} refl (future_steps c.self.view_is) (future_took c.self.view_is)
-    c.poll.new.g.ground.now c.poll.ensures.keeps.4 c.self.invariant.3 (polled_so c.self.inside.ground c.self.invariant.0))
+    c.poll.new.g.ground.now c.poll.ensures.keeps.4
+    c.self.invariant.3 (polled_so c.self.inside.ground c.self.invariant.0))
     c.poll.result (returns-clause-run g c) (returns-clause-stays_closed g c) c.poll.ensures.had

@@ -14,14 +14,17 @@ invariant_of-self g c = (
   c.try_recv.ensures.rests,
   ready_still c.self.inside.hand c.try_recv.result _ _ c.self.invariant.1 c.try_recv.ensures.stays
       c.try_recv.ensures.leaves,
-  one_answered TryRecv refl c.self.invariant.2 (grew_by {own = c.self.inside.ground} refl refl c.try_recv.new.g TryRecv c.try_recv.ensures.run),
+  one_answered TryRecv refl c.self.invariant.2
+      (grew_by {own = c.self.inside.ground} refl refl c.try_recv.new.g TryRecv c.try_recv.ensures.run),
   c.try_recv.ensures.keeps.1 _ c.self.invariant.3,
   c.self.invariant.4,
   c.try_recv.ensures.keeps.3.found c.self.invariant.5,
 )
 
 pub returns-clause-run : goal.returns-clause-run
-returns-clause-run g c = grew_by {own = c.self.inside.ground} refl (same_steps c.self.view_is) c.try_recv.new.g TryRecv c.try_recv.ensures.run
+returns-clause-run g c =
+    grew_by {own = c.self.inside.ground} refl (same_steps c.self.view_is) c.try_recv.new.g TryRecv
+    c.try_recv.ensures.run
 
 pub returns-clause-leaves : goal.returns-clause-leaves
 returns-clause-leaves g c = at_end _ (Leaves c.try_recv.result) c.try_recv.new.g c.try_recv.ensures.leaves
@@ -49,6 +52,6 @@ returns-clause-kept g c =
 pub returns-clause-took : goal.returns-clause-took
 returns-clause-took g c =
     tried_takes
-    (taken_by {own = c.self.inside.ground} refl (same_steps c.self.view_is) (same_took c.self.view_is) c.try_recv.new.g c.try_recv.ensures.keeps.3
-    c.self.invariant.5 (rests_so c.self.inside.ground c.self.invariant.0))
+    (taken_by {own = c.self.inside.ground} refl (same_steps c.self.view_is) (same_took c.self.view_is)
+    c.try_recv.new.g c.try_recv.ensures.keeps.3 c.self.invariant.5 (rests_so c.self.inside.ground c.self.invariant.0))
     TryRecv refl c.try_recv.result (returns-clause-run g c) (returns-clause-stays_closed g c) c.try_recv.ensures.had
