@@ -3,6 +3,8 @@ pub use Rattle.oneshot_ends.specs.Deadlines
 pub use Rattle.oneshot_ends.specs.Ends
 pub use Rattle.oneshot_ends.specs.Taken
 pub use Rattle.oneshot_ends.specs.NoLostWakeup
+pub use Rattle.oneshot_ends.specs.OwnWakers
+pub use Rattle.oneshot_ends.specs.Woken
 pub use Rattle.oneshot_ends.specs.Tokens
 pub use Rattle.oneshot_ends.specs.Grounds as EndGrounds
 pub use Rattle.oneshot_ends.specs.Polling

@@ -20,7 +20,7 @@ use Rattle.oneshot_ends.specs.declared.token.WakingHalf.{WakingHalf}
 use Rattle.oneshot_ends.specs.Grounds.{left_of, state_of, IsNewReceiver}
 use Rattle.oneshot_ends.specs.OwnWakers.{IsHalfOf, is_waiting, Gave, WaitsBy, IsNoThread, WaitsByNoThread, WaitsByHalvesOf}
 use Rattle.oneshot_ends.specs.Taken.{KeepsTaken}
-use Rattle.oneshot_ends.specs.Tokens as tokens
+use Rattle.oneshot_ends.specs.Tokens.{ParkingView}
 use Rattle.oneshot_ends.proofs.GrewByRuns.{words_of}
 use Rattle.oneshot_ends.proofs.Taken.{side_keeps, ground_keeps}
 
@@ -155,13 +155,13 @@ no_slot is_away e = cc e
 
 module _ {T K P : Type 0} where
   -- what a receiver lends to a call
-  pub has_lent : {own s : Side T (AnyWaker WakingHalf K) P} {p q : tokens.Parks} (hand : Option (AnyWaker WakingHalf K))
+  pub has_lent : {own s : Side T (AnyWaker WakingHalf K) P} {p q : ParkingView} (hand : Option (AnyWaker WakingHalf K))
       → s ≡ own → q ≡ p → WaitsByHalvesOf p.parker own → IfSome hand (IsHalfOf p.parker)
       → WaitsByHalvesOf q.parker s × IfSome hand (IsHalfOf q.parker)
   has_lent {own} {s} {p} {q} hand is same owned its = (
     subst (λ s. WaitsByHalvesOf q.parker s) (sym is)
-        (subst (λ (p : tokens.Parks). WaitsByHalvesOf p.parker own) (sym same) owned),
-    subst (λ (p : tokens.Parks). IfSome hand (IsHalfOf p.parker)) (sym same) its,
+        (subst (λ (p : ParkingView). WaitsByHalvesOf p.parker own) (sym same) owned),
+    subst (λ (p : ParkingView). IfSome hand (IsHalfOf p.parker)) (sym same) its,
   )
 
   -- a park leaves all but the token of its own parker

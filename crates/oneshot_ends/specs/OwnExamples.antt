@@ -17,7 +17,7 @@ use Rattle.oneshot_ends.specs.declared.token.Half.TheVariants.{Parking, Waking}
 use Rattle.oneshot_ends.specs.declared.token.WakingHalf.{WakingHalf}
 use Rattle.oneshot_ends.specs.NoLostWakeup.{RealWaker, AtOneMoment, SleepsOn, IsThereOrTaken, HasGivenTokenOf}
 use Rattle.oneshot_ends.specs.OwnWakers.{IsHalfOf, IsNoThread, WaitsByNoThread, WaitsByHalvesOf, is_waiting}
-use Rattle.oneshot_ends.specs.Tokens.{Parks}
+use Rattle.oneshot_ends.specs.Tokens.{ParkingView}
 use Rattle.oneshot_ends.specs.Woken.{Sending, HasWoken, HasEnded}
 
 -- a side with this log, which gave or took this waker
@@ -48,7 +48,7 @@ pub record UsesThatAre : Type 0 where
   pub woke_it : (s : Sending ⊤ (AnyWaker WakingHalf ℕ) ⊤) (half : WakingHalf) (given : Given)
       → s.side.handed ≡ Some (Thread half) → s.given ≡ Some given → IsSamePass half.pass given.pass → HasWoken s
   pub nobody_waits : (s : Sending ⊤ (AnyWaker WakingHalf ℕ) ⊤) → s.side.log ≡ (Add, Word 3) ∷ [] → HasWoken s
-  pub of_its_parker : (p : Parks) (half : WakingHalf) → half.pass.table_id ≡ p.parker
+  pub of_its_parker : (p : ParkingView) (half : WakingHalf) → half.pass.table_id ≡ p.parker
       → IsHalfOf {K = ℕ} p.parker (Thread half)
   pub of_nobody : (k : RealWaker) → k ≡ Nobody → IsNoThread k
   pub its_own : (half : WakingHalf) → IsHalfOf {K = ℕ} half.pass.table_id (Thread half)

@@ -12,7 +12,7 @@ took (Parking taken) = taken
 took _ = false
 
 -- what a contract sees of a parking half: whether it took the token, and its parker
-pub record Parks : Type 0 where
+pub record ParkingView : Type 0 where
   pub taken : Bool
   pub parker : TableId
 

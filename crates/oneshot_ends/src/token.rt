@@ -68,9 +68,9 @@ impl Model for ParkingHalf {
     ghost use Rattle.std.specs.Arc.{arc_value};
     ghost use Rattle.crossbeam_utils.specs.Token.{parker_view};
     ghost use Rattle.oneshot_ends.specs.declared.token.Half.TheVariants.{Parking};
-    ghost use Rattle.oneshot_ends.specs.Tokens.{Parks, took};
+    ghost use Rattle.oneshot_ends.specs.Tokens.{ParkingView, took};
 
-    ghost Value = { Parks };
+    ghost Value = { ParkingView };
 
     ghost view = { λ p. record { taken = took (parker_view p.pass); parker = p.pass.table_id } };
 

@@ -1,6 +1,6 @@
 -- Proofs of the goals that `park` of `Blocking` as a `BlockGround` leaves.
 use Rattle.std.proofs.Common.{ap, ◌∙◌}
-use Rattle.oneshot_ends.specs.Tokens.{Parks}
+use Rattle.oneshot_ends.specs.Tokens.{ParkingView}
 use Rattle.std.proofs.lemmas.Bool.{or_right}
 use Rattle.oneshot_ends.proofs.OwnWakers.{parked}
 use Rattle.oneshot_ends.proofs.ground.thread.BlockingChannelReceiverBlockGroundChannelWaker.park.Goals as goal
@@ -8,19 +8,19 @@ use Rattle.oneshot_ends.proofs.ground.thread.BlockingChannelReceiverBlockGroundC
 pub returns-then-not-timed-clause-keeps : goal.returns-then-not-timed-clause-keeps
 returns-then-not-timed-clause-keeps g c =
     let takes = c.park.ensures.takes in
-    parked c.args.self.now.ground.now (λ has slept. ap (λ (p : Parks). p.taken) takes)
-    (ap (λ (p : Parks). p.parker) takes)
+    parked c.args.self.now.ground.now (λ has slept. ap (λ (p : ParkingView). p.taken) takes)
+    (ap (λ (p : ParkingView). p.parker) takes)
 
 pub returns-in-Never-clause-keeps : goal.returns-in-Never-clause-keeps
 returns-in-Never-clause-keeps g c =
     let takes = c.park-in-Never.ensures.takes in
-    parked c.args.self.now.ground.now (λ has slept. ap (λ (p : Parks). p.taken) takes)
-    (ap (λ (p : Parks). p.parker) takes)
+    parked c.args.self.now.ground.now (λ has slept. ap (λ (p : ParkingView). p.taken) takes)
+    (ap (λ (p : ParkingView). p.parker) takes)
 
 pub returns-in-At-clause-keeps : goal.returns-in-At-clause-keeps
 returns-in-At-clause-keeps g c =
     let takes = c.park_until-in_time.ensures.takes in
     parked c.args.self.now.ground.now
-    (λ has slept. ap (λ (p : Parks). p.taken) takes
+    (λ has slept. ap (λ (p : ParkingView). p.taken) takes
     ∙ or_right c.park_until-in_time.result c.args.self.now.parker.now.taken (has slept))
-    (ap (λ (p : Parks). p.parker) takes)
+    (ap (λ (p : ParkingView). p.parker) takes)
