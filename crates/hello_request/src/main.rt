@@ -20,8 +20,6 @@ struct Square {
 }
 
 impl Answer<u32> for Square {
-    ghost use Rattle.std.specs.Prelude.{◌≡◌, ◌*◌};
-
     ghost asked = { λ square. square.root };
 
     ghost answers = { λ root square. square.value ≡ root * root };

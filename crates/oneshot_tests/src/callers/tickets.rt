@@ -38,8 +38,6 @@ impl Seats {
 }
 
 impl Answer<u32> for Seats {
-    ghost use Rattle.std.specs.Prelude.{◌≤◌};
-
     ghost asked = { λ seats. seats.wanted };
 
     ghost answers = { λ wanted seats. (seats.given ≤ wanted) × (seats.given ≤ 10) };
