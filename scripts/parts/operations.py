@@ -1,6 +1,7 @@
 """What no contract of the sources says, compared as text:
 - each function of oneshot_word does with the shared table what OPERATIONS says, and no other function reaches it;
 - the looks of oneshot_ends are those of LOOKS, each makes one load, and no other function of that crate makes one;
+- of requests and tickets those of REQUESTS look, once each, and no other call;
 - each call of LAST_CALLS takes its end apart first, so that the end's drop can't run in its place, and lets it go as
   said there; no function of the channel forgets a value.
 """
@@ -49,6 +50,12 @@ LOOKS = {
     "Receiver::has_message": "ground.peek",
     "AsyncReceiver::is_closed": "ground.peek",
     "AsyncReceiver::has_message": "ground.peek",
+}
+
+# Which calls of requests and tickets look, and at what.
+REQUESTS = {
+    "Request::is_cancelled": "self.reply.is_closed",
+    "Ticket::is_closed": "self.replies.is_closed",
 }
 
 # How each call that ends an end lets it go.
@@ -102,6 +109,16 @@ def compare_looks():
                 wrong.append(f"{place(file)}:{number}: it names a look: {line.strip()}")
     none_of(wrong)
     return f"{len(found)} functions that look"
+
+
+def compare_requests():
+    found = {}
+    for file in sources("oneshot_channel"):
+        for function in functions(code_of(file)):
+            if looks := re.findall(r"[\w.]*\b(?:is_closed|has_message|is_cancelled)\b", function.body):
+                found[function.name] = " ".join(looks)
+    none_of(list(differences(found, REQUESTS)))
+    return f"{len(found)} calls of requests that look"
 
 
 def compare_last_calls():
