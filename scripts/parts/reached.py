@@ -22,7 +22,6 @@ UNREACHED = [
     ("oneshot_drive.Blocking", "EndsAt HandAt Path ReceiveBy Refills Stretch end_of load_of ref_end value_end",
      "of `find`, which the drivers alone call, and from which their own clauses are proved"),
     ("oneshot_drive.ErrorTexts", "*", "texts, which tests compare with what the errors print"),
-    ("oneshot_machine.Exact", "Accepts IsAllowed IsExact IsFound", "the parts of the law `tables_are_exact`"),
     ("oneshot_machine.Standing", "*", "what that law computes of each table"),
     ("oneshot_machine.*", "*_number *_positions *_opens receiver_count", "the positions that it computes this of"),
     ("oneshot_world.Classes", "*", "of the law `turns_commute`, for all classes"),

@@ -1,5 +1,11 @@
 -- Proofs of the examples of grounds and of the wakers that a call passes on.
 use Rattle.oneshot_drive.proofs.Names.{◌≡◌, ℕ, true, List, [], ◌∷◌, None, refl, sym, subst, arith, Sent, Send, waking, Event, Grows, receiver_of, ReceiverAt, blocked, first, here, looked, disconnected, found_closed, waits, polled, is_away, is_vacant, IsSlot, runs_that_are, slots_that_are, slots_that_are_not, rests_new, rests_open, rests_closed, parks_waiting, parks_overdue, log_of, GroundsThatAre, GroundsThatAreNot, WakersThatAre, WakersThatAreNot, GroundState, StandsIn, receiver_slots, WritesCopies, WritesItsCopy, left_copy, wakers_handed, HandsNoWaker, Wakes, wakes, wakes_none, SenderWoke}
+use Rattle.std.proofs.Common.{false, ap, ◌∙◌, true≢false}
+use Rattle.oneshot_machine.specs.declared.machine.Step.TheVariants.{Wake}
+use Rattle.oneshot_machine.specs.Logs.{handed}
+use Rattle.oneshot_machine.proofs.GrownLogs.{words_after}
+use Rattle.oneshot_drive.specs.Examples.{real, met_it}
+use Rattle.oneshot_drive.specs.Wakes.{finds_waiting}
 
 pub grounds_that_are : GroundsThatAre
 grounds_that_are =
@@ -79,6 +85,19 @@ wakers_that_are =
             ran = record { run = waking; is_run = runs_that_are.wakes; grows = begun _; gives = refl; gets = refl };
             wakes = wakes 1 refl refl refl refl;
           };
+      wakes_for_real =
+          record {
+            ran =
+                record {
+                  run = waking;
+                  is_run = runs_that_are.wakes;
+                  grows = record { whole = refl; channel = refl; list = refl };
+                  gives = refl;
+                  gets = refl;
+                };
+            wakes = wakes 1 refl refl refl refl;
+          };
+      wakes_nobody = wakes_none refl refl;
       looks_alone = record { steps = _; grows = begun _; none = refl };
     }
 
@@ -98,6 +117,21 @@ wakes_another woke =
     let all = subst (Wakes (λ waker. waker ≡ 2)) (sym woke.ran.grows.list) woke.wakes in
     let e : 1 ≡ 2 = used {woken = λ waker. waker ≡ 2} all in omega (arith, e)
 
+-- a real sender that found its receiver waiting used a waker
+used_one : {woken : ℕ → Type 0} → SenderWoke woken Send (real []) (real met_it) Sent (7 ∷ []) [] → (k : ℕ) × woken k
+used_one woke =
+    elim woke.wakes [
+      | wakes k found took used woken ↦ (k, woken)
+      | wakes_none none used ↦ absurd (true≢false (ap finds_waiting (words_after woke.ran.run woke.ran.grows) ∙ none))
+    ]
+
+used_unasked : Wakes {T = ℕ} {W = ℕ} (λ waker. waker ≡ 1) (handed Wake 1 ∷ []) → ⊥
+used_unasked woke =
+    elim woke [
+      | wakes k found took used woken ↦ let e : false ≡ true = found in cc e
+      | wakes_none none used ↦ let e : 1 ∷ [] ≡ [] = used in cc e
+    ]
+
 pub wakers_that_are_not : WakersThatAreNot
 wakers_that_are_not =
     record {
@@ -105,6 +139,8 @@ wakers_that_are_not =
       the_old_copy = λ wrote. let e = (all_its_own _ wrote).1.0 in cc;
       a_refused_copy = λ wrote. let e = (all_its_own _ wrote).1.0 in cc;
       wakes_another = wakes_another;
+      wakes_by_nothing = λ woke. (used_one woke).1;
+      wakes_unasked = used_unasked;
       takes_it_back = λ hands. let e = hands_none _ hands in cc;
       writes_one = λ hands. let e = hands_none _ hands in cc;
       copies_one = λ hands. let e = hands_none _ hands in cc;

@@ -5,7 +5,7 @@ use Rattle.oneshot_drive.specs.declared.errors.recv.RecvError.{RecvError}
 use Rattle.oneshot_drive.specs.declared.errors.recv_timeout.RecvTimeoutError.TheVariants as Timed
 use Rattle.oneshot_drive.specs.declared.errors.try_recv.TryRecvError.TheVariants as E
 use Rattle.oneshot_machine.specs.declared.machine.Reply.TheVariants as R
-use Rattle.oneshot_machine.specs.declared.machine.Step.TheVariants.{WriteWaker, Withdraw, WakeOwn}
+use Rattle.oneshot_machine.specs.declared.machine.Step.TheVariants.{WriteWaker, Withdraw, Wake, WakeOwn}
 use Rattle.oneshot_machine.specs.declared.machine.sender.SenderCall.TheVariants.{Send}
 use Rattle.oneshot_machine.specs.declared.states.Op.TheVariants.{Load, Swap, Exchange, Add}
 use Rattle.oneshot_machine.specs.Examples.{waking}
@@ -16,7 +16,7 @@ use Rattle.oneshot_drive.specs.BetweenCalls.{IsFresh, IsError, IsLate, SenderIsO
 use Rattle.oneshot_drive.specs.Blocking.{Parks, Returns}
 use Rattle.oneshot_drive.specs.Grounds.{GroundState, SenderAsks, SenderMakes, ReceiverAsks, ReceiverMakes}
 use Rattle.oneshot_drive.specs.Polls.{Polled, IsPolled, LeavesPolled, LeavesTried, StaysRegistered, IsDisconnected, WritesItsCopy, HandsNoWaker, poll_reply, poll_received}
-use Rattle.oneshot_drive.specs.Wakes.{SenderWoke}
+use Rattle.oneshot_drive.specs.Wakes.{Wakes, SenderWoke}
 
 -- a message
 abbrev pub sent : ℕ
@@ -223,7 +223,14 @@ pub record GroundsThatAreNot : Type 0 where
   pub parks_open : (o : Open) → Parks false (here o) → ⊥
   pub parks_until_what_is_over : Parks true overdue → ⊥
 
--- WAKERS, by whole logs
+-- the log of a real end, which has operations alone, and that of a real `send` that found its receiver waiting
+abbrev pub real : List (Event ℕ ℕ) → Log ℕ ℕ
+real list = record { whole = false; channel = []; list = list }
+
+abbrev pub met_it : List (Event ℕ ℕ)
+met_it = worded Add 0 ∷ worded (Swap 4) 1 ∷ []
+
+-- WAKERS, by whole logs, and by a real one
 pub record WakersThatAre : Type 0 where
   pub its_own_copy : WritesItsCopy (log_of []) (log_of registering)
   pub a_later_copy : WritesItsCopy (log_of [])
@@ -231,6 +238,8 @@ pub record WakersThatAre : Type 0 where
   pub no_copy : WritesItsCopy (log_of []) (log_of (copied None ∷ did WakeOwn ∷ []))
   -- a `send` uses the waker that it took, and so wakes its receiver
   pub wakes : SenderWoke (λ waker. waker ≡ 1) Send (log_of []) (log_of waking) R.Sent (7 ∷ []) []
+  pub wakes_for_real : SenderWoke (λ waker. waker ≡ 1) Send (real []) (real met_it) R.Sent (7 ∷ []) []
+  pub wakes_nobody : Wakes {T = ℕ} {W = ℕ} (λ waker. ⊥) (worded Add 3 ∷ [])
   pub looks_alone : HandsNoWaker (log_of []) (log_of (worded Load 3 ∷ []))
 
 pub record WakersThatAreNot : Type 0 where
@@ -238,6 +247,8 @@ pub record WakersThatAreNot : Type 0 where
   pub the_old_copy : WritesItsCopy (log_of []) (log_of (handed Withdraw 5 ∷ handed WriteWaker 5 ∷ [])) → ⊥
   pub a_refused_copy : WritesItsCopy (log_of []) (log_of (copied None ∷ handed WriteWaker 5 ∷ [])) → ⊥
   pub wakes_another : SenderWoke (λ waker. waker ≡ 2) Send (log_of []) (log_of waking) R.Sent (7 ∷ []) [] → ⊥
+  pub wakes_by_nothing : SenderWoke (λ waker. ⊥) Send (real []) (real met_it) R.Sent (7 ∷ []) [] → ⊥
+  pub wakes_unasked : Wakes {T = ℕ} {W = ℕ} (λ waker. waker ≡ 1) (handed Wake 1 ∷ []) → ⊥
   pub takes_it_back : HandsNoWaker (log_of []) (log_of (handed Withdraw 5 ∷ [])) → ⊥
   pub writes_one : HandsNoWaker (log_of []) (log_of (handed WriteWaker 5 ∷ [])) → ⊥
   pub copies_one : HandsNoWaker (log_of []) (log_of (copied (Some 5) ∷ [])) → ⊥

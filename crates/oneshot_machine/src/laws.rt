@@ -1,6 +1,7 @@
 //! Laws of the definitions that contracts cite: each function's contract is a law, and its body is empty.
 
 ghost use Rattle.oneshot_machine.specs.Exact.{SenderIsExact, ReceiverIsExact};
+ghost use Rattle.oneshot_machine.specs.ExactExamples.{TablesAllow, TablesRefuse};
 ghost use Rattle.oneshot_machine.specs.Examples.{LogsOfSender, LogsOfReceiver, RunsThatAre, RunsThatAreNot};
 ghost use Rattle.oneshot_machine.specs.FutureExamples.{LogsOfFuture, FutureRuns, FutureRunsThatAreNot};
 ghost use Rattle.oneshot_machine.specs.CountExamples.{CountsThatAre, CountsThatAreNot};
@@ -21,9 +22,11 @@ pub fn phases_keep_order()
     ensures { ReachedInOrder }
 {}
 
-/// Examples of the definitions: the logs and runs of an end, counts of operations, orders of both ends' logs,
+/// Examples of the definitions: what the tables allow, the logs and runs of an end, counts of operations, orders of both ends' logs,
 /// what a ground did between two logs, and what becomes of an end's slots.
 pub fn examples_are_so()
+    ensures tables { TablesAllow }
+    ensures no_tables { TablesRefuse }
     ensures senders { LogsOfSender }
     ensures receivers { LogsOfReceiver }
     ensures runs { RunsThatAre }

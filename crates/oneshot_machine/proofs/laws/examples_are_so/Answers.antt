@@ -1,4 +1,5 @@
 -- Proofs of the goals that `examples_are_so` leaves.
+use Rattle.oneshot_machine.proofs.ExactExamples.{tables_allow, tables_refuse}
 use Rattle.oneshot_machine.proofs.ExampleRuns.{logs_of_sender, logs_of_receiver, runs_that_are}
 use Rattle.oneshot_machine.proofs.ExampleNoRuns.{runs_that_are_not}
 use Rattle.oneshot_machine.proofs.FutureExampleRuns.{logs_of_future, future_runs, future_runs_that_are_not}
@@ -11,6 +12,8 @@ use Rattle.oneshot_machine.proofs.laws.examples_are_so.Goals as goal
 pub returns : goal.returns
 returns c =
     record {
+      tables = tables_allow;
+      no_tables = tables_refuse;
       senders = logs_of_sender;
       receivers = logs_of_receiver;
       runs = runs_that_are;

@@ -1,0 +1,29 @@
+-- Examples and counterexamples of the logs, operations and rows by which the law `tables_are_exact` is stated.
+use Rattle.std.specs.Prelude.{ℕ, [], ◌∷◌}
+use Rattle.oneshot_machine.specs.declared.machine.Seen.TheVariants.{Word}
+use Rattle.oneshot_machine.specs.declared.machine.sender.SenderPos.TheVariants.{SendAdd, SendFinal}
+use Rattle.oneshot_machine.specs.declared.states.Op.TheVariants.{Load, Swap, Add}
+use Rattle.oneshot_machine.specs.Exact.{IsFound, IsAllowed, Accepts}
+use Rattle.oneshot_machine.specs.Phases.{sending, fresh, owes, first, here, looked, sender_at, receiver_at}
+use Rattle.oneshot_machine.specs.Slots.{SenderMay, SenderFinds, ReceiverMay, ReceiverFinds}
+use Rattle.oneshot_machine.specs.Standing.{sender_table}
+
+pub record TablesAllow : Type 0 where
+  pub new_log : IsFound sender_at (SenderFinds {T = ℕ} {W = ℕ}) []
+  pub adds : IsFound sender_at (SenderFinds {T = ℕ} {W = ℕ}) ((Add, Word 3) ∷ [])
+  pub sends_at_last : IsFound sender_at (SenderFinds {T = ℕ} {W = ℕ}) ((Add, Word 0) ∷ (Swap 4, Word 1) ∷ [])
+  pub looks : IsFound receiver_at (ReceiverFinds {T = ℕ} {W = ℕ}) ((Load, Word 3) ∷ [])
+  pub may_add : IsAllowed (SenderMay {T = ℕ} {W = ℕ}) fresh Add
+  pub may_store : IsAllowed (ReceiverMay {T = ℕ} {W = ℕ}) (here looked) (Swap 0)
+  pub adds_over_0 : Accepts sender_table Add 0 SendAdd
+  -- a position at which the end performs another operation
+  pub adds_elsewhere : Accepts sender_table Add 4 SendFinal
+
+pub record TablesRefuse : Type 0 where
+  pub adds_over_4 : IsFound sender_at (SenderFinds {T = ℕ} {W = ℕ}) ((Add, Word 4) ∷ []) → ⊥
+  pub swaps_first : IsFound sender_at (SenderFinds {T = ℕ} {W = ℕ}) ((Swap 4, Word 1) ∷ []) → ⊥
+  pub finds_1_first : IsFound receiver_at (ReceiverFinds {T = ℕ} {W = ℕ}) ((Load, Word 1) ∷ []) → ⊥
+  pub may_swap_first : IsAllowed (SenderMay {T = ℕ} {W = ℕ}) fresh (Swap 4) → ⊥
+  pub may_add_again : IsAllowed (SenderMay {T = ℕ} {W = ℕ}) (owes sending) Add → ⊥
+  pub may_store_first : IsAllowed (ReceiverMay {T = ℕ} {W = ℕ}) first (Swap 0) → ⊥
+  pub accepts_1 : Accepts sender_table Add 1 SendAdd → ⊥
