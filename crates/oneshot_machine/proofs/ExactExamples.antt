@@ -1,5 +1,6 @@
 -- Proofs of the examples of the law `tables_are_exact`: each is by a row, and a test of all rows refuses the others.
-use Rattle.std.proofs.Common.{◌≡◌, ℕ, Bool, true, false, not, ◌&&◌, List, [], ◌∷◌, ◌++◌, refl, sym, ap, ◌∙◌, true≢false}
+use Rattle.std.proofs.Common.{◌≡◌, ℕ, Bool, true, false, not, ◌&&◌, List, [], ◌∷◌, ◌++◌, refl, sym, ap, ◌∙◌, true≢false, arith}
+use Rattle.std.specs.Prelude.{Contains}
 use Rattle.std.specs.List.{list_all}
 use Rattle.oneshot_machine.specs.declared.states.Op.{Op}
 use Rattle.oneshot_machine.specs.declared.states.Op.TheVariants.{Load, Swap, Add}
@@ -57,6 +58,9 @@ tables_allow =
       adds_elsewhere = λ e. absurd (cc e);
     }
 
+never : Contains {X = Op} [] Add → ⊥
+never among = omega (arith, among.1)
+
 pub tables_refuse : TablesRefuse
 tables_refuse =
     record {
@@ -67,4 +71,6 @@ tables_refuse =
       may_add_again = not_allowed sender_moves (owes sending) Add refl refl;
       may_store_first = not_allowed receiver_moves first (Swap 0) refl refl;
       accepts_1 = λ so. let e = so refl in cc e;
+      begins_nothing = λ exact.
+          never (exact.no_more none_yet (may {m = held 7} {w = away} head (is_held 7) is_away));
     }

@@ -3,7 +3,7 @@ use Rattle.std.specs.Prelude.{ℕ, [], ◌∷◌}
 use Rattle.oneshot_machine.specs.declared.machine.Seen.TheVariants.{Word}
 use Rattle.oneshot_machine.specs.declared.machine.sender.SenderPos.TheVariants.{SendAdd, SendFinal}
 use Rattle.oneshot_machine.specs.declared.states.Op.TheVariants.{Load, Swap, Add}
-use Rattle.oneshot_machine.specs.Exact.{IsFound, IsAllowed, Accepts}
+use Rattle.oneshot_machine.specs.Exact.{IsFound, IsAllowed, Accepts, IsExact}
 use Rattle.oneshot_machine.specs.Phases.{sending, fresh, owes, first, here, looked, sender_at, receiver_at}
 use Rattle.oneshot_machine.specs.Slots.{SenderMay, SenderFinds, ReceiverMay, ReceiverFinds}
 use Rattle.oneshot_machine.specs.Standing.{sender_table}
@@ -27,3 +27,6 @@ pub record TablesRefuse : Type 0 where
   pub may_add_again : IsAllowed (SenderMay {T = ℕ} {W = ℕ}) (owes sending) Add → ⊥
   pub may_store_first : IsAllowed (ReceiverMay {T = ℕ} {W = ℕ}) first (Swap 0) → ⊥
   pub accepts_1 : Accepts sender_table Add 1 SendAdd → ⊥
+  -- a table whose sender begins no call
+  pub begins_nothing : IsExact (record sender_table { opens = [] }) sender_at (SenderMay {T = ℕ} {W = ℕ}) SenderFinds
+      → ⊥
