@@ -81,7 +81,8 @@ pub record TimeoutRan (T : Type 0) (timeout : Duration) (reading : Option Instan
   pub held : IsTrue has_end ↔ HasEnd timeout reading
   pub grew : ReceiverGrew T (RecvTimeout has_end) before after reply
 
--- the same for some reading: no contract states what a clock reads
+-- The same for some reading, since no contract states what a clock reads. A clock may fail, and then any timeout has an
+-- end: so this states of every timeout what it states of a receive with a deadline.
 pub record TimeoutGrew (T : Type 0) (timeout : Duration) (before after : List Noted) (reply : Reply) : Type 0 where
   pub reading : Option Instant
   pub readable : IfSome reading (λ now. FitsClock (instant_nanos now))

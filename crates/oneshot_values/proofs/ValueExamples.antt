@@ -1,5 +1,5 @@
 -- Proofs of the examples: the calls and the order of each worked log, and why the wrong logs have none.
-use Rattle.std.proofs.Common.{◌≡◌, false, true, List, [], ◌∷◌, ◌++◌, Some, refl, sym, ◌∙◌, ap, subst}
+use Rattle.std.proofs.Common.{◌≡◌, ◌≤◌, ◌||◌, false, true, List, [], ◌∷◌, ◌++◌, length, Some, refl, sym, ◌∙◌, ap, subst, true≢false, arith}
 use Rattle.std.specs.List.{cons_option}
 use Rattle.std.specs.Option.{option_map}
 use Rattle.oneshot_machine.specs.declared.machine.Reply.{Reply}
@@ -19,13 +19,17 @@ use Rattle.oneshot_machine.specs.Receiver.{receiver_start, receiver_step, receiv
 use Rattle.oneshot_machine.specs.Runs.{Run, last, more}
 use Rattle.oneshot_machine.specs.Slots.{head, tail}
 use Rattle.oneshot_word.proofs.ByRows.{sender_is, receiver_is}
-use Rattle.oneshot_word.proofs.LastOnes.{not_empty, same_last}
+use Rattle.oneshot_word.proofs.LastOnes.{not_empty, same_start, same_last}
 use Rattle.oneshot_ends.specs.Ends.{Waking}
+use Rattle.oneshot_machine.specs.TableRows.{is_same_seen}
+use Rattle.oneshot_machine.proofs.CallBounds.{try_recv_makes}
 use Rattle.oneshot_machine.proofs.FirstSteps.{tries_in_vain}
+use Rattle.oneshot_ends.specs.Taken.{has_found}
 use Rattle.oneshot_bridge.specs.CallExamples.{tried_twice}
 use Rattle.oneshot_bridge.proofs.CallExamples.{worked_calls}
-use Rattle.oneshot_values.specs.Examples.{WorkedValues, WrongValues}
-use Rattle.oneshot_values.proofs.ValuesRun.{receiver_runs, error_runs}
+use Rattle.oneshot_values.specs.Examples.{got_twice, WorkedValues, WrongValues}
+use Rattle.oneshot_values.specs.Values.{OnlyTheLastGot}
+use Rattle.oneshot_values.proofs.ValuesRun.{shows_none, receiver_runs, error_runs}
 
 -- the sender sends between the two tries
 tried : Reaches ((Add, Word 3) ∷ []) tried_twice 2
@@ -50,20 +54,29 @@ worked_values {T} m =
       refused = error_runs m ((Add, Word 2) ∷ []) ((Swap 2, Word 3) ∷ [], 3, refused);
     }
 
--- the last call of a receiver
-record IsLast (T : Type 0) (x : ReceiverStart × Reply) (log : List Noted) : Type 0 where
+-- the last call of a receiver, and those before it
+record IsLast (T : Type 0) (calls : List (ReceiverStart × Reply)) (x : ReceiverStart × Reply) (log : List Noted)
+    : Type 0 where
   before : List Noted
+  earlier : ReceiverCalled T Waking as_receiver calls before
   run : List (Event T Waking)
   made : Run receiver_step receiver_row (receiver_start x.0) run x.1
   leaves : log ≡ before ++ words run
 
 last_call : {T : Type 0} (calls : List (ReceiverStart × Reply)) (x : ReceiverStart × Reply)
     {all : List (ReceiverStart × Reply)} {log : List Noted} → ReceiverCalled T Waking as_receiver all log
-    → all ≡ calls ++ x ∷ [] → IsLast T x log
+    → all ≡ calls ++ x ∷ [] → IsLast T calls x log
 last_call calls x not_called e = absurd (not_empty calls x (sym e))
 last_call {T} calls x (called {calls = earlier} {log = log} call reply run was its made) e =
-    subst (λ x. IsLast T x (log ++ words run)) (same_last earlier calls (call, reply) x e)
-    (record { before = log; run = run; made = made; leaves = refl })
+    subst (λ x. IsLast T calls x (log ++ words run)) (same_last earlier calls (call, reply) x e)
+    (record {
+      before = log;
+      earlier = subst (λ calls. ReceiverCalled T Waking as_receiver calls log)
+          (same_start earlier calls (call, reply) x e) was;
+      run = run;
+      made = made;
+      leaves = refl;
+    })
 
 -- a `try_recv` begins with its load
 begins : {T : Type 0} (x : Event T Waking) (xs : List (Event T Waking)) → x.step ≡ Steps.Word Load
@@ -84,6 +97,20 @@ takes_nothing : {T : Type 0} {run : List (Event T Waking)} → Run receiver_step
 takes_nothing made [] e = tries_in_vain made e
 takes_nothing made (y ∷ ys) e = no_operation made ys (cc e)
 
+-- of two tries that found the message the first returned it
+got_before : {T : Type 0} → OnlyTheLastGot T got_twice → ⊥
+got_before {T} so =
+    let end : IsLast T so.0 (TryRecv, R.Message) got_twice =
+    last_call so.0 (TryRecv, R.Message) so.1 refl in
+    true≢false (sym (begins_with_it end.before (words end.run) (try_recv_makes end.run end.made) (sym end.leaves))
+    ∙ shows_none end.earlier so.2)
+  where
+    begins_with_it : (before own : List Noted) → length own ≤ 2 → before ++ own ≡ got_twice
+        → has_found before ≡ true
+    begins_with_it [] own few e = absurd (let many : length own ≡ 4 = ap length e in omega (arith, few, many))
+    begins_with_it (y ∷ ys) own few e =
+        let first : y ≡ (Load, Word 4) = cc e in ap (λ y. is_same_seen y.1 (Word 4) || has_found ys) first
+
 pub wrong_values : {T : Type 0} (m : T) → WrongValues m
 wrong_values {T} m =
     record {
@@ -93,7 +120,8 @@ wrong_values {T} m =
           ((worked_calls {T = T} {W = Waking}).tries) in cc is;
       took_unfound = λ so. let is : 0 ≡ 1 = so.gets [] not_called in cc is;
       got_two = λ e. cc e;
-      found_nothing = λ so. let end : IsLast T (TryRecv, R.Message) ((Load, Word 3) ∷ []) =
+      got_before = got_before;
+      found_nothing = λ so. let end : IsLast T so.0 (TryRecv, R.Message) ((Load, Word 3) ∷ []) =
           last_call so.0 (TryRecv, R.Message) so.1 refl in takes_nothing end.made end.before end.leaves;
       looked = λ so. let is : false ≡ true = sender_is so.order in cc is;
     }

@@ -89,6 +89,11 @@ shows (called {form} {calls} {log} call reply run was its made) =
 shows (became_future {calls} was) =
     shows was ∙ ap positive (sym (messages_more calls (RC.IntoFuture, R.Future) ∙ omega arith))
 
+pub shows_none : {T : Type 0} {form : Form} {calls : List (ReceiverStart × Reply)} {log : List Noted}
+    → ReceiverCalled T Waking form calls log → message_replies calls ≡ 0 → has_found log ≡ false
+unfolding positive
+shows_none was none = shows was ∙ ap positive none
+
 none_of : (n : ℕ) → positive n ≡ false → n ≡ 0
 unfolding positive
 none_of zero e = refl

@@ -1,12 +1,17 @@
 -- Worked logs that the definitions accept, and wrong logs that they refuse.
-use Rattle.std.specs.Prelude.{◌≡◌, [], ◌∷◌, Option, Some, None}
+use Rattle.std.specs.Prelude.{◌≡◌, List, [], ◌∷◌, Option, Some, None}
 use Rattle.oneshot_machine.specs.declared.machine.Reply.TheVariants as R
-use Rattle.oneshot_machine.specs.declared.machine.Seen.TheVariants.{Word}
+use Rattle.oneshot_machine.specs.declared.machine.Seen.TheVariants.{Done, Word}
 use Rattle.oneshot_machine.specs.declared.machine.receiver.ReceiverStart.TheVariants.{TryRecv}
-use Rattle.oneshot_machine.specs.declared.states.Op.TheVariants.{Load, Add}
+use Rattle.oneshot_machine.specs.declared.states.Op.TheVariants.{Load, Store, Add}
 use Rattle.oneshot_machine.specs.Called.{as_receiver}
+use Rattle.oneshot_machine.specs.Noted.{Noted}
 use Rattle.oneshot_bridge.specs.CallExamples.{tried_twice}
 use Rattle.oneshot_values.specs.Values.{message_replies, ReceiverRuns, OnlyTheLastGot, ErrorRuns}
+
+-- two tries that each took a message: no order has this log
+abbrev pub got_twice : List Noted
+got_twice = (Load, Word 4) ∷ (Store 2, Done) ∷ (Load, Word 4) ∷ (Store 2, Done) ∷ []
 
 module _ {T : Type 0} (m : T) where
   pub record WorkedValues : Type 0 where
@@ -25,7 +30,9 @@ module _ {T : Type 0} (m : T) where
     pub took_unfound : ReceiverRuns T as_receiver (Some m) [] → ⊥
     -- two messages are not one
     pub got_two : message_replies ((TryRecv, R.Message) ∷ (TryRecv, R.Message) ∷ []) ≡ 1 → ⊥
-    -- a `try_recv` that found nothing did not return the message, whatever was called before
+    -- a `try_recv` is not the only one that returned the message if one before did
+    pub got_before : OnlyTheLastGot T got_twice → ⊥
+    -- one that found nothing did not return it, whatever was called before
     pub found_nothing : OnlyTheLastGot T ((Load, Word 3) ∷ []) → ⊥
     -- no sender loads the word
     pub looked : ErrorRuns m ((Load, Word 3) ∷ []) → ⊥
