@@ -24,7 +24,8 @@ use futures::task::{Context, Poll, Source, Waker};
 use oneshot_drive::errors::{RecvError, TryRecvError};
 use oneshot_drive::{async_try_recv, drop_async, poll};
 use oneshot_word::Promise;
-use std::marker::Model;
+use std::cell::Cell;
+use std::marker::{Model, PhantomData};
 
 /// A future that receives one message from its sender. Its output is `Ok` with the message, or `Err` if the
 /// sender was dropped without a message or the message was received before.
@@ -39,8 +40,7 @@ use std::marker::Model;
 ///
 /// `P` is the promise of its channel: the message that it returns keeps it.
 ///
-/// It may go to another thread between two polls where `T` and `Rt` are `Send`. Do not share a `&` to it:
-/// the compiler does not refuse one, but no proof covers it.
+/// It may go to another thread between two polls where `T` and `Rt` are `Send`. Two threads may not share it.
 pub struct AsyncReceiver<T, Rt, P: Promise<T> = ()> {
     pub(crate) ground: SharedReceiver<T, WakingHalf, Waker, P>,
     source: Source,
@@ -48,6 +48,8 @@ pub struct AsyncReceiver<T, Rt, P: Promise<T> = ()> {
     copies: Copies<Waker>,
     // The runtime of the receiver, which no call of a future uses.
     rt: Rt,
+    // A cell is not `Sync`, so only one thread at a time has the future.
+    unshared: PhantomData<Cell<u8>>,
 }
 
 impl<T, Rt, P: Promise<T>> Model for AsyncReceiver<T, Rt, P> {
@@ -92,6 +94,7 @@ impl<T, Rt, P: Promise<T>> AsyncReceiver<T, Rt, P> {
             source,
             copies: Copies::new(),
             rt,
+            unshared: PhantomData,
         }
     }
 }
@@ -177,6 +180,7 @@ impl<T: Drop, Rt: Drop, P: Promise<T>> Drop for AsyncReceiver<T, Rt, P> {
             source: _,
             copies: _,
             rt: _,
+            unshared: _,
         } = self;
         drop_async(&mut ground);
         ground.dropped();
