@@ -22,10 +22,9 @@ const SHORT: u64 = 10;
 /// How many short waits are measured.
 const WAITS: u32 = 40;
 
-/// How many yields are measured. A short wait with a near deadline does not spin, and uses less processor
-/// time than they do. Any other uses less than three times as much: it spins seventeen times before it
-/// sleeps, and only its first spin yields.
-const YIELDS: u32 = 500;
+/// How many yields are measured. A short wait uses less processor time than they do: it spins seventeen times
+/// at most before it sleeps, and only its first spin yields.
+const YIELDS: u32 = 1500;
 
 /// The message that a receive gets from a sender that sleeps for `lingers` milliseconds, and the receive's
 /// processor time.
@@ -71,17 +70,18 @@ fn time_of_yields(rt: &impl CpuClock) -> io::Result<Duration> {
 #[test]
 fn a_receive_spins_little_before_it_sleeps(rt: HostRuntime) -> Result<(), Fail> {
     let receives = [
-        (Receive::Recv, 3),
-        (Receive::RecvRef, 3),
-        (Receive::RecvDeadline(hour()), 3),
-        (Receive::RecvTimeout(hour()), 3),
-        // It mostly times out before the sender sends.
-        (Receive::RecvTimeout(Duration::from_micros(100)), 1),
+        Receive::Recv,
+        Receive::RecvRef,
+        Receive::RecvDeadline(hour()),
+        Receive::RecvTimeout(hour()),
+        // It does not spin, and mostly times out before the sender sends.
+        Receive::RecvTimeout(Duration::from_micros(100)),
     ];
-    for (by, times) in receives {
-        let much = time_of_yields(&rt)?.saturating_mul(times);
+    for by in receives {
         let mut spinning = 0u32;
         for _ in 0..WAITS {
+            // Measured beside each wait, since other programs slow both.
+            let much = time_of_yields(&rt)?;
             let (_received, used) = time_of(&rt, by, SHORT)?;
             if used > much {
                 spinning = spinning.saturating_add(1);
