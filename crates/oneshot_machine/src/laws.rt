@@ -22,8 +22,8 @@ pub fn phases_keep_order()
     ensures { ReachedInOrder }
 {}
 
-/// Examples of the definitions: what the tables allow, the logs and runs of an end, counts of operations, orders of both ends' logs,
-/// what a ground did between two logs, and what becomes of an end's slots.
+/// Examples of the definitions: what the tables allow, the logs and runs of an end, counts of operations,
+/// orders of both ends' logs, what a ground did between two logs, and what becomes of an end's slots.
 pub fn examples_are_so()
     ensures tables { TablesAllow }
     ensures no_tables { TablesRefuse }
