@@ -8,9 +8,9 @@ pub use Rattle.oneshot_ends.specs.Woken
 pub use Rattle.oneshot_ends.specs.Tokens
 pub use Rattle.oneshot_ends.specs.Grounds as EndGrounds
 pub use Rattle.oneshot_ends.specs.Polling
-pub use Rattle.oneshot_drive.specs.declared.errors.recv.RecvError
-pub use Rattle.oneshot_drive.specs.declared.errors.recv_timeout.RecvTimeoutError
-pub use Rattle.oneshot_drive.specs.declared.errors.try_recv.TryRecvError
+pub use Rattle.oneshot_errors.specs.declared.recv.RecvError
+pub use Rattle.oneshot_errors.specs.declared.recv_timeout.RecvTimeoutError
+pub use Rattle.oneshot_errors.specs.declared.try_recv.TryRecvError
 -- those that the contracts of the drivers name
 pub use Rattle.oneshot_drive.specs.BetweenCalls
 pub use Rattle.oneshot_drive.specs.Blocking
@@ -67,4 +67,4 @@ pub use Rattle.oneshot_laws.specs.Replies
 pub use Rattle.oneshot_laws.specs.Unwoken
 pub use Rattle.oneshot_laws.specs.WakerPlaces
 -- those that the contracts of `reply` name
-pub use Rattle.oneshot_channel.specs.declared.reply.asked.Asked
+pub use Rattle.oneshot_reply.specs.declared.asked.Asked

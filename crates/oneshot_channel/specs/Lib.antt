@@ -6,9 +6,9 @@ pub use Rattle.oneshot_ends.specs.NoLostWakeup
 pub use Rattle.oneshot_ends.specs.OwnWakers
 pub use Rattle.oneshot_ends.specs.Woken
 pub use Rattle.oneshot_ends.specs.Tokens
-pub use Rattle.oneshot_drive.specs.declared.errors.recv.RecvError
-pub use Rattle.oneshot_drive.specs.declared.errors.recv_timeout.RecvTimeoutError
-pub use Rattle.oneshot_drive.specs.declared.errors.try_recv.TryRecvError
+pub use Rattle.oneshot_errors.specs.declared.recv.RecvError
+pub use Rattle.oneshot_errors.specs.declared.recv_timeout.RecvTimeoutError
+pub use Rattle.oneshot_errors.specs.declared.try_recv.TryRecvError
 pub use Rattle.oneshot_drive.specs.BetweenCalls
 pub use Rattle.oneshot_drive.specs.Polls
 pub use Rattle.oneshot_machine.specs.Called
@@ -20,4 +20,4 @@ pub use Rattle.oneshot_machine.specs.Runs
 pub use Rattle.oneshot_machine.specs.declared.machine.Reply
 pub use Rattle.oneshot_machine.specs.declared.machine.receiver.ReceiverStart
 pub use Rattle.oneshot_machine.specs.declared.machine.sender.SenderCall
-pub use Rattle.oneshot_channel.specs.declared.reply.asked.Asked
+pub use Rattle.oneshot_reply.specs.declared.asked.Asked

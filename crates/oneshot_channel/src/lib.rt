@@ -2,10 +2,9 @@
 //! exports these names too, beside the model.
 #![tactic(auto)]
 
-pub mod reply;
-
-pub use oneshot_drive::errors::{RecvError, RecvTimeoutError, TryRecvError};
 pub use oneshot_ends::{
     AsyncReceiver, Promise, RawReceiver, RawSender, Receiver, SendError, Sender, async_channel,
     async_channel_for, channel, channel_for, laws,
 };
+pub use oneshot_errors::{RecvError, RecvTimeoutError, TryRecvError};
+pub use oneshot_reply as reply;

@@ -17,4 +17,3 @@ pub mod OwnCopies
 pub mod EndExamples
 pub mod GroundExamples
 pub mod Names
-mod ErrorEquality

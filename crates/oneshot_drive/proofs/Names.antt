@@ -7,9 +7,9 @@ pub use Rattle.oneshot_drive.specs.Grounds.{GroundState, StandsWith, Stands, rec
 pub use Rattle.oneshot_drive.specs.Polls.{hand_after, WritesHand, WritesCopies, WroteCopies, Polled, unpolled, left_copy, kept_copy, found_sender, has_resolved, IsPolled, LeavesPolled, leaves_resolved, leaves_over, leaves_gone, leaves_uncopied, leaves_waiting, leaves_its_copy, leaves_claimed, EndsPoll, tried_resolved, tried_its_copy, is_disconnected, poll_end, MayLeave, WritesItsCopy, wakers_handed, HandsNoWaker, LeavesTried, tried_received, tried_closed, tried_uncopied, tried_claimed, is_registered}
 pub use Rattle.oneshot_drive.specs.Wakes.{wakes, wakes_none, SenderWoke, Wakes}
 pub use Rattle.oneshot_drive.specs.declared.waiting.Found.{Found}
-pub use Rattle.oneshot_drive.specs.declared.errors.recv.RecvError.{RecvError}
-pub use Rattle.oneshot_drive.specs.declared.errors.recv_timeout.RecvTimeoutError.{RecvTimeoutError}
-pub use Rattle.oneshot_drive.specs.declared.errors.try_recv.TryRecvError.{TryRecvError}
+pub use Rattle.oneshot_errors.specs.declared.recv.RecvError.{RecvError}
+pub use Rattle.oneshot_errors.specs.declared.recv_timeout.RecvTimeoutError.{RecvTimeoutError}
+pub use Rattle.oneshot_errors.specs.declared.try_recv.TryRecvError.{TryRecvError}
 pub use Rattle.oneshot_machine.proofs.CallBounds.{drop_few, send_few, async_try_recv_few, poll_few, drop_async_few, try_recv_few}
 pub use Rattle.oneshot_machine.proofs.Exactness.{leads, differ}
 pub use Rattle.oneshot_machine.proofs.ExampleRuns.{runs_that_are}

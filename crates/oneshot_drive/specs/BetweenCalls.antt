@@ -1,10 +1,10 @@
 -- The states of an end between its calls, and what a call leaves and replies.
 use Rattle.std.specs.Prelude.{◌≡◌, ℕ, Bool, true, false, IsTrue, List, [], ◌∷◌, Option, Some, None, Result, Ok, Err}
-use Rattle.oneshot_drive.specs.declared.errors.recv.RecvError.{RecvError}
-use Rattle.oneshot_drive.specs.declared.errors.recv_timeout.RecvTimeoutError.{RecvTimeoutError}
-use Rattle.oneshot_drive.specs.declared.errors.recv_timeout.RecvTimeoutError.TheVariants as Timed
-use Rattle.oneshot_drive.specs.declared.errors.try_recv.TryRecvError.{TryRecvError}
-use Rattle.oneshot_drive.specs.declared.errors.try_recv.TryRecvError.TheVariants as E
+use Rattle.oneshot_errors.specs.declared.recv.RecvError.{RecvError}
+use Rattle.oneshot_errors.specs.declared.recv_timeout.RecvTimeoutError.{RecvTimeoutError}
+use Rattle.oneshot_errors.specs.declared.recv_timeout.RecvTimeoutError.TheVariants as Timed
+use Rattle.oneshot_errors.specs.declared.try_recv.TryRecvError.{TryRecvError}
+use Rattle.oneshot_errors.specs.declared.try_recv.TryRecvError.TheVariants as E
 use Rattle.oneshot_machine.specs.declared.machine.Reply.{Reply}
 use Rattle.oneshot_machine.specs.declared.machine.Reply.TheVariants.{Sent, Refused, Message, Empty, Timeout, Disconnected}
 use Rattle.oneshot_machine.specs.declared.machine.Step.TheVariants.{TakeWaker, Wake}

@@ -3,9 +3,9 @@ use Rattle.std.specs.Prelude.{◌≡◌, ⊤, Bool, true, false, List, [], ◌�
 use Rattle.std.specs.List.{filter_map}
 use Rattle.futures.specs.declared.task.Poll.{Poll}
 use Rattle.futures.specs.declared.task.Poll.TheVariants.{Ready, Pending}
-use Rattle.oneshot_drive.specs.declared.errors.recv.RecvError.{RecvError}
-use Rattle.oneshot_drive.specs.declared.errors.try_recv.TryRecvError.{TryRecvError}
-use Rattle.oneshot_drive.specs.declared.errors.try_recv.TryRecvError.TheVariants as E
+use Rattle.oneshot_errors.specs.declared.recv.RecvError.{RecvError}
+use Rattle.oneshot_errors.specs.declared.try_recv.TryRecvError.{TryRecvError}
+use Rattle.oneshot_errors.specs.declared.try_recv.TryRecvError.TheVariants as E
 use Rattle.oneshot_drive.specs.declared.waiting.Found.{Found}
 use Rattle.oneshot_drive.specs.declared.waiting.Found.TheVariants as F
 use Rattle.oneshot_machine.specs.declared.machine.Reply.{Reply}

@@ -1,7 +1,7 @@
 //! The drivers of the receives that block.
 
 ghost use Rattle.std.specs.Prelude.{◌≡◌, Err, IsErr, IfOk, false, []};
-ghost use Rattle.oneshot_drive.specs.declared.errors.recv_timeout.RecvTimeoutError.TheVariants.{Timeout, Disconnected};
+ghost use Rattle.oneshot_errors.specs.declared.recv_timeout.RecvTimeoutError.TheVariants.{Timeout, Disconnected};
 ghost use Rattle.oneshot_machine.specs.declared.machine.receiver.ReceiverPos.TheVariants.{Ref};
 ghost use Rattle.oneshot_machine.specs.declared.machine.by_ref.RefPos.TheVariants.{StartLoad};
 ghost use Rattle.oneshot_machine.specs.declared.machine.receiver.ReceiverStart.TheVariants.{Recv, RecvRef, RecvDeadline, RecvTimeout};
@@ -11,9 +11,9 @@ ghost use Rattle.oneshot_machine.specs.Runs.{Ran, ReceiverRan};
 ghost use Rattle.oneshot_drive.specs.Blocking.{Returns};
 ghost use Rattle.oneshot_drive.specs.BetweenCalls.{AtRest, IsClosedAt, LeavesClosed, LeavesTimed, FoundTheEnd, IsReady, Hands, recv_reply, timed_reply, received};
 
-use crate::errors::{RecvError, RecvTimeoutError};
 use crate::ground::BlockGround;
 use crate::waiting::{Found, find};
+use oneshot_errors::{RecvError, RecvTimeoutError};
 use oneshot_machine::states::DISCONNECTED;
 use std::sync::Wait;
 

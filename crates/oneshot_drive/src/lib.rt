@@ -2,7 +2,6 @@
 #![tactic(auto)]
 
 mod blocking;
-pub mod errors;
 mod ground;
 pub mod laws;
 mod polling;

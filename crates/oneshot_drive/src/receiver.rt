@@ -1,7 +1,7 @@
 //! The drivers of the receiver's calls that never block.
 
 ghost use Rattle.std.specs.Prelude.{◌≡◌, Err, [], IfOk};
-ghost use Rattle.oneshot_drive.specs.declared.errors.try_recv.TryRecvError.TheVariants.{Disconnected};
+ghost use Rattle.oneshot_errors.specs.declared.try_recv.TryRecvError.TheVariants.{Disconnected};
 ghost use Rattle.oneshot_machine.specs.declared.machine.Reply.TheVariants as R;
 ghost use Rattle.oneshot_machine.specs.declared.machine.receiver.ReceiverStart.TheVariants.{TryRecv, Drop};
 ghost use Rattle.oneshot_machine.specs.Counts.{receiver_bound, MakesWithin};
@@ -9,8 +9,8 @@ ghost use Rattle.oneshot_machine.specs.Logs.{receiver_of};
 ghost use Rattle.oneshot_machine.specs.Runs.{ReceiverRan};
 ghost use Rattle.oneshot_drive.specs.BetweenCalls.{AtRest, IsClosedAt, Leaves, HasLeft, try_recv_reply, received};
 
-use crate::errors::TryRecvError;
 use crate::ground::ReceiverGround;
+use oneshot_errors::TryRecvError;
 use oneshot_machine::states::{DISCONNECTED, EMPTY, MESSAGE};
 
 /// Receives the message if it is there. `g` is between two calls. It never blocks and frees nothing.

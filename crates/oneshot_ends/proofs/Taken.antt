@@ -28,11 +28,11 @@ use Rattle.oneshot_machine.specs.Phases.{ReceiverAt, receiver_at, phase_from}
 use Rattle.oneshot_machine.specs.Runs.{Run}
 use Rattle.oneshot_machine.specs.TableRows.{Outcome, Goes, Answers, row_for, is_same_seen}
 use Rattle.oneshot_machine.proofs.RunsByRows.{row_passes, moved, Leads, by_rows}
-use Rattle.oneshot_drive.specs.declared.errors.recv.RecvError.{RecvError}
-use Rattle.oneshot_drive.specs.declared.errors.recv_timeout.RecvTimeoutError.{RecvTimeoutError}
-use Rattle.oneshot_drive.specs.declared.errors.recv_timeout.RecvTimeoutError.TheVariants as Timeouts
-use Rattle.oneshot_drive.specs.declared.errors.try_recv.TryRecvError.{TryRecvError}
-use Rattle.oneshot_drive.specs.declared.errors.try_recv.TryRecvError.TheVariants as E
+use Rattle.oneshot_errors.specs.declared.recv.RecvError.{RecvError}
+use Rattle.oneshot_errors.specs.declared.recv_timeout.RecvTimeoutError.{RecvTimeoutError}
+use Rattle.oneshot_errors.specs.declared.recv_timeout.RecvTimeoutError.TheVariants as Timeouts
+use Rattle.oneshot_errors.specs.declared.try_recv.TryRecvError.{TryRecvError}
+use Rattle.oneshot_errors.specs.declared.try_recv.TryRecvError.TheVariants as E
 use Rattle.oneshot_drive.specs.BetweenCalls.{Rests, rests_new, rests_open, rests_closed, AtRest, IsClosedAt, is_open_at, try_recv_reply, recv_reply, timed_reply}
 use Rattle.oneshot_drive.specs.Polls.{Polled, unpolled, left_copy, kept_copy, found_sender, has_resolved, IsPolled, IsDisconnected, poll_reply}
 use Rattle.oneshot_word.specs.Received.{both_views}

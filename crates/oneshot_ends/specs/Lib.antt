@@ -13,3 +13,9 @@ pub mod OwnWakers
 pub mod NoLostWakeup
 pub mod OwnExamples
 pub mod Spins
+-- the definitions of the crates beneath that the contracts of `oneshot_reply` name
+pub use Rattle.oneshot_drive.specs.BetweenCalls
+pub use Rattle.oneshot_machine.specs.Called
+pub use Rattle.oneshot_machine.specs.Counts
+pub use Rattle.oneshot_machine.specs.Phases
+pub use Rattle.oneshot_machine.specs.declared.machine.receiver.ReceiverStart

@@ -1,8 +1,8 @@
 //! The receiver as a future, which a task polls.
 
 ghost use Rattle.std.specs.Prelude.{◌≡◌, ◌≢◌, ⊤, Result, Err, IfOk};
-ghost use Rattle.oneshot_drive.specs.declared.errors.recv.RecvError.{RecvError};
-ghost use Rattle.oneshot_drive.specs.declared.errors.try_recv.TryRecvError.TheVariants as Tried;
+ghost use Rattle.oneshot_errors.specs.declared.recv.RecvError.{RecvError};
+ghost use Rattle.oneshot_errors.specs.declared.try_recv.TryRecvError.TheVariants as Tried;
 ghost use Rattle.futures.specs.declared.task.Poll.TheVariants.{Pending};
 ghost use Rattle.futures.specs.Poll.{IfReady, OnPending};
 ghost use Rattle.futures.specs.Task.{Covers, Keeps};
@@ -21,8 +21,8 @@ use crate::ground::{Polling, SharedReceiver};
 use crate::token::WakingHalf;
 use futures::Future;
 use futures::task::{Context, Poll, Source, Waker};
-use oneshot_drive::errors::{RecvError, TryRecvError};
 use oneshot_drive::{async_try_recv, drop_async, poll};
+use oneshot_errors::{RecvError, TryRecvError};
 use oneshot_word::Promise;
 use std::cell::Cell;
 use std::marker::{Model, PhantomData};

@@ -2,8 +2,8 @@
 
 ghost use Rattle.std.specs.Prelude.{◌≡◌, ◌≢◌, Err, IsErr, IfOk, IfSome};
 ghost use Rattle.std.specs.Time.{instant_nanos, FitsClock};
-ghost use Rattle.oneshot_drive.specs.declared.errors.recv_timeout.RecvTimeoutError.TheVariants as Timed;
-ghost use Rattle.oneshot_drive.specs.declared.errors.try_recv.TryRecvError.TheVariants as Tried;
+ghost use Rattle.oneshot_errors.specs.declared.recv_timeout.RecvTimeoutError.TheVariants as Timed;
+ghost use Rattle.oneshot_errors.specs.declared.try_recv.TryRecvError.TheVariants as Tried;
 ghost use Rattle.oneshot_machine.specs.declared.machine.receiver.ReceiverStart.TheVariants.{TryRecv, RecvRef, RecvDeadline};
 ghost use Rattle.oneshot_machine.specs.Counts.{receiver_bound, GrewWithin};
 ghost use Rattle.oneshot_machine.specs.Phases.{receiver_at};
@@ -19,8 +19,8 @@ use crate::ground::{Blocking, ChannelReceiver, SharedReceiver};
 use crate::token::{ParkingHalf, WakingHalf};
 use crate::waker::ChannelWaker;
 use futures::task::{Source, Waker};
-use oneshot_drive::errors::{RecvError, RecvTimeoutError, TryRecvError};
 use oneshot_drive::{drop_receiver, recv, recv_deadline, recv_ref, recv_timeout, try_recv};
+use oneshot_errors::{RecvError, RecvTimeoutError, TryRecvError};
 use oneshot_word::{Promise, ReceiverSide};
 use std::marker::Model;
 use std::sync::Wait;

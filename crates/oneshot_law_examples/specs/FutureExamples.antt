@@ -13,7 +13,7 @@ use Rattle.oneshot_world.specs.declared.trace.WakerName.TheVariants.{Parker, Cop
 use Rattle.oneshot_world.specs.declared.trace.WakerPlace.TheVariants as W
 use Rattle.oneshot_laws.specs.WakerPlaces.{is_cell_kept}
 use Rattle.oneshot_laws.specs.Replies.{is_gone_after_got, is_got_after_full, is_gone_after_closed, is_nothing_only_if_open, is_dropped_once}
-use Rattle.oneshot_law_examples.specs.Notation.{Example, receiver, frees, without_block, carrying, replying, up_to, without, twice, put_behind, answered_by, unmoved_by, uncarried_by, carried_by}
+use Rattle.oneshot_law_examples.specs.Notation.{Example, receiver, frees, without_block, carrying, replying, up_to, without, twice, put_behind, put_before, answered_by, unmoved_by, uncarried_by, carried_by}
 use Rattle.oneshot_law_examples.specs.HistoryExamples.{acting_in, is_legal_trace}
 use Rattle.oneshot_law_examples.specs.LawExamples.{are_wakers_right, marks_in, is_block_right, are_lone_replies_right, fails_at, is_right}
 use Rattle.oneshot_law_examples.specs.WaitExamples.{told_by}
@@ -207,6 +207,7 @@ MisfreedFutures =
     ∷ without 14 (answered_by 13 R.Message sent_to_one_that_left)
     ∷ twice 12 dropped_to_one_that_left
     -- a drop frees before the sender's last operation, or not at all
+    ∷ put_before 11 15 dropped_once_finished
     ∷ put_behind 15 11 dropped_once_finished
     ∷ without 15 (answered_by 14 R.Done dropped_once_finished)
     -- the block is freed twice, by the receiver or by the sender

@@ -101,8 +101,8 @@ replying reply e = record e { reply = Some reply }
 abbrev pub up_to : ℕ → Example → Example
 up_to k x = record x { entries = take k x.entries }
 
--- damages to entry k, counted from 1: it is taken out, exchanged with the next one, put behind a later one,
--- repeated, or changed in its reply, in the message's move or in a waker's
+-- damages to entry k, counted from 1: it is taken out, exchanged with the next one, put behind a later one or
+-- before an earlier one, repeated, or changed in its reply, in the message's move or in a waker's
 abbrev pub without : ℕ → Example → Example
 without k x = record x { entries = take (k - 1) x.entries ++ drop k x.entries }
 
@@ -124,6 +124,16 @@ put_behind later k x =
           ++ take (later - k) (drop k x.entries)
           ++ take 1 (drop (k - 1) x.entries)
           ++ drop later x.entries;
+    }
+
+abbrev pub put_before : ℕ → ℕ → Example → Example
+put_before earlier k x =
+    record x {
+      entries =
+          take (earlier - 1) x.entries
+          ++ take 1 (drop (k - 1) x.entries)
+          ++ take (k - earlier) (drop (earlier - 1) x.entries)
+          ++ drop k x.entries;
     }
 
 abbrev pub twice : ℕ → Example → Example

@@ -13,7 +13,7 @@ use Rattle.oneshot_machine.specs.Logs.{words}
 use Rattle.oneshot_laws.specs.Actions.{is_receive}
 use Rattle.oneshot_laws.specs.Entries.{is_same_reply}
 use Rattle.oneshot_machine.specs.Noted.{Noted}
-use Rattle.oneshot_drive.specs.declared.errors.try_recv.TryRecvError.{TryRecvError}
+use Rattle.oneshot_errors.specs.declared.try_recv.TryRecvError.{TryRecvError}
 use Rattle.oneshot_drive.specs.BetweenCalls.{try_recv_reply}
 use Rattle.oneshot_ends.specs.Ends.{Waking, ReceiverGrew, HasCalls, CallsAddUp, SenderIsOrdered, ReceiverIsOrdered}
 use Rattle.oneshot_bridge.specs.CallsRun.{in_script, receiver_answered}

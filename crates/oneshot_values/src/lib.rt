@@ -5,16 +5,16 @@ ghost use Rattle.oneshot_machine.specs.Called.{as_receiver, as_future};
 ghost use Rattle.oneshot_values.specs.Examples.{WorkedValues, WrongValues};
 ghost use Rattle.oneshot_values.specs.Values.{ReceiverRuns, ErrorRuns};
 
-use oneshot_channel::reply::laws::{
-    a_ticket_has_its_calls, a_ticket_is_in_an_order, a_ticket_took_what_it_found,
-};
-use oneshot_channel::reply::{Answer, Ticket};
 use oneshot_ends::laws::{
     a_future_has_its_calls, a_future_is_in_an_order, a_future_took_what_it_found,
     a_receiver_has_its_calls, a_receiver_is_in_an_order, a_receiver_took_what_it_found,
     an_error_is_in_an_order,
 };
 use oneshot_ends::{AsyncReceiver, Promise, Receiver, SendError};
+use oneshot_reply::laws::{
+    a_ticket_has_its_calls, a_ticket_is_in_an_order, a_ticket_took_what_it_found,
+};
+use oneshot_reply::{Answer, Ticket};
 
 /// For a receiver between two of its calls, whatever a program did with it and wherever the sender is, some
 /// run of the model has this receiver's log, and exactly its calls with the replies that the program got.

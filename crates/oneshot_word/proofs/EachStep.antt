@@ -69,17 +69,17 @@ module _ {T H K P : Type 0} (keeps : P → T → Type 0) (q : P) where
     sender_goes : {ws : List ℕ} {hs : List (Home T H K)} {vs : List (View T H K P)} {id : ℕ} → me.0.about ≡ q
         → SenderSeat keeps me → SenderAsks me op → Sits keeps q ws hs vs id Sender me.0.log me.0.passed me.0.handed
         → Goes (SenderStepped keeps me op) ws hs vs id
-    sender_goes same seat may (sender_sits {w = found} {h} {k} ys taken put order there there' one claimed) =
+    sender_goes same seat asks (sender_sits {w = found} {h} {k} ys taken put order there there' one claimed) =
         let m : Held T = message_in me.1 in
         let w : Held (AnyWaker H K) = waker_in me.1 in
         let woke : Option (AnyWaker H K) = me.0.handed in
         let has = subst (Has waker_first (sender_owns (sender_at me.0.log))) same seat.has in
-        let none = gave_no (sender_at me.0.log) may has seat.passed in
+        let none = gave_no (sender_at me.0.log) asks has seat.passed in
         let offers = seat_fits {fits' = IsPut put} (λ x is. holds_put seat.handed claimed is)
         (seat_as {kept' = Offers keeps q m}
         (λ x is k. (k, subst (λ m. gave m away None ≡ Some x) (sym is) refl)) has) in
         let lies = lies_as {kept' = Offers keeps q m} (λ x k. let is = sym none ∙ k.1 in absurd (cc is)) there in
-        elim (sender_turns {kept = Offers keeps q m} {fits = IsPut put} {word = found} may offers
+        elim (sender_turns {kept = Offers keeps q m} {fits = IsPut put} {word = found} asks offers
         (meet (between order) lies there')) [
           | turn {h'} {k'} {m'} {w'} act valid homes word lies lies' (finds row turns turns') has code ↦
               let found_so = finds row turns turns' in
@@ -122,7 +122,7 @@ module _ {T H K P : Type 0} (keeps : P → T → Type 0) (q : P) where
         → ReceiverSeat keeps me → ReceiverAsks me op → Sits keeps q ws hs vs id Receiver me.0.log me.0.passed
         me.0.handed
         → Goes (ReceiverStepped keeps me op) ws hs vs id
-    receiver_goes same seat may (receiver_sits {w = found} {h} {k} xs given woke order there there' one claimed) =
+    receiver_goes same seat asks (receiver_sits {w = found} {h} {k} xs given woke order there there' one claimed) =
         let m : Held T = message_in me.1 in
         let w : Held (AnyWaker H K) = waker_in me.1 in
         let put : Option (AnyWaker H K) = me.0.handed in
@@ -130,7 +130,7 @@ module _ {T H K P : Type 0} (keeps : P → T → Type 0) (q : P) where
         let holds = seat_fits {fits' = λ x. gave w away put ≡ Some x}
         (λ x is. subst (λ w. gave w away put ≡ Some x) (sym is) refl)
         (seat_as {kept' = IsGiven keeps q given} (λ x is k. (k, holds_given seat.passed one is)) has) in
-        elim (receiver_turns {kept = IsGiven keeps q given} {fits = λ x. gave w away put ≡ Some x} {word = found} may
+        elim (receiver_turns {kept = IsGiven keeps q given} {fits = λ x. gave w away put ≡ Some x} {word = found} asks
         holds (meet (between order) there (rests_as (sender_at xs) (receiver_at me.0.log) w has there'))) [
           | turn {h'} {k'} {m'} {w'} act valid homes word lies lies' (finds row turns turns') has code ↦
               let found_so = finds row turns turns' in
@@ -176,14 +176,14 @@ module _ {T H K P : Type 0} (keeps : P → T → Type 0) (q : P) where
 
     pub sender_allowed : (slots id : ℕ) → SenderSeat keeps me → SenderAsks me op
         → Allows Holds slots id me 0 (stepped op) (SenderStepped keeps me op)
-    sender_allowed slots id seat may s tied _ at _ =
+    sender_allowed slots id seat asks s tied _ at _ =
         let same = knows tied id at in
-        sender_goes same seat may
+        sender_goes same seat asks
         (sits tied id (at ∙ (λ i. maybe.some (view (same i) (seat.role i) me.0.log me.0.passed me.0.handed))))
 
     pub receiver_allowed : (slots id : ℕ) → ReceiverSeat keeps me → ReceiverAsks me op
         → Allows Holds slots id me 0 (stepped op) (ReceiverStepped keeps me op)
-    receiver_allowed slots id seat may s tied _ at _ =
+    receiver_allowed slots id seat asks s tied _ at _ =
         let same = knows tied id at in
-        receiver_goes same seat may
+        receiver_goes same seat asks
         (sits tied id (at ∙ (λ i. maybe.some (view (same i) (seat.role i) me.0.log me.0.passed me.0.handed))))

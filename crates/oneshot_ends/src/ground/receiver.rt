@@ -91,7 +91,7 @@ impl<T: Drop, P: Promise<T>> ReceiverGround<T, AnyWaker<WakingHalf, Waker>>
     ghost use Rattle.atomic_table.specs.Seated.{TableId};
     ghost use Rattle.oneshot_ends.specs.Grounds.{state_of};
     ghost use Rattle.oneshot_ends.specs.OwnWakers.{WaitsByNoThread, WaitsByHalvesOf};
-    ghost use Rattle.oneshot_ends.specs.Taken.{KeepsTaken};
+    ghost use Rattle.oneshot_ends.specs.Taken.{KeepsTaken, taken_stays, taken_stays_on};
 
     ghost state = { state_of };
 
@@ -100,14 +100,13 @@ impl<T: Drop, P: Promise<T>> ReceiverGround<T, AnyWaker<WakingHalf, Waker>>
     ghost keeps = { λ a b. (b.about ≡ a.about) × ((parker : TableId) → WaitsByHalvesOf parker a → WaitsByHalvesOf parker b)
         × (WaitsByNoThread a → WaitsByNoThread b) × KeepsTaken a.passed b.passed a.log b.log };
 
-    ghost keeps_same = { λ _.
-        (refl, λ _ owned. owned, λ free. free, record { stays = λ _ is. is; found = λ so. so }) };
+    ghost keeps_same = { λ _. (refl, λ _ owned. owned, λ free. free, taken_stays) };
 
     ghost keeps_on = { λ _ _ _ e f. (
       f.0 ∙ e.0,
       λ parker owned. f.1 parker (e.1 parker owned),
       λ free. f.2 (e.2 free),
-      record { stays = λ x is. f.3.stays x (e.3.stays x is); found = λ so. f.3.found (e.3.found so) },
+      taken_stays_on e.3 f.3,
     ) };
 
     // No call on the ground alone gives a waker: one lends it with what it waits by.

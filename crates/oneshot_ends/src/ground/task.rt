@@ -5,7 +5,7 @@ ghost use Rattle.futures.specs.Task.{IsArmed, Hears, Keeps};
 ghost use Rattle.oneshot_machine.specs.Logs.{Grows, copied};
 ghost use Rattle.oneshot_ends.specs.Copies.{HasMade, HasNoneOf};
 ghost use Rattle.oneshot_ends.specs.OwnWakers.{IsNoThread, WaitsByNoThread};
-ghost use Rattle.oneshot_ends.specs.Taken.{KeepsTaken};
+ghost use Rattle.oneshot_ends.specs.Taken.{KeepsTaken, taken_stays, taken_stays_on};
 ghost use Rattle.oneshot_ends.specs.Polling.{polled_state, token_of};
 
 use super::ChannelReceiver;
@@ -46,20 +46,14 @@ impl<'g, 'c, 'x, T: Drop, P: Promise<T>> ReceiverGround<T, Copied>
         × (b.ground.now.about ≡ a.ground.now.about) × (WaitsByNoThread a.ground.now → WaitsByNoThread b.ground.now)
         × KeepsTaken a.ground.now.passed b.ground.now.passed a.ground.now.log b.ground.now.log };
 
-    ghost keeps_same = { λ a. (
-      λ fact h. h,
-      λ i. a.source.now.id,
-      refl,
-      λ free. free,
-      record { stays = λ _ is. is; found = λ so. so },
-    ) };
+    ghost keeps_same = { λ a. (λ fact h. h, λ i. a.source.now.id, refl, λ free. free, taken_stays) };
 
     ghost keeps_on = { λ a b c f g. (
       λ fact h. g.0 fact (f.0 fact h),
       f.1 ∙ g.1,
       g.2 ∙ f.2,
       λ free. g.3 (f.3 free),
-      record { stays = λ x is. g.4.stays x (f.4.stays x is); found = λ so. g.4.found (f.4.found so) },
+      taken_stays_on f.4 g.4,
     ) };
 
     ghost has = { λ _ _. ⊤ };

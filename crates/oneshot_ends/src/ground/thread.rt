@@ -71,7 +71,7 @@ impl<'g, 'p, 'r, T: Drop, Rt, P: Promise<T>> ReceiverGround<T, ChannelWaker>
     for Blocking<'g, 'p, 'r, ChannelReceiver<T, P>, Rt> {
     ghost use Rattle.std.specs.Prelude.{[], ◌∷◌, IfSome};
     ghost use Rattle.std.proofs.Common.{◌∙◌, refl, sym, subst, Some};
-    ghost use Rattle.oneshot_ends.specs.Taken.{KeepsTaken};
+    ghost use Rattle.oneshot_ends.specs.Taken.{KeepsTaken, taken_stays, taken_stays_on};
     ghost use Rattle.oneshot_ends.specs.Grounds.{lent};
     ghost use Rattle.oneshot_ends.specs.OwnWakers.{IsHalfOf, WaitsByHalvesOf};
     ghost use Rattle.oneshot_ends.specs.Spins.{HasToken};
@@ -88,15 +88,14 @@ impl<'g, 'p, 'r, T: Drop, Rt, P: Promise<T>> ReceiverGround<T, ChannelWaker>
         × (WaitsByHalvesOf a.parker.now.parker a.ground.now → WaitsByHalvesOf b.parker.now.parker b.ground.now)
         × KeepsTaken a.ground.now.passed b.ground.now.passed a.ground.now.log b.ground.now.log };
 
-    ghost keeps_same = { λ _.
-        (refl, λ has. has, refl, λ owned. owned, record { stays = λ _ is. is; found = λ so. so }) };
+    ghost keeps_same = { λ _. (refl, λ has. has, refl, λ owned. owned, taken_stays) };
 
     ghost keeps_on = { λ _ _ _ e f. (
       f.0 ∙ e.0,
       λ has. f.1 (e.1 has),
       f.2 ∙ e.2,
       λ owned. f.3 (e.3 owned),
-      record { stays = λ x is. f.4.stays x (e.4.stays x is); found = λ so. f.4.found (e.4.found so) },
+      taken_stays_on e.4 f.4,
     ) };
 
     // Its wakers, with the one beside it, are those of its parker.
@@ -155,7 +154,12 @@ impl<'g, 'p, 'r, T: Drop, Rt, P: Promise<T>> WaitGround<T, ChannelWaker>
 
 impl<'g, 'p, 'r, T: Drop, Rt: Wait + Clock, P: Promise<T>> BlockGround<T, ChannelWaker>
     for Blocking<'g, 'p, 'r, ChannelReceiver<T, P>, Rt> {
-    ghost use Rattle.oneshot_ends.specs.Spins.{MaySpin, Parked};
+    ghost use Rattle.oneshot_ends.specs.Spins.{MaySpin, Parked, HasToken};
+    ghost use Rattle.std.specs.Prelude.{[], ◌∷◌};
+    ghost use Rattle.oneshot_machine.specs.Logs.{Grows, clocked};
+    ghost use Rattle.oneshot_ends.specs.Taken.{KeepsTaken};
+    ghost use Rattle.oneshot_ends.specs.Grounds.{lent};
+    ghost use Rattle.oneshot_ends.specs.OwnWakers.{WaitsByHalvesOf};
 
     ghost parks = { λ timed a b. Parked (MaySpin timed a.spins a.deadline a.reading) timed
         (record { spins = a.spins; slept = a.slept; taken = a.parker.now.taken })
@@ -181,14 +185,29 @@ impl<'g, 'p, 'r, T: Drop, Rt: Wait + Clock, P: Promise<T>> BlockGround<T, Channe
         }
     }
 
-    fn over(&mut self) -> bool {
+    /// As in any `BlockGround`. The wait past the deadline, for a sender about to finish, spins again.
+    fn over(&mut self) -> bool
+        ensures log { Grows (lent (self.old.ground.ghost_name ∷ self.old.parker.ghost_name ∷ []) self.old.ground.now).log
+            (lent (self.new.ground.ghost_name ∷ self.new.parker.ghost_name ∷ []) self.new.ground.now).log
+            (clocked result ∷ []) }
+        ensures message { self.new.ground.now.message ≡ self.old.ground.now.message }
+        ensures waker { self.new.ground.now.waker ≡ self.old.ground.now.waker }
+        ensures keeps { (self.new.ground.now.about ≡ self.old.ground.now.about) × (
+            HasToken (record { spins = self.old.spins; slept = self.old.slept; taken = self.old.parker.now.taken })
+            → HasToken (record { spins = self.new.spins; slept = self.new.slept; taken = self.new.parker.now.taken }))
+            × (self.new.parker.now.parker ≡ self.old.parker.now.parker)
+            × (WaitsByHalvesOf self.old.parker.now.parker self.old.ground.now
+            → WaitsByHalvesOf self.new.parker.now.parker self.new.ground.now)
+            × KeepsTaken self.old.ground.now.passed self.new.ground.now.passed
+            self.old.ground.now.log self.new.ground.now.log }
+        ensures spins { result ≡ true → self.new.spins ≡ 0 }
+    {
         self.reading = match self.made.take() {
             Some(reading) => reading,
             None => read(self.rt),
         };
         let over = self.deadline.is_over(self.reading);
         if over {
-            // The wait past the deadline, for a sender about to finish, spins again.
             self.spins = 0;
         }
         over

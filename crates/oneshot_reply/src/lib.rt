@@ -1,4 +1,5 @@
 //! Typed requests: every reply that a ticket returns is right, and answers the ticket's own question.
+#![tactic(auto)]
 
 mod answer;
 mod asked;

@@ -1,19 +1,19 @@
 //! A ticket: the receiver of the reply to a question.
 
 ghost use Rattle.std.specs.Prelude.{◌≡◌, ◌≢◌, true, Err, IsErr, IfOk};
-ghost use Rattle.oneshot_drive.specs.declared.errors.recv_timeout.RecvTimeoutError.TheVariants as Timed;
-ghost use Rattle.oneshot_drive.specs.declared.errors.try_recv.TryRecvError.TheVariants as Tried;
-ghost use Rattle.oneshot_machine.specs.declared.machine.receiver.ReceiverStart.TheVariants.{TryRecv};
-ghost use Rattle.oneshot_machine.specs.Counts.{receiver_bound, GrewWithin};
-ghost use Rattle.oneshot_machine.specs.Phases.{receiver_at};
-ghost use Rattle.oneshot_drive.specs.BetweenCalls.{Leaves, LeavesTimed, try_recv_reply, timed_reply};
+ghost use Rattle.oneshot_errors.specs.declared.recv_timeout.RecvTimeoutError.TheVariants as Timed;
+ghost use Rattle.oneshot_errors.specs.declared.try_recv.TryRecvError.TheVariants as Tried;
+ghost use Rattle.oneshot_ends.specs.ReceiverStart.TheVariants.{TryRecv};
+ghost use Rattle.oneshot_ends.specs.Counts.{receiver_bound, GrewWithin};
+ghost use Rattle.oneshot_ends.specs.Phases.{receiver_at};
+ghost use Rattle.oneshot_ends.specs.BetweenCalls.{Leaves, LeavesTimed, try_recv_reply, timed_reply};
 ghost use Rattle.oneshot_ends.specs.Ends.{IsClosed, IsOpen, ReceiverGrew, TimeoutGrew};
 ghost use Rattle.oneshot_ends.specs.Taken.{Takes};
 
-use crate::reply::answer::Answer;
-use crate::reply::asked::Asked;
-use oneshot_drive::errors::{RecvError, RecvTimeoutError, TryRecvError};
+use crate::answer::Answer;
+use crate::asked::Asked;
 use oneshot_ends::{AsyncReceiver, Receiver};
+use oneshot_errors::{RecvError, RecvTimeoutError, TryRecvError};
 use std::marker::Model;
 use std::sync::Wait;
 use std::time::{Clock, Duration};
@@ -35,7 +35,7 @@ pub struct Ticket<Q: Eq, A: Answer<Q>, Rt> {
 
 impl<Q: Eq, A: Answer<Q>, Rt> Model for Ticket<Q, A, Rt> {
     ghost use Rattle.oneshot_ends.specs.Ends.{EndOf};
-    ghost use Rattle.oneshot_channel.specs.declared.reply.asked.Asked.{Asked};
+    ghost use Rattle.oneshot_reply.specs.declared.asked.Asked.{Asked};
 
     ghost Value = { EndOf A (Asked Q) };
 

@@ -18,7 +18,7 @@ pub enum TryRecvError {
 
 impl Display for TryRecvError {
     ghost use Rattle.std.specs.Prelude.{Some};
-    ghost use Rattle.oneshot_drive.specs.ErrorTexts.{try_recv_text};
+    ghost use Rattle.oneshot_errors.specs.Texts.{try_recv_text};
 
     ghost output = { λ error. Some (try_recv_text error) };
 

@@ -1,9 +1,9 @@
 -- The texts of the receives' errors.
 use Rattle.std.specs.Prelude.{ℕ, List, codes}
-use Rattle.oneshot_drive.specs.declared.errors.try_recv.TryRecvError.{TryRecvError}
-use Rattle.oneshot_drive.specs.declared.errors.try_recv.TryRecvError.TheVariants.{Empty, Disconnected}
-use Rattle.oneshot_drive.specs.declared.errors.recv_timeout.RecvTimeoutError.{RecvTimeoutError}
-use Rattle.oneshot_drive.specs.declared.errors.recv_timeout.RecvTimeoutError.TheVariants as timed
+use Rattle.oneshot_errors.specs.declared.try_recv.TryRecvError.{TryRecvError}
+use Rattle.oneshot_errors.specs.declared.try_recv.TryRecvError.TheVariants.{Empty, Disconnected}
+use Rattle.oneshot_errors.specs.declared.recv_timeout.RecvTimeoutError.{RecvTimeoutError}
+use Rattle.oneshot_errors.specs.declared.recv_timeout.RecvTimeoutError.TheVariants as timed
 
 abbrev pub try_recv_text : TryRecvError → List ℕ
 try_recv_text Empty = codes "receiving on an empty channel"

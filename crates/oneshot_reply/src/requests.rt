@@ -2,8 +2,8 @@
 
 ghost use Rattle.std.specs.Prelude.{◌≡◌, true, IfErr};
 
-use crate::reply::answer::Answer;
-use crate::reply::asked::Asked;
+use crate::answer::Answer;
+use crate::asked::Asked;
 use oneshot_ends::{SendError, Sender};
 use std::marker::Model;
 
@@ -24,7 +24,7 @@ pub struct Request<Q: Eq, A: Answer<Q>> {
 impl<Q: Eq, A: Answer<Q>> Model for Request<Q, A> {
     ghost use Rattle.std.specs.Prelude.{◌≡◌};
     ghost use Rattle.oneshot_ends.specs.Ends.{SenderEndOf};
-    ghost use Rattle.oneshot_channel.specs.declared.reply.asked.Asked.{Asked};
+    ghost use Rattle.oneshot_reply.specs.declared.asked.Asked.{Asked};
 
     ghost Value = { SenderEndOf (Asked Q) };
 

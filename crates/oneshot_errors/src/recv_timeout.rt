@@ -20,7 +20,7 @@ pub enum RecvTimeoutError {
 
 impl Display for RecvTimeoutError {
     ghost use Rattle.std.specs.Prelude.{Some};
-    ghost use Rattle.oneshot_drive.specs.ErrorTexts.{recv_timeout_text};
+    ghost use Rattle.oneshot_errors.specs.Texts.{recv_timeout_text};
 
     ghost output = { λ error. Some (recv_timeout_text error) };
 

@@ -1,13 +1,13 @@
 //! Laws of tickets and requests, from the laws of the ends in them.
 
 ghost use Rattle.std.specs.Prelude.{◌≡◌, []};
-ghost use Rattle.oneshot_machine.specs.Called.{as_receiver};
+ghost use Rattle.oneshot_ends.specs.Called.{as_receiver};
 ghost use Rattle.oneshot_ends.specs.Ends.{HasCalls, ReceiverIsOrdered};
 ghost use Rattle.oneshot_ends.specs.Taken.{TookAsFound};
 
-use crate::reply::answer::Answer;
-use crate::reply::requests::Request;
-use crate::reply::ticket::Ticket;
+use crate::answer::Answer;
+use crate::requests::Request;
+use crate::ticket::Ticket;
 use oneshot_ends::laws::{
     a_receiver_has_its_calls, a_receiver_is_in_an_order, a_receiver_took_what_it_found,
     a_sender_has_made_none,

@@ -13,7 +13,7 @@ pub struct RecvError;
 
 impl Display for RecvError {
     ghost use Rattle.std.specs.Prelude.{Some};
-    ghost use Rattle.oneshot_drive.specs.ErrorTexts.{recv_text};
+    ghost use Rattle.oneshot_errors.specs.Texts.{recv_text};
 
     ghost output = { λ _. Some recv_text };
 

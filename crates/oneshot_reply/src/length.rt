@@ -2,7 +2,7 @@
 
 ghost use Rattle.std.specs.Prelude.{◌≡◌, string_len};
 
-use crate::reply::answer::Answer;
+use crate::answer::Answer;
 
 /// The number of bytes of a text, as the answer to that text. The type guarantees that it is right.
 #[derive(Drop)]

@@ -1,4 +1,5 @@
 //! The errors of the receives.
+#![tactic(auto)]
 
 pub mod laws;
 mod recv;

@@ -3,10 +3,10 @@
 ghost use Rattle.std.specs.Prelude.{◌≡◌, IfOk, IfErr, None};
 ghost use Rattle.oneshot_ends.specs.Ends.{IsOpen};
 
-use crate::reply::answer::Answer;
-use crate::reply::asked::Asked;
-use crate::reply::requests::Request;
-use crate::reply::ticket::Ticket;
+use crate::answer::Answer;
+use crate::asked::Asked;
+use crate::requests::Request;
+use crate::ticket::Ticket;
 use oneshot_ends::channel_for;
 use std::alloc::Global;
 

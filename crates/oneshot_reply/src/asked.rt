@@ -2,7 +2,7 @@
 
 ghost use Rattle.std.specs.Prelude.{◌≡◌, true};
 
-use crate::reply::answer::Answer;
+use crate::answer::Answer;
 use oneshot_ends::Promise;
 
 /// The value that the channel of a request is about. Every reply names a question equal to it.

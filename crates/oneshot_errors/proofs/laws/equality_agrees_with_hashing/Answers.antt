@@ -1,9 +1,9 @@
 -- Proofs of the goals that `equality_agrees_with_hashing` leaves.
 use Rattle.std.proofs.Common.{refl, sym}
-use Rattle.oneshot_drive.specs.declared.errors.recv_timeout.RecvTimeoutError.TheVariants.{Timeout, Disconnected as Gone}
-use Rattle.oneshot_drive.specs.declared.errors.try_recv.TryRecvError.TheVariants.{Empty, Disconnected}
-use Rattle.oneshot_drive.proofs.ErrorEquality.{usize-apart}
-use Rattle.oneshot_drive.proofs.errors.laws.equality_agrees_with_hashing.Goals as goal
+use Rattle.oneshot_errors.specs.declared.recv_timeout.RecvTimeoutError.TheVariants.{Timeout, Disconnected as Gone}
+use Rattle.oneshot_errors.specs.declared.try_recv.TryRecvError.TheVariants.{Empty, Disconnected}
+use Rattle.oneshot_errors.proofs.Equality.{usize-apart}
+use Rattle.oneshot_errors.proofs.laws.equality_agrees_with_hashing.Goals as goal
 
 pub returns-clause-recv_timeout : goal.returns-clause-recv_timeout
 returns-clause-recv_timeout c = record {

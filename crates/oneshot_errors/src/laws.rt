@@ -1,8 +1,8 @@
 //! A law of the errors, stated by the contract of a function with an empty body.
 
-ghost use Rattle.oneshot_drive.specs.ErrorEquality.{AgreesWithHashing};
+ghost use Rattle.oneshot_errors.specs.Equality.{AgreesWithHashing};
 
-use crate::errors::{RecvError, RecvTimeoutError, TryRecvError};
+use crate::{RecvError, RecvTimeoutError, TryRecvError};
 use std::hash::Hash;
 
 /// Two errors of one type are equal if and only if they are the same value, and if and only if they write
