@@ -1,0 +1,83 @@
+//! The script of a future, and the tasks that poll it.
+
+use crate::parcel::Parcel;
+use crate::told::{
+    DROPPED, RECORD, RELEASE, TASKS, code_of_try, tell, tell_polled, tell_received, tell_whether,
+};
+use crate::words::Word;
+use futures::test::MockTask;
+use oneshot_channel::{AsyncReceiver, Promise};
+use std::alloc::AllocGlobal;
+use std::random::RandomSource;
+use std::time::Clock;
+
+/// Two tasks, each of an executor of its own.
+#[derive(Drop)]
+pub struct Tasks {
+    one: MockTask,
+    two: MockTask,
+}
+
+/// Makes the tasks, if a script has use for them and there is memory.
+pub fn tasks_of<R: Clock + RandomSource + AllocGlobal>(rt: &R, words: &Vec<Word>) -> Option<Tasks> {
+    if !words.iter().any(|word| *word == Word::Future) {
+        return None;
+    }
+    tell(rt, RECORD);
+    let one = MockTask::new(rt);
+    let two = MockTask::new(rt);
+    tell(rt, RELEASE);
+    match (one, two) {
+        (Ok(one), Ok(two)) => Some(Tasks { one, two }),
+        _ => None,
+    }
+}
+
+impl Tasks {
+    /// Tells of each task whether it is woken.
+    pub fn tell_woken<R: Clock>(&self, rt: &R) {
+        tell(
+            rt,
+            if self.one.is_woken() {
+                TASKS + 1
+            } else {
+                TASKS
+            },
+        );
+        tell(
+            rt,
+            if self.two.is_woken() {
+                TASKS + 3
+            } else {
+                TASKS + 2
+            },
+        );
+    }
+}
+
+/// Makes a call of the future, if the script has one.
+pub fn poll_one<R: Clock, Q: Drop, P: Promise<Parcel>>(
+    rt: &R,
+    word: Word,
+    future: &mut Option<AsyncReceiver<Parcel, Q, P>>,
+    tasks: &Option<Tasks>,
+) {
+    if word == Word::Drop {
+        if let Some(future) = future.take() {
+            drop(future);
+            tell(rt, DROPPED);
+        }
+        return;
+    }
+    let (Some(future), Some(tasks)) = (future.as_mut(), tasks.as_ref()) else {
+        return;
+    };
+    match word {
+        Word::Closed => tell_whether(rt, future.is_closed()),
+        Word::Full => tell_whether(rt, future.has_message()),
+        Word::Try => tell_received(rt, future.try_recv().map_err(code_of_try)),
+        Word::One => tell_polled(rt, tasks.one.poll(future)),
+        Word::Two => tell_polled(rt, tasks.two.poll(future)),
+        _ => {}
+    }
+}

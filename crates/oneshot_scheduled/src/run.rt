@@ -1,0 +1,114 @@
+//! Makes a channel of some kind, and runs a script of each end in a thread.
+
+use crate::parcel::{Any, Parcel, QUESTION};
+use crate::receivers::Receives;
+use crate::receives::receive_all;
+use crate::senders::Sends;
+use crate::sends::send_all;
+use crate::told::{DONE, OPENED, OPENING, READY, RECORD, RELEASE, tell};
+use crate::words::Word;
+use oneshot_channel::reply::request;
+use oneshot_channel::{channel, channel_for};
+use std::alloc::{AllocError, AllocGlobal};
+use std::random::RandomSource;
+use std::sync::Wait;
+use std::thread::{Threads, join};
+use std::time::Clock;
+
+/// The kinds of channels.
+#[derive(Clone, Copy)]
+pub enum Kind {
+    Plain,
+    /// A channel whose messages keep a promise.
+    Promise,
+    /// A request with its ticket.
+    Request,
+    /// A channel whose message has the sender of another channel.
+    Nested,
+}
+
+/// The number in the message.
+const NUMBER: u64 = 7;
+
+/// Both scripts.
+#[derive(Drop)]
+struct Scripts {
+    sends: Vec<Word>,
+    receives: Vec<Word>,
+}
+
+/// Makes a channel of this kind, and runs both scripts, each in a thread.
+///
+/// `Err`: out of memory.
+pub fn run<R: Threads + Wait + Clock + RandomSource + AllocGlobal + Sync>(
+    rt: &R,
+    kind: Kind,
+    sends: Vec<Word>,
+    receives: Vec<Word>,
+) -> Result<(), AllocError> {
+    let scripts = Scripts { sends, receives };
+    tell(rt, RECORD);
+    let content = Box::new(rt.alloc(), NUMBER)?;
+    tell(rt, OPENING);
+    match kind {
+        Kind::Plain => {
+            let (sender, receiver) = channel(rt, rt.alloc())?;
+            run_ends(rt, scripts, Parcel::new(content, None), sender, receiver);
+        }
+        Kind::Promise => {
+            let (sender, receiver) = channel_for(rt, rt.alloc(), &Any)?;
+            run_ends(rt, scripts, Parcel::new(content, None), sender, receiver);
+        }
+        Kind::Request => {
+            let Ok((sender, receiver)) = request(rt, rt.alloc(), QUESTION) else {
+                return Err(AllocError);
+            };
+            run_ends(rt, scripts, Parcel::new(content, None), sender, receiver);
+        }
+        Kind::Nested => run_nested(rt, scripts, content)?,
+    }
+    tell(rt, DONE);
+    Ok(())
+}
+
+/// The receiver of the inner channel waits here, and is dropped when both ends are over.
+fn run_nested<R: Threads + Wait + Clock + RandomSource + AllocGlobal + Sync>(
+    rt: &R,
+    scripts: Scripts,
+    content: Box<u64>,
+) -> Result<(), AllocError> {
+    let (sender, receiver) = channel(rt, rt.alloc())?;
+    tell(rt, OPENED);
+    tell(rt, OPENING);
+    let (inner, waits) = channel((), rt.alloc())?;
+    run_ends(
+        rt,
+        scripts,
+        Parcel::new(content, Some(inner)),
+        sender,
+        receiver,
+    );
+    drop(waits);
+    Ok(())
+}
+
+fn run_ends<R, S, E>(rt: &R, scripts: Scripts, parcel: Parcel, sender: S, receiver: E)
+where
+    R: Threads + Wait + Clock + RandomSource + AllocGlobal + Sync,
+    S: Sends + Send,
+    S::Refused: Send,
+    E: Receives + Send,
+{
+    tell(rt, OPENED);
+    tell(rt, RELEASE);
+    tell(rt, READY);
+    let Scripts { sends, receives } = scripts;
+    // What the sender's script leaves is dropped here, when no end runs any more.
+    let mut left = None;
+    join(
+        rt,
+        || left = Some(send_all(rt, sends, sender, parcel)),
+        || receive_all(rt, receives, receiver),
+    );
+    drop(left);
+}

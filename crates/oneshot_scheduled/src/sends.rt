@@ -1,0 +1,92 @@
+//! The sender's script.
+
+use crate::parcel::Parcel;
+use crate::senders::{Refuses, Sends, Sent};
+use crate::told::{
+    BACK, BEGIN_SENDER, DROPPED, END_SENDER, REFUSED, SENT, tell, tell_parcel, tell_whether,
+};
+use crate::words::Word;
+use std::time::Clock;
+
+/// What the script has, and what it leaves.
+#[derive(Drop)]
+pub struct Sending<S: Sends> {
+    sender: Option<S>,
+    parcel: Option<Parcel>,
+    error: Option<S::Refused>,
+}
+
+/// Makes the calls of the sender's script, and tells what each returned. Returns what is left, to be dropped
+/// when no end runs any more.
+pub fn send_all<R: Clock, S: Sends>(
+    rt: &R,
+    words: Vec<Word>,
+    sender: S,
+    parcel: Parcel,
+) -> Sending<S> {
+    let mut sending = Sending {
+        sender: Some(sender),
+        parcel: Some(parcel),
+        error: None,
+    };
+    tell(rt, BEGIN_SENDER);
+    for word in words.iter() {
+        sending.make(rt, *word);
+    }
+    tell(rt, END_SENDER);
+    sending
+}
+
+impl<S: Sends> Sending<S> {
+    fn make<R: Clock>(&mut self, rt: &R, word: Word) {
+        match word {
+            Word::Closed => {
+                if let Some(sender) = self.sender.as_ref() {
+                    tell_whether(rt, sender.is_closed());
+                }
+            }
+            Word::Raw => {
+                if let Some(sender) = self.sender.take() {
+                    self.sender = Some(sender.there_and_back());
+                }
+            }
+            Word::Send => self.send(rt),
+            Word::Inner => {
+                if let Some(error) = self.error.as_ref() {
+                    tell(rt, BACK.wrapping_add(error.number()));
+                }
+            }
+            Word::Into => {
+                if let Some(error) = self.error.take() {
+                    tell_parcel(rt, BACK, error.into_parcel());
+                }
+            }
+            Word::Drop => self.drop_one(rt),
+            _ => {}
+        }
+    }
+
+    fn send<R: Clock>(&mut self, rt: &R) {
+        if let (Some(sender), Some(parcel)) = (self.sender.take(), self.parcel.take()) {
+            match sender.send(parcel) {
+                Sent::Sent => tell(rt, SENT),
+                Sent::Refused(error) => {
+                    tell(rt, REFUSED);
+                    self.error = Some(error);
+                }
+                Sent::Unfit => {}
+            }
+        }
+    }
+
+    /// Drops the sender, or the error of its message.
+    fn drop_one<R: Clock>(&mut self, rt: &R) {
+        if let Some(sender) = self.sender.take() {
+            drop(sender);
+            tell(rt, DROPPED);
+        } else if let Some(error) = self.error.take() {
+            drop(error);
+            tell(rt, DROPPED);
+        }
+    }
+}

@@ -1,0 +1,191 @@
+//! A run of the model with the position of each end, so that its next step is known before it is made.
+
+use crate::differs::Differs;
+use crate::order::Order;
+use crate::tasks::Tasks;
+use oneshot_machine::machine::{End, ReceiverPos, ReceiverStart, SenderCall, SenderPos, Step};
+use oneshot_replay::{Entry, Made, Move, Replayer};
+use oneshot_text::Request;
+use std::alloc::Global;
+
+/// The most moves of a run, and the most steps of one end in a row that nobody tells.
+const MOST_MOVES: usize = 4096;
+
+pub(crate) const MOST_SILENT: usize = 16;
+
+/// A run of the model between two moves.
+#[derive(Drop)]
+pub(crate) struct Model {
+    run: Replayer<u64>,
+    moves: Vec<Move>,
+    order: Order,
+    tasks: Tasks,
+    message: u64,
+    sender_at: Option<SenderPos>,
+    receiver_at: Option<ReceiverPos>,
+    parks: usize,
+    operations: usize,
+}
+
+impl Model {
+    pub(crate) fn new(alloc: Global, asked: Request) -> Result<Model, Differs> {
+        let message = asked.message();
+        let tasks = Tasks::new(alloc, &asked.receiver.last)?;
+        let Request {
+            sender,
+            receiver,
+            ..
+        } = asked;
+        Ok(Model {
+            run: Replayer::new(sender, receiver),
+            moves: Vec::new(alloc),
+            order: Order::new(alloc),
+            tasks,
+            message,
+            sender_at: None,
+            receiver_at: None,
+            parks: 0,
+            operations: 0,
+        })
+    }
+
+    pub(crate) fn moves(&self) -> &[Move] {
+        self.moves.as_slice()
+    }
+
+    pub(crate) fn digest(&self) -> u64 {
+        self.order.digest()
+    }
+
+    pub(crate) fn tasks(&self) -> &Tasks {
+        &self.tasks
+    }
+
+    pub(crate) fn message(&self) -> u64 {
+        self.message
+    }
+
+    /// How often the receiver has parked.
+    pub(crate) fn parks(&self) -> usize {
+        self.parks
+    }
+
+    /// How many operations on the word were made.
+    pub(crate) fn operations(&self) -> usize {
+        self.operations
+    }
+
+    pub(crate) fn block_freed(&self) -> bool {
+        self.run.block_freed()
+    }
+
+    /// Whether a call of this end is under way or left.
+    pub(crate) fn has_call(&self, end: End) -> bool {
+        match end {
+            End::Sender => self.run.sender_call().is_some(),
+            End::Receiver => self.run.receiver_call().is_some(),
+        }
+    }
+
+    /// Whether a call of this end is under way.
+    pub(crate) fn is_under_way(&self, end: End) -> bool {
+        match end {
+            End::Sender => self.sender_at.is_some(),
+            End::Receiver => self.receiver_at.is_some(),
+        }
+    }
+
+    /// Whether the sender is dropped at its next step, or about to be.
+    pub(crate) fn drops_sender(&self) -> bool {
+        self.run.sender_call() == Some(SenderCall::Drop)
+    }
+
+    /// Whether the receiver's next step reads the clock to compute a deadline.
+    pub(crate) fn computes_deadline(&self) -> bool {
+        let call = self.run.receiver_call();
+        self.receiver_at.is_none() && matches!(call, Some(ReceiverStart::RecvTimeout { .. }))
+    }
+
+    /// The next step of an end; `None` if its script is finished.
+    pub(crate) fn next_step(&self, end: End) -> Option<Step> {
+        match end {
+            End::Sender => {
+                let start = self.run.sender_call().map(SenderPos::start);
+                Some(self.sender_at.or(start)?.step())
+            }
+            End::Receiver => {
+                let start = self.run.receiver_call().map(ReceiverPos::start);
+                Some(self.receiver_at.or(start)?.step())
+            }
+        }
+    }
+
+    /// Makes the next step of an end. A clock that it reads is past the deadline if `over`.
+    pub(crate) fn advance(&mut self, end: End, over: bool) -> Result<Made, Differs> {
+        self.take_position(end);
+        if self.moves.len() >= MOST_MOVES || self.run.count() == usize::MAX {
+            return Err(Differs::TooLong);
+        }
+        let m = match end {
+            End::Sender => Move::Sender,
+            End::Receiver => Move::Receiver {
+                over,
+                refuse: false,
+            },
+        };
+        let Entry::Made(made) = self.run.step(m) else {
+            return Err(Differs::NothingLeft(end));
+        };
+        self.moves.push(m)?;
+        self.note(&made)?;
+        Ok(made)
+    }
+
+    /// An end that begins a call is at the call's first position.
+    fn take_position(&mut self, end: End) {
+        if end == End::Sender && self.sender_at.is_none() {
+            self.sender_at = self.run.sender_call().map(SenderPos::start);
+        }
+        if end == End::Receiver && self.receiver_at.is_none() {
+            self.receiver_at = self.run.receiver_call().map(ReceiverPos::start);
+        }
+    }
+
+    /// Notes what a step did, and where it leads.
+    fn note(&mut self, made: &Made) -> Result<(), Differs> {
+        self.order.note(made)?;
+        self.tasks.note(made)?;
+        match made.step {
+            Step::Park => self.parks = self.parks.saturating_add(1),
+            Step::Word(_) => self.operations = self.operations.saturating_add(1),
+            _ => {}
+        }
+        match made.side {
+            End::Sender => self.sender_at = self
+                .sender_at
+                .filter(|at| at.accepts(made.seen))
+                .map(|at| at.next(made.seen).0),
+            End::Receiver => self.receiver_at = self
+                .receiver_at
+                .filter(|at| at.accepts(made.seen))
+                .map(|at| at.next(made.seen).0),
+        }
+        if made.reply.is_some() {
+            self.end_call(made.side);
+        }
+        Ok(())
+    }
+
+    /// The call under way has replied. If the next is a poll, its task begins it at once.
+    fn end_call(&mut self, end: End) {
+        match end {
+            End::Sender => self.sender_at = None,
+            End::Receiver => {
+                self.receiver_at = None;
+                if self.run.receiver_call() == Some(ReceiverStart::Poll) {
+                    self.tasks.begin_poll();
+                }
+            }
+        }
+    }
+}

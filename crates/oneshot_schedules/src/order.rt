@@ -1,0 +1,117 @@
+//! The order of a run, by which runs are compared: what each operation found, each reading of a clock and each reply, of
+//! the one end and then of the other. What a call repeats while it waits counts once.
+
+use oneshot_machine::machine::{End, Reply, Seen, Step};
+use oneshot_machine::states::Op;
+use oneshot_replay::Made;
+use std::alloc::{AllocError, Global};
+
+/// What one end did, as numbers, and where those of its call under way begin.
+#[derive(Drop)]
+struct Steps {
+    numbers: Vec<u64>,
+    call: usize,
+}
+
+/// What both ends did.
+#[derive(Drop)]
+pub(crate) struct Order {
+    sender: Steps,
+    receiver: Steps,
+}
+
+impl Steps {
+    fn new(alloc: Global) -> Steps {
+        Steps {
+            numbers: Vec::new(alloc),
+            call: 0,
+        }
+    }
+
+    fn note(&mut self, made: &Made) -> Result<(), AllocError> {
+        if let Some(number) = number_of(made.step, made.seen) {
+            if !self
+                .numbers
+                .iter()
+                .skip(self.call)
+                .any(|other| *other == number)
+            {
+                self.numbers.push(number)?;
+            }
+        }
+        if let Some(reply) = made.reply {
+            self.numbers.push(number_of_reply(reply))?;
+            self.call = self.numbers.len();
+        }
+        Ok(())
+    }
+}
+
+impl Order {
+    pub(crate) fn new(alloc: Global) -> Order {
+        Order {
+            sender: Steps::new(alloc),
+            receiver: Steps::new(alloc),
+        }
+    }
+
+    /// Adds an entry.
+    pub(crate) fn note(&mut self, made: &Made) -> Result<(), AllocError> {
+        match made.side {
+            End::Sender => self.sender.note(made),
+            End::Receiver => self.receiver.note(made),
+        }
+    }
+
+    /// The 64-bit FNV-1a digest of both ends' numbers, by which orders are told apart.
+    pub(crate) fn digest(&self) -> u64 {
+        let mut state = 0xcbf2_9ce4_8422_2325_u64;
+        for steps in [&self.sender, &self.receiver] {
+            for number in steps.numbers.as_slice() {
+                state = mixed(state, *number);
+            }
+            state = mixed(state, u64::MAX);
+        }
+        state
+    }
+}
+
+fn mixed(state: u64, number: u64) -> u64 {
+    (state ^ number).wrapping_mul(0x0100_0000_01b3)
+}
+
+/// The number of a step that others can tell, with what it sees.
+fn number_of(step: Step, seen: Seen) -> Option<u64> {
+    let kind: u64 = match step {
+        Step::Word(Op::Load) => 0,
+        Step::Word(Op::Store(_)) => 10,
+        Step::Word(Op::Swap(_)) => 20,
+        Step::Word(Op::Exchange(_, _)) => 30,
+        Step::Word(Op::Add) => 40,
+        Step::Word(Op::Xor) => 50,
+        Step::Clock => 60,
+        _ => return None,
+    };
+    let found = match seen {
+        Seen::Word(word) => u64::from(word),
+        Seen::Over(over) => u64::from(over),
+        _ => 9,
+    };
+    Some(kind + found)
+}
+
+fn number_of_reply(reply: Reply) -> u64 {
+    match reply {
+        Reply::Sent => 1000,
+        Reply::Refused => 1001,
+        Reply::Yes => 1002,
+        Reply::No => 1003,
+        Reply::Message => 1004,
+        Reply::Empty => 1005,
+        Reply::Timeout => 1006,
+        Reply::Disconnected => 1007,
+        Reply::Pending => 1008,
+        Reply::Future => 1009,
+        Reply::Done => 1010,
+    }
+}

@@ -1,0 +1,50 @@
+"""The compiled programs: those that `rt ci` left in out/, or built now; and the scheduler."""
+import os
+import shutil
+import subprocess
+import sys
+
+from parts.compare import Differs
+from parts.sources import CRATES, crates
+
+SCHEDULER = CRATES.parent / "scripts" / "parts" / "schedules"
+# The ending of what a compiler makes, as `rt ci` names it.
+ENDINGS = {"llvm": "", "rattle": ".by-rattle"}
+
+
+def beneath(crate, listed):
+    return {crate}.union(*(beneath(library, listed) for library in listed[crate] if library in listed))
+
+
+def newest_source(crate):
+    """When the sources of a crate and of those beneath it were last written."""
+    files = [file for name in beneath(crate, crates()) for part in ("src", "specs", "proofs")
+             for file in (CRATES / name / part).rglob("*") if file.is_file()]
+    return max(file.stat().st_mtime for file in files)
+
+
+def find_program(crate, compiler="llvm"):
+    folder = CRATES / crate
+    program = folder / "out" / f"{crate}{ENDINGS[compiler]}"
+    if not program.exists() or program.stat().st_mtime < newest_source(crate):
+        print(f"schedules: proving and building {crate}, which takes minutes the first time", file=sys.stderr, flush=True)
+        words = (folder / "args").read_text().split() if (folder / "args").exists() else []
+        with open(folder / "stdin" if (folder / "stdin").exists() else os.devnull) as given:
+            ran = subprocess.run(["rt", "run", "--backend", compiler, "--", *words], cwd=folder, stdin=given,
+                                 stdout=subprocess.DEVNULL)
+        if ran.returncode != 0:
+            sys.exit(f"schedules: {crate} was not built")
+        if compiler != "llvm":
+            shutil.move(folder / "out" / crate, program)
+    return str(program)
+
+
+def compile_scheduler(folder):
+    """The library that is loaded before the program."""
+    made = folder / "schedules.so"
+    flags = ["-O2", "-Wall", "-Wextra", "-shared", "-fPIC", "-ftls-model=initial-exec"]
+    files = sorted(str(file) for file in SCHEDULER.glob("*.c"))
+    ran = subprocess.run([os.environ.get("CC", "cc"), *flags, "-o", str(made), *files], capture_output=True, text=True)
+    if ran.returncode or ran.stderr:
+        raise Differs(ran.stderr)
+    return str(made)

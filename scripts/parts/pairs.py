@@ -1,0 +1,64 @@
+"""The pairs of scripts whose runs are gone through: the words of the program, and the same in an input of oneshot-run."""
+import collections
+import re
+
+# A kind of channel, both scripts, and what is explored of them.
+Pair = collections.namedtuple("Pair", "kind sender receiver settings")
+
+SENDERS = ["send", "drop", "closed send", "send inner into", "send drop", "raw send into", "", "closed closed drop"]
+TRIES = ["try drop", "try try drop", "try try try drop", "drop", "full closed try drop", "full try full closed drop",
+         "raw try drop", "raw drop", ""]
+POLLS = ["future drop", "future poll1 drop", "future poll1 poll1 drop", "future poll1 poll2 drop",
+         "future poll1 poll2 poll1 drop", "future poll1 poll1 poll1 drop", "future try drop", "future poll1 try drop",
+         "future poll1 try poll2 drop", "future poll1 full poll2 full drop", "future try poll1 poll2 try drop",
+         "future full poll1 closed poll2 drop", "raw future poll1 drop", "future poll1", "future poll1 poll2",
+         "future poll1 poll1", "future try try try drop"]
+WAITS = ["recv", "ref drop", "try recv", "raw recv", "ref try drop", "full recv", "forever drop"]
+TIMED = ["timeout drop", "zerotimeout drop", "deadline drop", "zerodeadline drop", "timeout try drop",
+         "deadline ref drop", "timeout timeout drop", "timeout future poll1 drop", "timeout recv", "fartimeout drop",
+         "fardeadline drop"]
+ASKED = ["try drop", "closed try drop", "drop", "recv", "try recv", "timeout drop", "timeout recv", "forever drop",
+         "future poll1 drop", "future poll1 poll2 drop"]
+WORDS = set(" ".join(SENDERS + TRIES + POLLS + WAITS + TIMED + ASKED).split())
+KINDS = ["", "promise", "request", "nested"]
+
+
+def pairs_of(kind, receivers, settings="", senders=SENDERS):
+    return [Pair(kind, sender, receiver, settings) for receiver in receivers for sender in senders]
+
+
+# With no argument: what ends in three minutes. Left out are the pairs of thousands of runs.
+SHORT = (pairs_of("", TRIES) + pairs_of("", POLLS[:4])
+         + pairs_of("", POLLS[4:], senders=["send", "closed send", "send inner into"])
+         + pairs_of("", ["recv", "ref drop", "forever drop"], senders=["send", "drop", ""])
+         + pairs_of("", ["timeout drop", "fardeadline drop"], "readings=1", ["send", "drop"])
+         + pairs_of("promise", ["try drop", "future poll1 drop"], senders=SENDERS[:5])
+         + pairs_of("request", ["closed try drop", "future poll1 drop", "recv"], senders=["send", "closed send"])
+         + pairs_of("nested", ["try drop", "drop"], senders=["send", "send into", "drop"]))
+# With --all.
+ALL = (pairs_of("", TRIES) + pairs_of("", POLLS) + pairs_of("", WAITS) + pairs_of("", TIMED, "readings=5")
+       + pairs_of("", ["timeout drop", "deadline drop", "fartimeout drop"], "readings=3 failing-clock=1", SENDERS[:2])
+       + pairs_of("", ["recv", "ref drop", "fartimeout drop"], "spurious=2 readings=2", SENDERS[:2])
+       + pairs_of("", ["future poll1 drop", "future poll1 poll2 drop"], "queues=1", SENDERS[:2])
+       + pairs_of("promise", TRIES[:4] + POLLS[1:4] + ["recv", "timeout drop"], "readings=3", SENDERS[:5])
+       + pairs_of("nested", TRIES[:4] + POLLS[1:3] + ["recv"], senders=["send", "send into", "send drop", "drop"])
+       + pairs_of("request", ASKED, "readings=3", ["send", "closed send", "send into", "drop", ""]))
+# Every interleaving of short scripts, not one run of each order.
+FULL = pairs_of("", TRIES + POLLS[:4], "reduce=0", SENDERS[:4])
+
+
+def name_of(pair):
+    words = [pair.kind, f"S {pair.sender}".strip(), f"R {pair.receiver}".strip()]
+    return " ".join(word for word in words if word) + (f" ({pair.settings})" if pair.settings else "")
+
+
+def scripts_of(pair):
+    """Both scripts as lines of an input of oneshot-run, which knows no raw values and no lengths of timeouts."""
+    sender = re.sub(r"\braw *", "", pair.sender).replace("send", "send 7")
+    receiver = re.sub(r"\braw *|\bfar|\bzero", "", pair.receiver)
+    receiver = re.sub(r"\bpoll([12])", r"poll \1", receiver)
+    return f"S {sender}".strip() + "\n" + f"R {receiver}".strip() + "\n"
+
+
+def arguments_of(pair):
+    return [*pair.kind.split(), "S", *pair.sender.split(), "R", *pair.receiver.split()]

@@ -1,0 +1,110 @@
+// What the parts of the scheduler share. It is a library that is loaded before a program whose two threads, the sender's
+// and the receiver's, tell by the lengths of short sleeps where they are (crates/oneshot_scheduled/src/told.rt).
+#ifndef SCHEDULES_H
+#define SCHEDULES_H
+#define _GNU_SOURCE
+#include <stddef.h>
+#include <stdint.h>
+#include <sys/types.h>
+
+enum { SENDER, RECEIVER, OTHER };
+enum { ENDS = 2, MOST_BLOCKS = 256, MOST_WORDS = 16, MOST_CHOICES = 4096 };
+
+// The words that both threads reach: of each channel its word, its parker's, and the counts of both shares.
+enum kind { PLAIN, WORD, PARKER, SHARES, PARKER_SHARES, QUEUE };
+
+// What a block holds, by the letter that a report has for it.
+enum label { OF_TASKS = 'o', OF_MESSAGE = 'm', OF_CHANNEL = 'h', OF_WORD = 'W', OF_SLOTS = 'L', OF_SHARES = 'C',
+             OF_PARKER = 'P', OF_PARKER_SHARES = 'D' };
+
+struct block {
+    uintptr_t address;
+    size_t size;
+    size_t first_page, pages;
+    enum label label;
+    int freed, open;
+};
+
+struct shared_word {
+    uintptr_t address;
+    enum kind kind;
+    int channel, block;
+};
+
+// What a child leaves to its parent: its choices, and the text of its run.
+struct choice {
+    uint8_t options, chosen;
+    uint32_t allowed;
+};
+struct record {
+    int forced, count, points, ended, pruned, length;
+    struct choice choices[MOST_CHOICES];
+    char text[1 << 17];
+};
+extern struct record *record;
+
+// What is explored: how many sleeps of a run may end by chance, how many readings of a clock may be in time, whether a
+// reading may fail, whether one run is enough of each order of dependent steps, and whether the atomic writes of a task's
+// queue are choices too.
+struct settings {
+    long spurious, readings, failing_clock, reduce, queues, runs, seconds;
+};
+extern struct settings settings;
+
+// calls.c: the thread that runs, and whether the ends are under the scheduler.
+extern __thread int self;
+extern int scheduled;
+int is_end(void);
+
+// choices.c: which end goes next.
+enum state { NOWHERE, INSIDE, AT_WORD, ASLEEP, OVER };
+enum woken { BY_WAKE, BY_CHANCE, BY_TIME };
+void begin_end(int end);
+void finish_end(int end);
+void reach(int end, int place, int writes);
+enum woken sleep_at(int end, uintptr_t address, int timed);
+int wake_at(int end, uintptr_t address);
+int choose(int options, uint32_t allowed);
+void note_futile(int end);
+extern int time_is_over;
+void pass_time(void);
+
+// blocks.c: blocks on pages without access.
+extern struct block blocks[MOST_BLOCKS];
+extern int block_count;
+int block_at(uintptr_t address);
+void set_access(int block, int open);
+uint64_t read_block(uintptr_t address);
+void begin_blocks(void);
+void find_words(int channel);
+void tell_left(void);
+const struct shared_word *word_at(uintptr_t address);
+int place_at(uintptr_t address);
+extern int recording;
+extern enum label made_as;
+
+// order.c: the happens-before order of accesses.
+void begin_order(void);
+void order_atomic(int end, int place, int writes);
+void order_plain(int end, int block, size_t offset, int size, int writes);
+void order_free(int end, int block);
+
+// accesses.c: an access that faults.
+void begin_accesses(void);
+
+// calls.c: what the program asks of the C library and of the kernel.
+void begin_calls(void);
+long raw_call(long number, long a, long b, long c, long d, long e, long f);
+
+// explore.c: the runs, a child each.
+int explore(void);
+void tell(const char *format, ...) __attribute__((format(printf, 1, 2)));
+void fail(const char *format, ...) __attribute__((format(printf, 1, 2), noreturn));
+void fault(const char *format, ...) __attribute__((format(printf, 1, 2)));
+void end_run(void) __attribute__((noreturn));
+void give_up(const char *why) __attribute__((noreturn));
+int in_child(void);
+extern uintptr_t program_begins, program_ends;
+int in_program(uintptr_t address);
+
+#endif
