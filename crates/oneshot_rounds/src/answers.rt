@@ -11,8 +11,11 @@ pub(super) struct Outcome<A> {
     pub(super) late: bool,
 }
 
-/// How often each answer that may come has to come. By the drawn delays each comes some thousand times.
-pub(super) const OFTEN: usize = 100;
+/// In how many of these rounds each answer that may come has to come, and each order: in a hundredth. By the drawn
+/// delays each comes in a tenth of them.
+fn often<A>(outcomes: &[Outcome<A>]) -> usize {
+    (outcomes.len() / 100).max(1)
+}
 
 /// Fails unless each of `answers` came often, and no other came.
 pub(super) fn assert_answers<A: Debug + PartialEq>(
@@ -26,7 +29,7 @@ pub(super) fn assert_answers<A: Debug + PartialEq>(
     }
     for answer in answers {
         let count = outcomes.iter().filter(|o| o.answer == *answer).count();
-        assert!(rt; count >= OFTEN, "{answer:?} came {count} times");
+        assert!(rt; count >= often(outcomes), "{answer:?} came {count} times");
     }
 }
 
@@ -35,7 +38,7 @@ pub(super) fn assert_both_orders<A>(rt: &impl Abort, outcomes: &[Outcome<A>]) {
     let late = outcomes.iter().filter(|outcome| outcome.late).count();
     let early = outcomes.iter().filter(|outcome| !outcome.late).count();
     assert!(rt;
-        late >= OFTEN && early >= OFTEN,
+        late >= often(outcomes) && early >= often(outcomes),
         "late {late} times, early {early} times"
     );
 }

@@ -2,7 +2,7 @@
 
 use super::answers::assert_both_orders;
 use super::duels::beside_a_drop;
-use super::uses::lasting_uses;
+use super::uses::{blocking_uses, trying_uses};
 use futures::test::MockTask;
 use oneshot_tests::uses::Silence::{Disconnected, Dropped, NothingYet};
 use oneshot_tests::uses::{FutureUse, Use};
@@ -16,8 +16,16 @@ fn both_drops_end(rt: HostRuntime) -> Result<(), Fail> {
 }
 
 #[test]
-fn each_receive_returns_that_no_message_will_come(rt: HostRuntime) -> Result<(), Fail> {
-    for using in &lasting_uses(&rt)? {
+fn each_wait_returns_that_no_message_will_come(rt: HostRuntime) -> Result<(), Fail> {
+    for using in &blocking_uses() {
+        beside_a_drop(&rt, using, &[Err(Disconnected)])?;
+    }
+    Ok(())
+}
+
+#[test]
+fn each_try_and_poll_returns_that_no_message_will_come(rt: HostRuntime) -> Result<(), Fail> {
+    for using in &trying_uses(&rt)? {
         beside_a_drop(&rt, using, &[Err(Disconnected)])?;
     }
     Ok(())

@@ -1,7 +1,7 @@
 //! Each use of a receiver beside a `send` of 999.
 
 use super::duels::beside_a_send;
-use super::uses::lasting_uses;
+use super::uses::{blocking_uses, trying_uses};
 use futures::test::MockTask;
 use oneshot_tests::uses::Silence::{Dropped, NothingYet};
 use oneshot_tests::uses::{FutureUse, Use};
@@ -14,8 +14,16 @@ fn a_drop_refuses_the_message_or_drops_it(rt: HostRuntime) -> Result<(), Fail> {
 }
 
 #[test]
-fn each_receive_gives_the_message(rt: HostRuntime) -> Result<(), Fail> {
-    for using in &lasting_uses(&rt)? {
+fn each_wait_gives_the_message(rt: HostRuntime) -> Result<(), Fail> {
+    for using in &blocking_uses() {
+        beside_a_send(&rt, using, &[Ok(())], &[Ok(999)])?;
+    }
+    Ok(())
+}
+
+#[test]
+fn each_try_and_poll_gives_the_message(rt: HostRuntime) -> Result<(), Fail> {
+    for using in &trying_uses(&rt)? {
         beside_a_send(&rt, using, &[Ok(())], &[Ok(999)])?;
     }
     Ok(())

@@ -22,10 +22,10 @@ impl Draws {
     }
 
     /// Spins up to 4,095 times. Each power of two from 2 to 4,096 is an equally likely bound, so short delays
-    /// are as frequent as long ones. About every second pause yields first, which helps two threads that
-    /// share a processor.
+    /// are as frequent as long ones. About one pause in sixty-four yields first, which helps two threads that share
+    /// a processor. If another program has a share too, a yield lasts milliseconds.
     pub(super) fn pause(&mut self) {
-        if self.next() % 2 == 0 {
+        if self.next() % 64 == 0 {
             yield_now();
         }
         let draw = self.next();

@@ -10,7 +10,7 @@ use std::time::{Clock, Duration};
 /// How far a thread is.
 #[derive(Drop)]
 struct Progress {
-    // The last round whose line it reached, and the last one that it ended.
+    // The last line that it reached, and the last round that it ended.
     arrived: AtomicU64,
     ended: AtomicU64,
 }
@@ -64,28 +64,31 @@ pub(super) struct Side<'a> {
 }
 
 impl Side<'_> {
-    /// Waits until both threads are at the line of `round`, and then for a drawn pause. Returns whether the
+    /// Waits until both threads are at the lines of `round`, and then for a drawn pause. Returns whether the
     /// other thread's call is over already.
     pub(super) fn start(&mut self, rt: &(impl Abort + Clock), round: u64) -> bool {
         // A thread that shares a processor with the other may wake on another processor.
         if self.draws.next() % 64 == 0 {
             sleep(rt, Duration::from_micros(100));
         }
-        self.meet(rt, round);
+        // Whoever waits at the first line may be asleep there; at the second both are awake.
+        let line = round.saturating_mul(2);
+        self.meet(rt, line.saturating_sub(1));
+        self.meet(rt, line);
         self.draws.pause();
         self.there.ended.load(Ordering::SeqCst) >= round
     }
 
-    /// Waits until both threads are at the line of `round`. Fails if the other does not come.
-    pub(super) fn meet(&self, rt: &(impl Abort + Clock), round: u64) {
-        self.here.arrived.store(round, Ordering::SeqCst);
+    /// Waits until both threads are at this line, of which each round has two. Fails if the other does not come.
+    pub(super) fn meet(&self, rt: &(impl Abort + Clock), line: u64) {
+        self.here.arrived.store(line, Ordering::SeqCst);
         for looks in 0..LINE_LOOKS {
-            if self.there.arrived.load(Ordering::SeqCst) >= round {
+            if self.there.arrived.load(Ordering::SeqCst) >= line {
                 return;
             }
             pass_time_at_line(rt, looks);
         }
-        panic!(rt; "the other thread does not come to the line of round {round}")
+        panic!(rt; "the other thread does not come to line {line}")
     }
 
     /// Notes that this thread's call of the round is over.

@@ -3,7 +3,7 @@
 use super::answers::{assert_answers, assert_both_orders};
 use super::channels::channels;
 use super::races::race;
-use super::uses::lasting_uses;
+use super::uses::{blocking_uses, trying_uses};
 use oneshot_tests::uses::Use;
 use std::alloc::{AllocError, Global};
 use std::process::Abort;
@@ -73,8 +73,16 @@ fn assert_finds_notes<R: Threads + Wait + Abort + Clock + AllocGlobal + RandomSo
 }
 
 #[test]
-fn each_receive_comes_after_the_note(rt: HostRuntime) -> Result<(), Fail> {
-    for using in &lasting_uses(&rt)? {
+fn each_wait_comes_after_the_note(rt: HostRuntime) -> Result<(), Fail> {
+    for using in &blocking_uses() {
+        assert_finds_notes(&rt, using)?;
+    }
+    Ok(())
+}
+
+#[test]
+fn each_try_and_poll_comes_after_the_note(rt: HostRuntime) -> Result<(), Fail> {
+    for using in &trying_uses(&rt)? {
         assert_finds_notes(&rt, using)?;
     }
     Ok(())

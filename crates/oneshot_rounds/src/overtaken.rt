@@ -4,7 +4,6 @@
 //! Dropping a waker also wakes its task. So if a task is not woken right after the drop of its future, the
 //! future did not get its waker back: the sender had taken it.
 
-use super::answers::OFTEN;
 use super::counted::{load, send};
 use super::races::race;
 use futures::task::Poll;
@@ -22,13 +21,17 @@ use std::time::{Clock, Duration, Instant};
 /// The rounds of a batch.
 const ROUNDS: u64 = 1_000;
 
+/// How often the calls have to meet.
+const OFTEN: usize = 100;
+
 /// How many batches run at least, and at most until the calls have met often.
 const LEAST: u64 = 10;
 
 const BATCHES: u64 = 400;
 
-/// For how many seconds a test begins batches. On an idle machine less than one is enough.
-const SECONDS: u64 = 12;
+/// For how many seconds a test begins batches, if the calls rarely meet: most of a test's minute. On an idle machine
+/// less than one is enough.
+const SECONDS: u64 = 40;
 
 /// A message that fills some pages.
 type Wide = [u64; 1024];

@@ -3,7 +3,7 @@
 use super::answers::assert_answers;
 use super::channels::channels;
 use super::races::race;
-use super::uses::lasting_uses;
+use super::uses::{blocking_uses, trying_uses};
 use super::waits::patience;
 use oneshot_tests::uses::Use;
 use std::fmt::Debug;
@@ -41,7 +41,7 @@ fn assert_comes_by_every_receive<
 >(rt: &R, message: T) -> Result<(), Fail> {
     let deadline = Instant::now(rt)?.checked_add(patience());
     let deadline = deadline.expect(rt, "an instant can hold it");
-    for using in &lasting_uses(rt)? {
+    for using in blocking_uses().iter().chain(&trying_uses(rt)?) {
         assert_comes(rt, using, message)?;
     }
     assert_comes(rt, &Use::RecvDeadline(deadline), message)

