@@ -39,6 +39,6 @@ class Cases:
         told = [re.sub(r"^case=(\S+) run=ended status=(\d+) .*", r"\1: status \2", line) for line in said.splitlines()
                 if not re.match(r"(allocations|rt): |cases=", line)]
         page = f"scripts/faults, {crate.name}"
-        same_lines("output", page, written.split("\n"), "".join(self.output).split("\n"))
         same_lines("statuses and errors", page, told, self.errors)
+        same_lines("output", page, written.split("\n"), "".join(self.output).split("\n"))
         return f"{crate.name}: {len(self.output)} cases"

@@ -15,7 +15,7 @@ from parts.sources import code_of, functions, place, sources
 SECTION = "The contracts"
 Page = collections.namedtuple("Page", "name exporting beneath")
 CALLING = Page(
-    "docs/CALLING.md", ["oneshot_channel"], ["oneshot_ends", "oneshot_drive", "oneshot_word"])
+    "docs/CALLING.md", ["oneshot_channel", "oneshot_reply"], ["oneshot_ends", "oneshot_errors", "oneshot_word"])
 MODEL = Page("docs/MODEL.md", ["oneshot_replay", "oneshot_text"], ["oneshot_world"])
 
 

@@ -67,7 +67,7 @@ LAST_CALLS = {
     "Drop for Receiver::drop": "ground.dropped",
     "Drop for AsyncReceiver::drop": "ground.dropped",
 }
-CHANNEL = ["oneshot_machine", "oneshot_drive", "oneshot_word", "oneshot_ends", "oneshot_channel"]
+CHANNEL = ["oneshot_machine", "oneshot_drive", "oneshot_word", "oneshot_ends", "oneshot_reply"]
 
 
 def uses(words, body):
@@ -113,7 +113,7 @@ def compare_looks():
 
 def compare_requests():
     found = {}
-    for file in sources("oneshot_channel"):
+    for file in sources("oneshot_reply"):
         for function in functions(code_of(file)):
             if looks := re.findall(r"[\w.]*\b(?:is_closed|has_message|is_cancelled)\b", function.body):
                 found[function.name] = " ".join(looks)

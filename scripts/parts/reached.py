@@ -14,14 +14,15 @@ from parts.sources import CRATES, block_end, code_of, functions, sources
 
 # Left out are the definitions of texts and programs, which tests compare with what is read and written, and those of
 # grounds in memory, which serve tests.
-READ = ["machine", "drive", "word", "ends", "channel", "world", "laws", "law_examples", "replay", "bridge", "values"]
+READ = ["machine", "drive", "word", "ends", "reply", "errors", "world", "laws", "law_examples", "replay", "bridge", "values"]
 EXAMPLES = re.compile(r"\w+\.\w*Examples\.|oneshot_law_examples\.|oneshot_word\.Received\.(?:Messages|Wakers)|\w+\.\w*Order\.W")
 
 # "crate.File", its definitions (also as patterns of the shell), and why no example has to reach them.
 UNREACHED = [
     ("oneshot_drive.Blocking", "EndsAt HandAt Path ReceiveBy Refills Stretch end_of load_of ref_end value_end",
      "of `find`, which the drivers alone call, and from which their own clauses are proved"),
-    ("oneshot_drive.ErrorTexts", "*", "texts, which tests compare with what the errors print"),
+    ("oneshot_ends.Taken", "taken_stays taken_stays_on", "proofs, which the grounds of a receiver cite"),
+    ("oneshot_errors.Texts", "*", "texts, which tests compare with what the errors print"),
     ("oneshot_machine.Standing", "*", "what that law computes of each table"),
     ("oneshot_machine.*", "*_number *_positions *_opens receiver_count", "the positions that it computes this of"),
     ("oneshot_world.Classes", "*", "of the law `turns_commute`, for all classes"),

@@ -1,7 +1,7 @@
 //! The example in the crate's documentation: a thread replies to texts with their lengths, which the asker
 //! receives by blocking and by awaiting; and the same by typed requests.
 
-use super::times::{answers, in_time, patience, second};
+use super::times::hour;
 use crate::asserts::{assert_same, assert_that};
 use crossbeam_channel as queue;
 use futures::executor::block_on;
@@ -44,12 +44,10 @@ fn a_processing_thread_answers_lengths(rt: HostRuntime) -> Result<(), Fail> {
     let (requests, taken) = queue::unbounded(rt.alloc())?;
     let processor = spawn(&rt, move || process(&rt, taken))?;
     for (text, length) in [("", 0), ("lengths", 7), ("a processing thread", 19)] {
-        in_time(&rt, || {
-            let (reply, mut answer) = channel(&rt, rt.alloc())?;
-            let request = String::from_str(rt.alloc(), text)?;
-            assert_that(&rt, ask(&rt, &requests, request, reply));
-            Ok(answers(&rt, answer.recv_timeout(second()), Ok(length)))
-        })?;
+        let (reply, mut answer) = channel(&rt, rt.alloc())?;
+        let request = String::from_str(rt.alloc(), text)?;
+        assert_that(&rt, ask(&rt, &requests, request, reply));
+        assert_same(&rt, answer.recv_timeout(hour()), Ok(length));
         let (reply, answer) = channel(&rt, rt.alloc())?;
         let request = String::from_str(rt.alloc(), text)?;
         assert_that(&rt, ask(&rt, &requests, request, reply));
@@ -83,7 +81,7 @@ fn a_processing_thread_answers_typed_requests(rt: HostRuntime) -> Result<(), Fai
         let made = reply::request(&rt, rt.alloc(), question);
         let (request, mut ticket) = made.map_err(|_| AllocError)?;
         assert_that(&rt, requests.send(&rt, request).is_ok());
-        let reply = ticket.wait_for(patience());
+        let reply = ticket.wait_for(hour());
         assert_same(&rt, reply.map(|length| length.bytes()), Ok(bytes));
     }
     drop(requests);

@@ -4,7 +4,7 @@
 //! channel.
 
 use super::threads::{AT_ONCE, Act, By, ROUNDS, assert_outcomes, on_two_threads};
-use super::times::patience;
+use super::times::hour;
 use crate::asserts::{assert_same, assert_that};
 use futures::task::Poll;
 use futures::test::MockTask;
@@ -22,10 +22,9 @@ fn try_recv(rt: HostRuntime) -> Result<(), Fail> {
     assert_outcomes(&rt, AT_ONCE, Act::Send(19u128), &by, &[(Ok(()), Ok(19))])
 }
 
-// The receive waits at most ten seconds; in the original, a millisecond.
 #[test]
 fn send_recv_different_threads(rt: HostRuntime) -> Result<(), Fail> {
-    let by = By::Receiver(RecvTimeout(patience()));
+    let by = By::Receiver(RecvTimeout(hour()));
     assert_outcomes(&rt, AT_ONCE, Act::Send(9u128), &by, &[(Ok(()), Ok(9))])
 }
 

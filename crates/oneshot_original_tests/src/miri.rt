@@ -1,7 +1,7 @@
 //! The tests of `tests/miri.rs`: each use of a sender races with each use of a receiver, in many rounds.
 
 use super::threads::{AT_ONCE, Act, By, assert_outcomes};
-use super::times::second;
+use super::times::hour;
 use futures::test::MockTask;
 use oneshot_tests::uses::FutureUse::{PollOnce, PollUntil};
 use oneshot_tests::uses::Silence::{Disconnected, Dropped, NothingYet};
@@ -32,7 +32,7 @@ fn tx_send_rx_recv_ref(rt: HostRuntime) -> Result<(), Fail> {
 
 #[test]
 fn tx_send_rx_recv_timeout(rt: HostRuntime) -> Result<(), Fail> {
-    let by = By::Receiver(RecvTimeout(second()));
+    let by = By::Receiver(RecvTimeout(hour()));
     assert_outcomes(&rt, AT_ONCE, SEND, &by, &[(Ok(()), Ok(999))])
 }
 
@@ -84,7 +84,7 @@ fn tx_drop_rx_recv_ref(rt: HostRuntime) -> Result<(), Fail> {
 
 #[test]
 fn tx_drop_rx_recv_timeout(rt: HostRuntime) -> Result<(), Fail> {
-    let by = By::Receiver(RecvTimeout(second()));
+    let by = By::Receiver(RecvTimeout(hour()));
     assert_outcomes(&rt, AT_ONCE, DROP, &by, &[(Ok(()), Err(Disconnected))])
 }
 

@@ -4,7 +4,7 @@
 
 use super::counted::Drops;
 use super::threads::{AT_ONCE, Act, By, Pace, ROUNDS, assert_outcomes};
-use super::times::{in_time, second, tenth};
+use super::times::{hour, in_time, tenth};
 use crate::asserts::{assert_same, assert_that};
 use oneshot::{RecvError, RecvTimeoutError, SendError, TryRecvError, channel};
 use oneshot_tests::uses::Silence::{Disconnected, NothingYet};
@@ -31,7 +31,7 @@ fn send_before_try_recv(rt: HostRuntime) -> Result<(), Fail> {
         (false, Err(TryRecvError::Disconnected)),
     );
     assert_same(&rt, receiver.recv_ref(), Err(RecvError));
-    let timed = receiver.recv_timeout(second());
+    let timed = receiver.recv_timeout(hour());
     assert_same(&rt, timed, Err(RecvTimeoutError::Disconnected));
     Ok(())
 }
@@ -70,7 +70,7 @@ fn send_before_recv_ref(rt: HostRuntime) -> Result<(), Fail> {
     assert_same(&rt, (sent, receiver.recv_ref()), (true, Ok(19)));
     let by_ref = receiver.recv_ref();
     let tried = receiver.try_recv();
-    let timed = receiver.recv_timeout(second());
+    let timed = receiver.recv_timeout(hour());
     assert_same(&rt, by_ref, Err(RecvError));
     assert_same(&rt, tried, Err(TryRecvError::Disconnected));
     assert_same(&rt, timed, Err(RecvTimeoutError::Disconnected));
@@ -79,19 +79,19 @@ fn send_before_recv_ref(rt: HostRuntime) -> Result<(), Fail> {
 
 #[test]
 fn send_before_recv_timeout(rt: HostRuntime) -> Result<(), Fail> {
-    in_time(&rt, || {
+    in_time(&rt, |slept| {
         let (sender, mut receiver) = channel(&rt, rt.alloc())?;
         let sent = sender.send(19i128).is_ok();
         let before = Instant::now(&rt)?;
-        let received = receiver.recv_timeout(second());
+        let received = receiver.recv_timeout(hour());
         let took = before.elapsed(&rt)?;
         assert_same(&rt, (sent, received), (true, Ok(19)));
-        let timed = receiver.recv_timeout(second());
+        let timed = receiver.recv_timeout(hour());
         let tried = receiver.try_recv();
         assert_same(&rt, timed, Err(RecvTimeoutError::Disconnected));
         assert_same(&rt, tried, Err(TryRecvError::Disconnected));
         assert_same(&rt, receiver.recv(), Err(RecvError));
-        Ok(took < tenth())
+        Ok(took < slept)
     })
 }
 
@@ -159,7 +159,7 @@ fn recv_before_send(rt: HostRuntime) -> Result<(), Fail> {
 
 #[test]
 fn recv_timeout_before_send(rt: HostRuntime) -> Result<(), Fail> {
-    let by = By::Receiver(RecvTimeout(second()));
+    let by = By::Receiver(RecvTimeout(hour()));
     assert_outcomes(&rt, IN_A_WHILE, Act::Send(9u128), &by, &[(Ok(()), Ok(9))])
 }
 
@@ -183,7 +183,7 @@ fn recv_before_send_then_drop_sender(rt: HostRuntime) -> Result<(), Fail> {
 
 #[test]
 fn recv_timeout_before_send_then_drop_sender(rt: HostRuntime) -> Result<(), Fail> {
-    let by = By::Receiver(RecvTimeout(second()));
+    let by = By::Receiver(RecvTimeout(hour()));
     assert_outcomes(
         &rt,
         LATER,
@@ -226,35 +226,34 @@ fn timed_out<T: Drop, F: FnOnce(Instant) -> Result<T, RecvTimeoutError>>(
 
 #[test]
 fn recv_deadline_and_timeout_no_time(rt: HostRuntime) -> Result<(), Fail> {
-    in_time(&rt, || {
+    in_time(&rt, |slept| {
         let (_sender, mut receiver) = channel::<u128, _>(&rt, rt.alloc())?;
         let by_deadline = timed_out(&rt, |start| receiver.recv_deadline(start))?;
         let by_timeout = timed_out(&rt, |_| receiver.recv_timeout(Duration::ZERO))?;
-        let most = Duration::from_millis(200);
-        Ok(by_deadline < most && by_timeout < most)
+        Ok(by_deadline / 2 < slept && by_timeout / 2 < slept)
     })
 }
 
 #[test]
 fn recv_deadline_time_should_elapse(rt: HostRuntime) -> Result<(), Fail> {
-    in_time(&rt, || {
+    in_time(&rt, |slept| {
         let (_sender, mut receiver) = channel::<u128, _>(&rt, rt.alloc())?;
         let took = timed_out(&rt, |start| {
             let end = start.checked_add(tenth());
             receiver.recv_deadline(end.expect(&rt, "an instant can hold it"))
         })?;
         assert_that(&rt, took > tenth());
-        Ok(took < Duration::from_millis(300))
+        Ok(took / 3 < slept)
     })
 }
 
 #[test]
 fn recv_timeout_time_should_elapse(rt: HostRuntime) -> Result<(), Fail> {
-    in_time(&rt, || {
+    in_time(&rt, |slept| {
         let (_sender, mut receiver) = channel::<u128, _>(&rt, rt.alloc())?;
         let took = timed_out(&rt, |_| receiver.recv_timeout(tenth()))?;
         assert_that(&rt, took > tenth());
-        Ok(took < Duration::from_millis(300))
+        Ok(took / 3 < slept)
     })
 }
 

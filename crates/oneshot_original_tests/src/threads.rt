@@ -1,6 +1,5 @@
 //! Both ends of a channel, each on a thread of its own.
 
-use super::times::TRIES;
 use oneshot::{Sender, async_channel, channel};
 use oneshot_tests::uses::{FutureUse, Silence, Use};
 use std::fmt::Debug;
@@ -136,30 +135,14 @@ pub(super) fn outcome_of<
     }
 }
 
-/// Fails unless both ends return one of the wanted outcomes. A receive that times out, though it may not, is
-/// late, and both ends of another channel are used then.
-fn assert_outcome<
-    R: Threads + Wait + Clock + RandomSource + AllocGlobal + Abort + Sync,
-    T: Copy + Debug + PartialEq + Send,
->(rt: &R, pause: Duration, act: Act<T>, by: &By, wanted: &[Outcome<T>]) -> Result<(), Fail> {
-    for _ in 0..TRIES {
-        let outcome = outcome_of(rt, pause, act, by)?;
-        if wanted.contains(&outcome) {
-            return Ok(());
-        }
-        let is_late = outcome.1 == Err(Silence::Timeout);
-        assert!(rt; is_late, "{outcome:?}, not of {wanted:?}");
-    }
-    panic!(rt; "late in each of {TRIES} tries")
-}
-
 /// Fails unless each round has one of the wanted outcomes.
 pub(super) fn assert_outcomes<
     R: Threads + Wait + Clock + RandomSource + AllocGlobal + Abort + Sync,
     T: Copy + Debug + PartialEq + Send,
 >(rt: &R, pace: Pace, act: Act<T>, by: &By, wanted: &[Outcome<T>]) -> Result<(), Fail> {
     for round in 0..pace.rounds {
-        assert_outcome(rt, pace.pause_of(round), act, by, wanted)?;
+        let outcome = outcome_of(rt, pace.pause_of(round), act, by)?;
+        assert!(rt; wanted.contains(&outcome), "{outcome:?}, not of {wanted:?}");
     }
     Ok(())
 }

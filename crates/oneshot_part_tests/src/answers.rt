@@ -88,3 +88,9 @@ fn receives(alloc: Global, calls: usize, moves: usize) -> Result<(String, String
     output.push_str("rest NotSent(7)\nblock here\n")?;
     Ok((input, output))
 }
+
+#[test]
+#[should_panic(expected = "block freed")]
+fn another_trace_ends_a_test(rt: HostRuntime) {
+    assert_traces(&rt, &[(SENT, "")]);
+}

@@ -28,7 +28,7 @@ fn send(message: u64, last: ErrorLast) -> SenderScript<u64> {
 /// A move; then the call of each end after it, and whether the block is freed.
 type Case = (Move, Option<SenderCall>, Option<ReceiverStart>, bool);
 
-const MOVES_OF_A_REFUSED_SEND: &[Case] = &[
+const MOVES_OF_A_REFUSED_SEND: &[Case; 5] = &[
     (RECEIVER, Some(SenderCall::Send), None, false),
     (Move::Sender, Some(SenderCall::Send), None, false),
     (Move::Sender, Some(SenderCall::IntoInner), None, false),

@@ -3,7 +3,7 @@
 use oneshot_machine::states::Op;
 
 /// An operation, and what it leaves of each word from 0 to 4.
-const ROWS: &[(Op, [u8; 5])] = &[
+const ROWS: &[(Op, [u8; 5]); 6] = &[
     (Op::Load, [0, 1, 2, 3, 4]),
     (Op::Store(2), [2, 2, 2, 2, 2]),
     (Op::Swap(0), [0, 0, 0, 0, 0]),

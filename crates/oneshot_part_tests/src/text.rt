@@ -7,7 +7,7 @@ mod order;
 
 use oneshot_text::parse_request;
 use std::alloc::AllocGlobal;
-use std::process::Abort;
+use std::process::{Abort, Termination};
 use std::test::Fail;
 
 /// A text and its fault.
@@ -21,4 +21,10 @@ fn assert_faults(rt: &(impl Abort + AllocGlobal), cases: &[Case]) -> Result<(), 
         assert_eq!(rt; error.to_string(rt.alloc())?.as_str(), *fault, "{text:?}");
     }
     Ok(())
+}
+
+#[test]
+#[should_panic(expected = "line 3 is missing")]
+fn another_fault_ends_a_test(rt: HostRuntime) {
+    let _ = assert_faults(&rt, &[("S\nR", "line 2 is missing")]).report(&rt);
 }

@@ -4,14 +4,17 @@ mod futures;
 mod received;
 mod refused;
 mod unwoken;
+mod waited;
 mod waits;
 
-use crate::auditor::{DrawnTrace, Finding, Scripts, audit};
+use crate::auditor::{DrawnTrace, Fault, Finding, Scripts, audit};
 use crate::damage::{Edit, apply};
 use crate::moves::move_of;
 use crate::run::{run, scripts_of};
-use crate::scripts::{Receiving, Sending};
-use std::alloc::AllocGlobal;
+use crate::scripts::{MESSAGE, Receiving, Sending};
+use oneshot_machine::machine::End;
+use oneshot_text::EntryLine;
+use std::alloc::{AllocError, AllocGlobal, Global};
 use std::process::Abort;
 use std::test::Fail;
 
@@ -105,4 +108,33 @@ fn a_receiver_that_nothing_wakes(rt: HostRuntime) -> Result<(), Fail> {
     assert_refused(&rt, unwoken::POLLED)?;
     assert_refused(&rt, unwoken::POLLED_BY_ANOTHER_TASK)?;
     assert_refused(&rt, unwoken::POLLED_AGAIN)
+}
+
+/// The lines of a trace in which no receive returns a message.
+fn lines_of(alloc: Global, told: &DrawnTrace) -> Result<String, AllocError> {
+    let mut text = String::new(alloc);
+    for (number, entry) in (1usize..).zip(told.entries.as_slice()) {
+        let line = EntryLine {
+            number,
+            entry: *entry,
+            call: None,
+            message: MESSAGE,
+        };
+        write!(text, "{line}\n")?;
+    }
+    Ok(text)
+}
+
+// A drop that waits for its sender breaks no definition: only the transition table and the bounds refuse it. In
+// the damaged trace it frees the block while the sender, about to finish, still holds it.
+#[test]
+fn a_future_whose_drop_waits_for_its_sender(rt: HostRuntime) -> Result<(), Fail> {
+    let scripts = scripts_of(rt.alloc(), Sending::Send, Receiving::PollDrop)?;
+    let told = waited::trace(rt.alloc())?;
+    assert_eq!(rt; lines_of(rt.alloc(), &told)?.as_str(), waited::LINES);
+    assert_eq!(rt; audit(&scripts, &told), Ok(()));
+    let told = damaged_by(&rt, told, &[Edit::MoveBefore(15, 11)])?;
+    let freed = Fault::FreedTooEarly(End::Receiver);
+    assert_eq!(rt; audit(&scripts, &told), Err((11, freed)));
+    Ok(())
 }

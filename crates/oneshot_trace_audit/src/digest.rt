@@ -158,7 +158,7 @@ impl Write for Digest {
 }
 
 /// Texts and their digests, which the authors of FNV-1a publish.
-const PUBLISHED: &[(&str, u64)] = &[
+const PUBLISHED: &[(&str, u64); 3] = &[
     ("", 0xcbf2_9ce4_8422_2325),
     ("a", 0xaf63_dc4c_8601_ec8c),
     ("foobar", 0x8594_4171_f739_67e8),

@@ -17,7 +17,7 @@ fn parsed(alloc: Global, words: &[&str]) -> Result<Option<Command>, AllocError> 
     Ok(parse_command(owned.as_slice()))
 }
 
-const NAMES: &[(&str, Loop)] = &[
+const NAMES: &[(&str, Loop); 15] = &[
     ("make_send_receive_drop", Loop::MakeSendReceiveDrop),
     ("make_drop", Loop::MakeDrop),
     ("make_send_recv", Loop::MakeSendRecv),
@@ -54,7 +54,7 @@ fn each_name_is_read(rt: HostRuntime) -> Result<(), Fail> {
     Ok(())
 }
 
-const CHANNELS: &[(&str, Channel)] = &[
+const CHANNELS: &[(&str, Channel); 3] = &[
     ("oneshot", Channel::Oneshot),
     ("futures", Channel::Futures),
     ("crossbeam", Channel::Crossbeam),
@@ -74,9 +74,9 @@ fn each_channel_is_read(rt: HostRuntime) -> Result<(), Fail> {
     Ok(())
 }
 
-const NO_CHANNELS: &[&str] = &["", "one", "oneshot ", "Futures", "make_drop"];
+const NO_CHANNELS: &[&str; 5] = &["", "one", "oneshot ", "Futures", "make_drop"];
 
-const NO_LOOPS: &[&str] = &["", "make", "make_drop_", "make_drop ", "Make_drop", "4096"];
+const NO_LOOPS: &[&str; 6] = &["", "make", "make_drop_", "make_drop ", "Make_drop", "4096"];
 
 #[test]
 fn other_names_are_refused(rt: HostRuntime) {
@@ -88,7 +88,7 @@ fn other_names_are_refused(rt: HostRuntime) {
     }
 }
 
-const COUNTS: &[(&str, Option<u64>)] = &[
+const COUNTS: &[(&str, Option<u64>); 14] = &[
     ("0", Some(0)),
     ("7", Some(7)),
     ("007", Some(7)),
@@ -112,7 +112,7 @@ fn counts_of_64_bits_are_read(rt: HostRuntime) {
     }
 }
 
-const NO_COMMANDS: &[&[&str]] = &[
+const NO_COMMANDS: &[&[&str]; 6] = &[
     &["make_drop"],
     &["1", "make_drop"],
     &["make_drop", "1", "1"],

@@ -16,9 +16,14 @@ use oneshot_loops::round_trip::{Request, ask, serve};
 use oneshot_loops::rounds::repeat;
 use oneshot_loops::tally::Tally;
 use oneshot_loops::{awaited_trips, crossbeam_trips, futures_trips};
+use std::alloc::{Alloc, AllocGlobal, Global};
 use std::cell::Cell;
 use std::io;
+use std::random::RandomSource;
+use std::sync::Wait;
+use std::sync::atomic::{AtomicU64, Ordering};
 use std::test::Fail;
+use std::thread::Threads;
 use std::time::{Clock, Duration};
 
 /// The tally of `count` rounds, each of which does what `round` counts.
@@ -204,7 +209,7 @@ impl Round {
 }
 
 /// The loops of each channel, what a round does, and the bytes of its message.
-const LOOPS: &[(Channel, Loop, Round, u64)] = &[
+const LOOPS: &[(Channel, Loop, Round, u64); 21] = &[
     (Channel::Oneshot, Loop::MakeSendReceiveDrop, Round::Tried, 8),
     (Channel::Oneshot, Loop::MakeDrop, Round::Made, 8),
     (Channel::Oneshot, Loop::MakeSendRecv, Round::Waited, 8),
@@ -283,7 +288,7 @@ fn each_loop_makes_its_rounds(rt: HostRuntime) -> Result<(), Fail> {
     Ok(())
 }
 
-const REFUSED: &[(Channel, Loop)] = &[
+const REFUSED: &[(Channel, Loop); 9] = &[
     (Channel::Futures, Loop::MakeSendRecv),
     (Channel::Futures, Loop::MakeSendRecvLarge),
     (Channel::Futures, Loop::MakeAnswerWait),
@@ -354,6 +359,59 @@ fn the_time_is_that_of_the_rounds(rt: HostRuntime) -> Result<(), Fail> {
     let count = 20_000;
     let time = measure(&rt, Channel::Oneshot, Loop::MakeSendReceiveDrop, count)?.time;
     assert!(rt; time >= Duration::from_micros(200), "{time:?}");
+    Ok(())
+}
+
+/// A runtime whose clock reads how often its allocator was asked for.
+#[derive(Drop)]
+struct Asked<'a, R> {
+    rt: &'a R,
+    times: AtomicU64,
+}
+
+impl<'a, R: Threads> Threads for Asked<'a, R> {}
+
+impl<'a, R: Wait> Wait for Asked<'a, R> {}
+
+impl<'a, R: RandomSource> RandomSource for Asked<'a, R> {
+    fn fill_bytes(&self, buf: &mut [u8]) -> io::Result<()> {
+        self.rt.fill_bytes(buf)
+    }
+}
+
+impl<'a, R: AllocGlobal> Alloc for Asked<'a, R> {
+    type A = Global;
+
+    fn alloc(&self) -> Global {
+        self.times.fetch_add(1, Ordering::SeqCst);
+        self.rt.alloc()
+    }
+}
+
+impl<'a, R> Clock for Asked<'a, R> {
+    fn monotonic(&self) -> io::Result<Duration> {
+        Ok(Duration::from_nanos(self.times.load(Ordering::SeqCst)))
+    }
+
+    fn since_1970(&self) -> io::Result<Duration> {
+        self.monotonic()
+    }
+}
+
+// Each of these rounds asks for the allocator.
+#[test]
+fn no_round_is_made_before_the_time_or_after_it(rt: HostRuntime) -> Result<(), Fail> {
+    for channel in OF_FUTURES {
+        let asked = Asked {
+            rt: &rt,
+            times: AtomicU64::new(0),
+        };
+        let kind = Loop::Awaited(Awaited::MakeSendBlockOn);
+        let time = measure(&asked, channel, kind, 20)?.time;
+        let times = asked.times.load(Ordering::SeqCst);
+        assert_that(&rt, times >= 20);
+        assert_same(&rt, time, Duration::from_nanos(times));
+    }
     Ok(())
 }
 

@@ -1,6 +1,7 @@
 //! Tests of what no contract states: each use reaches its result.
 
 mod divisor;
+mod limits;
 mod pool;
 mod replies;
 mod request;

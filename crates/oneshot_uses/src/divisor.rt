@@ -48,16 +48,31 @@ pub fn send_divisor(number: u32, waiter: Sender<Divisor>) {
     }
 }
 
+// It is not `Drop`, so a program that does not join its thread does not compile.
+/// A search on its own thread, which has to be joined.
+pub struct Search {
+    thread: JoinHandle<()>,
+}
+
+impl Search {
+    /// Waits until the thread has ended.
+    pub fn join<R: Threads>(self, rt: &R) {
+        let Search { thread } = self;
+        thread.join(rt);
+    }
+}
+
 /// Starts the search on its own thread.
 ///
 /// `rt` starts the thread, `number` is the number to divide, and `waiter` sends its divisor.
-/// `Ok`: the thread, to be joined. `Err`: no thread could be started, and the sender was dropped.
+/// `Ok`: the search, to be joined. `Err`: no thread could be started, and the sender was dropped.
 pub fn start<R: Threads>(
     rt: &R,
     number: u32,
     waiter: Sender<Divisor>,
-) -> Result<JoinHandle<()>, AllocError> {
-    Ok(spawn(rt, move || send_divisor(number, waiter))?)
+) -> Result<Search, AllocError> {
+    let thread = spawn(rt, move || send_divisor(number, waiter))?;
+    Ok(Search { thread })
 }
 
 /// Awaits a divisor of `number`.
@@ -96,8 +111,8 @@ pub fn divisor_of<R: Threads + Wait + RandomSource + AllocGlobal>(
     ensures proper { IfOk result (λ found. IfOk found (λ value. (1 < value) × (value < number))) }
 {
     let (waiter, receiver) = async_channel((), alloc)?;
-    let thread = start(rt, number, waiter)?;
+    let search = start(rt, number, waiter)?;
     let found = await_divisor(rt, number, receiver);
-    thread.join(rt);
+    search.join(rt);
     found
 }

@@ -7,7 +7,7 @@ use std::test::Fail;
 
 /// Inputs with a fault of a line, each with what the program reports. Other faults of a line are among the
 /// damaged inputs.
-const OF_A_LINE: &[(&str, &str)] = &[
+const OF_A_LINE: &[(&str, &str); 14] = &[
     ("Q\n", "2 line 1: must begin with S"),
     ("S\nR\nS\n", "2 line 3: must begin with X"),
     (
@@ -70,7 +70,7 @@ fn a_byte_above_127_is_told_before_any_line(rt: HostRuntime) {
 }
 
 /// The bytes of which a long input is made, and the fault of as many of them as fit.
-const FITTING: &[(u8, &str)] = &[
+const FITTING: &[(u8, &str); 2] = &[
     (b' ', "2 line 1: must begin with S"),
     (0xff, "2 input is not ASCII"),
 ];

@@ -3,7 +3,7 @@
 use crate::answers::assert_traces;
 
 /// Inputs whose deadline is over after each step of a `send`, each with its trace.
-const TRACES: &[(&str, &str)] = &[
+const TRACES: &[(&str, &str); 6] = &[
     // before the `send` begins
     (
         "S send 7\nR deadline\nX rrrorr\n",

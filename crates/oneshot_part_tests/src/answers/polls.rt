@@ -3,7 +3,7 @@
 use crate::answers::assert_traces;
 
 /// Inputs with a future, each with its trace.
-const POLLS: &[(&str, &str)] = &[
+const POLLS: &[(&str, &str); 14] = &[
     // the drop leaves a sender that is about to finish
     (
         "S send 7\nR future poll 1 drop\nX rrrrrssrrssrrrrs\n",

@@ -14,7 +14,7 @@ use std::process::Abort;
 const INTERRUPTS: usize = 20;
 
 /// The failures after which a call of a stream is not repeated.
-const FAILURES: &[ErrorKind] = &[
+const FAILURES: &[ErrorKind; 5] = &[
     ErrorKind::BrokenPipe,
     ErrorKind::ConnectionReset,
     ErrorKind::StorageFull,

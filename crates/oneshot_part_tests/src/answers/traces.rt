@@ -3,7 +3,7 @@
 use crate::answers::{SENT, SENT_TRACE, assert_traces, told};
 use std::test::Fail;
 
-const OF_EACH_CALL: &[(&str, &str)] = &[
+const OF_EACH_CALL: &[(&str, &str); 11] = &[
     (SENT, SENT_TRACE),
     ("S send 7\nR\nX\n", "rest NotSent(7)\nblock here\n"),
     (
@@ -71,7 +71,7 @@ block freed
     ),
 ];
 
-const OF_LOOKS: &[(&str, &str)] = &[
+const OF_LOOKS: &[(&str, &str); 4] = &[
     (
         "S closed send 7\nR closed full try closed\nX srssrrrrr\n",
         "1 S load 3>3 = false
@@ -118,7 +118,7 @@ block here
     ),
 ];
 
-const OF_A_REFUSED_SEND: &[(&str, &str)] = &[
+const OF_A_REFUSED_SEND: &[(&str, &str); 4] = &[
     (
         "S send 5 inner into\nR drop\nX rssssss\n",
         "1 R swap 3>2 = dropped
@@ -168,7 +168,7 @@ block here
     ),
 ];
 
-const OF_RECEIVES_THAT_WAIT: &[(&str, &str)] = &[
+const OF_RECEIVES_THAT_WAIT: &[(&str, &str); 10] = &[
     // a receive that is woken late
     (
         "S send 7\nR recv\nX rrrsssrrsrrrrs\n",
@@ -333,7 +333,7 @@ block freed
     ),
 ];
 
-const OF_DEADLINES: &[(&str, &str)] = &[
+const OF_DEADLINES: &[(&str, &str); 15] = &[
     // a message sent after the deadline
     (
         "S send 7\nR deadline\nX rrrossrrrsssrrrr\n",
@@ -572,7 +572,7 @@ block here
 ];
 
 /// The largest message, in each reply that has it and at each place.
-const OF_A_LARGE_MESSAGE: &[(&str, &str)] = &[
+const OF_A_LARGE_MESSAGE: &[(&str, &str); 5] = &[
     (
         "S send 18446744073709551615\nR\nX ss\n",
         "1 S write-message 3>3 m:NotSent>InCell
@@ -628,7 +628,7 @@ block freed
 
 #[test]
 fn each_input_has_its_trace(rt: HostRuntime) {
-    let tables = [
+    let tables: [&[(&str, &str)]; 6] = [
         OF_EACH_CALL,
         OF_LOOKS,
         OF_A_REFUSED_SEND,
@@ -641,7 +641,7 @@ fn each_input_has_its_trace(rt: HostRuntime) {
     }
 }
 
-const SCHEDULES: &[&str] = &[
+const SCHEDULES: &[&str; 4] = &[
     "S\nR deadline\nX rrrrrrr\n",
     "S\nR deadline\nX nnnnnnn\n",
     "S\nR deadline\nX ooonoon\n",
@@ -667,7 +667,7 @@ block here
 }
 
 /// The moves of a front, the message's place after them, and what is of the block.
-const FRONTS: &[(&str, &str, &str)] = &[
+const FRONTS: &[(&str, &str, &str); 8] = &[
     ("", "NotSent(7)", "block here"),
     (" s", "InCell(7)", "block here"),
     (" ss", "InCell(7)", "block here"),

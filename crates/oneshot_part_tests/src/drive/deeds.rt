@@ -4,8 +4,8 @@ ghost use Rattle.oneshot_machine.specs.Logs.{receiver_of};
 ghost use Rattle.oneshot_drive.specs.BetweenCalls.{AtRest, IsReady};
 
 use crate::drive::steps::steps_of;
-use oneshot_drive::errors::{RecvError, RecvTimeoutError, TryRecvError};
 use oneshot_drive::{drop_receiver, recv, recv_deadline, recv_ref, recv_timeout, try_recv};
+use oneshot_errors::{RecvError, RecvTimeoutError, TryRecvError};
 use oneshot_memory::MemoryReceiver;
 use std::alloc::{AllocError, Global};
 use std::sync::Wait;

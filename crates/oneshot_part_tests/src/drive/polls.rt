@@ -4,9 +4,10 @@
 use crate::drive::turns::Answer::{Disconnected, Done, NothingYet, Received};
 use crate::drive::turns::Deed::{First, Goes, Look, Refuse, Second, Sends, WillGo, WillSend};
 use crate::drive::turns::{Life, assert_life};
+use std::process::Termination;
 use std::test::Fail;
 
-const WAITS: &[Life] = &[
+const WAITS: &[Life; 5] = &[
     (
         &[
             (First, NothingYet, (1, 0, 0), (0, 0, 0)),
@@ -64,7 +65,7 @@ fn a_poll_leaves_one_copy_to_the_sender(rt: HostRuntime) -> Result<(), Fail> {
     Ok(())
 }
 
-const REFUSED_COPIES: &[Life] = &[
+const REFUSED_COPIES: &[Life; 3] = &[
     // The task is woken at once.
     (
         &[
@@ -111,7 +112,7 @@ fn a_refused_copy_wakes_its_task_and_leaves_the_stored_one(rt: HostRuntime) -> R
     Ok(())
 }
 
-const LOOKS: &[Life] = &[
+const LOOKS: &[Life; 3] = &[
     (
         &[
             (Look, NothingYet, (0, 0, 0), (0, 0, 0)),
@@ -158,7 +159,7 @@ fn a_look_waits_for_nothing_and_leaves_the_copy_in_its_slot(rt: HostRuntime) -> 
     Ok(())
 }
 
-const BETWEEN_TWO_SWAPS: &[Life] = &[
+const BETWEEN_TWO_SWAPS: &[Life; 2] = &[
     // Each poll performs one load, and wakes its task.
     (
         &[
@@ -199,7 +200,7 @@ fn no_poll_takes_longer_because_the_sender_is_between_its_two_swaps(
     Ok(())
 }
 
-const DROPS: &[Life] = &[
+const DROPS: &[Life; 4] = &[
     (
         &[(First, NothingYet, (1, 0, 0), (0, 0, 0))],
         Some((1, 1, 0)),
@@ -242,4 +243,18 @@ fn a_dropped_future_ends_its_copy(rt: HostRuntime) -> Result<(), Fail> {
         assert_life(&rt, life)?;
     }
     Ok(())
+}
+
+#[test]
+#[should_panic(expected = "(1, 0, 0)")]
+fn other_counts_end_a_test(rt: HostRuntime) {
+    let turns = &[(First, NothingYet, (2, 0, 0), (0, 0, 0))];
+    let _ = assert_life(&rt, &(turns, None, "")).report(&rt);
+}
+
+#[test]
+#[should_panic(expected = "load:3")]
+fn other_steps_of_a_future_end_a_test(rt: HostRuntime) {
+    let turns = &[(Look, NothingYet, (0, 0, 0), (0, 0, 0))];
+    let _ = assert_life(&rt, &(turns, None, "")).report(&rt);
 }

@@ -5,7 +5,7 @@ use crate::drive::deeds::Deed::{
 };
 use crate::drive::deeds::{Deed, Last, outcome_of};
 use std::alloc::AllocGlobal;
-use std::process::Abort;
+use std::process::{Abort, Termination};
 use std::sync::Wait;
 use std::test::Fail;
 
@@ -28,7 +28,7 @@ fn assert_all<R: Wait + Abort + AllocGlobal>(rt: &R, cases: &[Case]) -> Result<(
     Ok(())
 }
 
-const TRIES: &[Case] = &[
+const TRIES: &[Case; 2] = &[
     (
         &[TryRecv, Sends, TryRecv, TryRecv],
         Last::Stays,
@@ -50,7 +50,7 @@ fn try_recv_waits_for_nothing(rt: HostRuntime) -> Result<(), Fail> {
     assert_all(&rt, TRIES)
 }
 
-const DROPS: &[Case] = &[
+const DROPS: &[Case; 3] = &[
     (&[], Last::Drop, "", Some(9), "swap 2:3"),
     (
         &[Sends],
@@ -67,7 +67,7 @@ fn the_receivers_drop_frees_unless_the_sender_is_here(rt: HostRuntime) -> Result
     assert_all(&rt, DROPS)
 }
 
-const WAITS_BY_REFERENCE: &[Case] = &[
+const WAITS_BY_REFERENCE: &[Case; 7] = &[
     (
         &[Sends, RecvRef, RecvRef],
         Last::Stays,
@@ -127,7 +127,7 @@ fn recv_ref_waits_for_the_sender(rt: HostRuntime) -> Result<(), Fail> {
     assert_all(&rt, WAITS_BY_REFERENCE)
 }
 
-const WAITS_BY_VALUE: &[Case] = &[
+const WAITS_BY_VALUE: &[Case; 6] = &[
     (
         &[Sends],
         Last::Recv,
@@ -178,7 +178,7 @@ fn recv_waits_for_the_sender_and_frees(rt: HostRuntime) -> Result<(), Fail> {
     assert_all(&rt, WAITS_BY_VALUE)
 }
 
-const WAITS_UNTIL_A_DEADLINE: &[Case] = &[
+const WAITS_UNTIL_A_DEADLINE: &[Case; 9] = &[
     (
         &[Sends, RecvDeadline, RecvDeadline],
         Last::Stays,
@@ -253,7 +253,7 @@ fn recv_deadline_waits_until_its_deadline(rt: HostRuntime) -> Result<(), Fail> {
     assert_all(&rt, WAITS_UNTIL_A_DEADLINE)
 }
 
-const DEADLINES_THAT_COME_TOO_LATE: &[Case] = &[
+const DEADLINES_THAT_COME_TOO_LATE: &[Case; 4] = &[
     (
         &[WillSend(1, 0), RecvDeadline],
         Last::Stays,
@@ -291,7 +291,7 @@ fn a_deadline_runs_out_over_what_the_sender_did(rt: HostRuntime) -> Result<(), F
     assert_all(&rt, DEADLINES_THAT_COME_TOO_LATE)
 }
 
-const AFTER_A_DEADLINE: &[Case] = &[
+const AFTER_A_DEADLINE: &[Case; 3] = &[
     (
         &[RecvDeadline, TryRecv, Sends, TryRecv],
         Last::Stays,
@@ -323,7 +323,7 @@ fn a_receiver_goes_on_after_its_deadline(rt: HostRuntime) -> Result<(), Fail> {
     assert_all(&rt, AFTER_A_DEADLINE)
 }
 
-const TIMEOUTS: &[Case] = &[
+const TIMEOUTS: &[Case; 4] = &[
     (
         &[Sends, RecvTimeout(true)],
         Last::Stays,
@@ -359,4 +359,10 @@ const TIMEOUTS: &[Case] = &[
 #[test]
 fn recv_timeout_reads_its_clock_for_the_sum(rt: HostRuntime) -> Result<(), Fail> {
     assert_all(&rt, TIMEOUTS)
+}
+
+#[test]
+#[should_panic(expected = "swap 2:3")]
+fn other_steps_end_a_test(rt: HostRuntime) {
+    let _ = assert_all(&rt, &[(&[], Last::Drop, "", Some(9), "swap 2:2")]).report(&rt);
 }

@@ -45,7 +45,7 @@ fn ground<R: Wait>(rt: &R, alloc: Global, receiver: Receiver) -> Ground<'_, R>
 }
 
 /// Where the receiver is, whether the message is sent, and the steps.
-const SENDS: &[(Receiver, bool, &str)] = &[
+const SENDS: &[(Receiver, bool, &str); 5] = &[
     (Receiver::Here, true, "write-message, add:3"),
     (
         Receiver::Waits,
@@ -104,7 +104,7 @@ fn the_error_of_a_receiver_that_left_meanwhile_frees_once(rt: HostRuntime) -> Re
     Ok(())
 }
 
-const DROPS: &[(Receiver, &str)] = &[
+const DROPS: &[(Receiver, &str); 5] = &[
     (Receiver::Here, "flip:3"),
     (Receiver::Waits, "flip:0, take-waker, swap 2:1, wake"),
     (Receiver::Stops, "flip:0, take-waker, swap 2:3, wake"),

@@ -3,7 +3,7 @@
 use crate::text::{Case, assert_faults};
 use std::test::Fail;
 
-const OF_A_TEXT: &[Case] = &[
+const OF_A_TEXT: &[Case; 54] = &[
     ("", "line 1 is missing"),
     ("S", "line 2 is missing"),
     ("S\n", "line 2 is missing"),
@@ -75,7 +75,7 @@ const OF_A_TEXT: &[Case] = &[
     ("S\nR\nX\n\n", "input after line 3"),
 ];
 
-const OF_LOOKS: &[Case] = &[
+const OF_LOOKS: &[Case; 17] = &[
     ("S closed\n", "line 2 is missing"),
     ("S closed closed", "line 2 is missing"),
     ("S closed \n", "line 1: unknown word 2"),
@@ -101,7 +101,7 @@ const OF_LOOKS: &[Case] = &[
     ),
 ];
 
-const OF_RECEIVES: &[Case] = &[
+const OF_RECEIVES: &[Case; 20] = &[
     ("S ref\n", "line 1: unknown word 1"),
     ("S recv\n", "line 1: unknown word 1"),
     ("S closed recv\n", "line 1: unknown word 2"),
@@ -127,7 +127,7 @@ const OF_RECEIVES: &[Case] = &[
     ("S\nR\nX recv\n", "line 3: unknown word 1"),
 ];
 
-const AFTER_A_SEND: &[Case] = &[
+const AFTER_A_SEND: &[Case; 15] = &[
     ("S send 7 inner inner\n", "line 2 is missing"),
     ("S send 7 x\n", "line 1: unknown word 3"),
     ("S send 7 \n", "line 1: unknown word 3"),
@@ -156,7 +156,8 @@ const AFTER_A_SEND: &[Case] = &[
 
 #[test]
 fn each_fault_is_reported(rt: HostRuntime) -> Result<(), Fail> {
-    for cases in [OF_A_TEXT, OF_LOOKS, OF_RECEIVES, AFTER_A_SEND] {
+    let tables: [&[Case]; 4] = [OF_A_TEXT, OF_LOOKS, OF_RECEIVES, AFTER_A_SEND];
+    for cases in tables {
         assert_faults(&rt, cases)?;
     }
     Ok(())

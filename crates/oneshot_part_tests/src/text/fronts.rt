@@ -3,7 +3,7 @@
 use crate::text::{Case, assert_faults};
 use std::test::Fail;
 
-const WITHOUT_A_SCHEDULE: &[Case] = &[
+const WITHOUT_A_SCHEDULE: &[Case; 21] = &[
     ("", "line 1 is missing"),
     ("S", "line 2 is missing"),
     ("S ", "line 1: unknown word 1"),
@@ -27,7 +27,7 @@ const WITHOUT_A_SCHEDULE: &[Case] = &[
     ("S send 7\nR try drop\n", "line 3 is missing"),
 ];
 
-const OF_LOOKS_AND_OF_AN_ERRORS_SCRIPT: &[Case] = &[
+const OF_LOOKS_AND_OF_AN_ERRORS_SCRIPT: &[Case; 23] = &[
     ("S c", "line 1: unknown word 1"),
     ("S close", "line 1: unknown word 1"),
     ("S closed", "line 2 is missing"),
@@ -68,7 +68,7 @@ const OF_LOOKS_AND_OF_AN_ERRORS_SCRIPT: &[Case] = &[
     ),
 ];
 
-const OF_RECEIVES: &[Case] = &[
+const OF_RECEIVES: &[Case; 8] = &[
     ("S\nR r", "line 2: unknown word 1"),
     ("S\nR re", "line 2: unknown word 1"),
     ("S\nR ref", "line 3 is missing"),
@@ -79,7 +79,7 @@ const OF_RECEIVES: &[Case] = &[
     ("S\nR ref recv\n", "line 3 is missing"),
 ];
 
-const OF_A_FUTURE: &[Case] = &[
+const OF_A_FUTURE: &[Case; 19] = &[
     ("S send 7\nR ", "line 2: unknown word 1"),
     ("S send 7\nR f", "line 2: unknown word 1"),
     ("S send 7\nR fu", "line 2: unknown word 1"),
@@ -103,12 +103,13 @@ const OF_A_FUTURE: &[Case] = &[
 
 #[test]
 fn each_front_has_its_fault(rt: HostRuntime) -> Result<(), Fail> {
-    for cases in [
+    let tables: [&[Case]; 4] = [
         WITHOUT_A_SCHEDULE,
         OF_LOOKS_AND_OF_AN_ERRORS_SCRIPT,
         OF_RECEIVES,
         OF_A_FUTURE,
-    ] {
+    ];
+    for cases in tables {
         assert_faults(&rt, cases)?;
     }
     Ok(())

@@ -3,7 +3,7 @@
 use crate::text::{Case, assert_faults};
 use std::test::Fail;
 
-const TWO_FAULTS: &[Case] = &[
+const TWO_FAULTS: &[Case; 20] = &[
     ("Q\nQ\n", "line 1: must begin with S"),
     ("S wait\n", "line 1: unknown word 1"),
     ("S wait\nR wait\nX\n", "line 1: unknown word 1"),

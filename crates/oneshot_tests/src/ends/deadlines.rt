@@ -1,12 +1,11 @@
 //! Receives with a deadline or a timeout: how long they take, and what a sender on another thread changes.
 
-use super::beside::{Act, Pace, Receive, assert_receives};
+use super::beside::{Act, Pace, Receive, assert_receives, hour};
 use crate::asserts::{assert_same, assert_that};
-use oneshot_channel::{Receiver, RecvTimeoutError, channel};
-use std::sync::Wait;
+use oneshot_channel::{RecvTimeoutError, channel};
 use std::test::Fail;
 use std::thread::{join, sleep};
-use std::time::{Clock, Duration, Instant};
+use std::time::{Duration, Instant};
 
 // The rounds of each of the two timed receives.
 const ROUNDS: u64 = 1_000;
@@ -22,20 +21,7 @@ fn a_timeout_that_runs_out_takes_its_time(rt: HostRuntime) -> Result<(), Fail> {
     Ok(())
 }
 
-// What a receive of at most ten seconds returns, and whether it took less than five.
-fn promptly<T: Drop, Rt: Wait + Clock + Drop>(
-    rt: &impl Clock,
-    receiver: &mut Receiver<T, Rt>,
-) -> (Result<T, RecvTimeoutError>, bool) {
-    let start = Instant::now(rt).ok();
-    let received = receiver.recv_timeout(Duration::from_secs(10));
-    let took = start.and_then(|start| start.elapsed(rt).ok());
-    (
-        received,
-        took.is_some_and(|took| took < Duration::from_secs(5)),
-    )
-}
-
+// If a receive were not woken, this test would not end.
 #[test]
 fn two_threads_answer_each_other_promptly(rt: HostRuntime) -> Result<(), Fail> {
     let (to_right, mut at_right) = channel::<u8, _>(&rt, rt.alloc())?;
@@ -45,15 +31,15 @@ fn two_threads_answer_each_other_promptly(rt: HostRuntime) -> Result<(), Fail> {
         || {
             sleep(&rt, Duration::from_millis(100));
             let sent = to_right.send(1).is_ok();
-            (sent, promptly(&rt, &mut at_left))
+            (sent, at_left.recv_timeout(hour()))
         },
         || {
-            let received = promptly(&rt, &mut at_right);
+            let received = at_right.recv_timeout(hour());
             (to_left.send(2).is_ok(), received)
         },
     );
-    assert_same(&rt, left, (true, (Ok(2), true)));
-    assert_same(&rt, right, (true, (Ok(1), true)));
+    assert_same(&rt, left, (true, Ok(2)));
+    assert_same(&rt, right, (true, Ok(1)));
     Ok(())
 }
 

@@ -22,7 +22,7 @@ use std::time::{Clock, Duration};
 pub(super) type Life<'a> = &'a [(Step, Answer, Look, Look)];
 
 /// Futures that become ready.
-pub(super) const READY: &[Life<'static>] = &[
+pub(super) const READY: &[Life<'static>; 4] = &[
     &[
         (MakeAsync, Done, Open, Open),
         (SendMessage, Sent, Gone, Full),
@@ -52,7 +52,7 @@ pub(super) const READY: &[Life<'static>] = &[
 ];
 
 /// Futures with `try_recv` before their polls, between them and after them.
-pub(super) const TRIED: &[Life<'static>] = &[
+pub(super) const TRIED: &[Life<'static>; 5] = &[
     &[
         (MakeAsync, Done, Open, Open),
         (TryRecv, NothingYet, Open, Open),
@@ -100,7 +100,7 @@ pub(super) const TRIED: &[Life<'static>] = &[
 ];
 
 /// Futures that are dropped before they are ready.
-pub(super) const DROPPED: &[Life<'static>] = &[
+pub(super) const DROPPED: &[Life<'static>; 6] = &[
     &[
         (MakeAsync, Done, Open, Open),
         (DropReceiver, Done, Closed, Gone),
@@ -141,7 +141,7 @@ pub(super) const DROPPED: &[Life<'static>] = &[
 ];
 
 /// Ends that were raw for a while.
-pub(super) const RAW: &[Life<'static>] = &[
+pub(super) const RAW: &[Life<'static>; 5] = &[
     &[
         (Make, Done, Open, Open),
         (SenderThroughRaw, Done, Open, Open),
@@ -179,7 +179,7 @@ pub(super) const RAW: &[Life<'static>] = &[
 ];
 
 /// Receivers whose message is received.
-pub(super) const RECEIVED: &[Life<'static>] = &[
+pub(super) const RECEIVED: &[Life<'static>; 3] = &[
     &[
         (Make, Done, Open, Open),
         (SendMessage, Sent, Gone, Full),
@@ -204,7 +204,7 @@ pub(super) const RECEIVED: &[Life<'static>] = &[
 ];
 
 /// Receivers whose message nobody receives, or that get none.
-pub(super) const UNRECEIVED: &[Life<'static>] = &[
+pub(super) const UNRECEIVED: &[Life<'static>; 6] = &[
     &[
         (Make, Done, Open, Open),
         (SendMessage, Sent, Gone, Full),
@@ -239,7 +239,7 @@ pub(super) const UNRECEIVED: &[Life<'static>] = &[
 ];
 
 /// Receivers whose time is over before the sender acts. Their word shows that they wait only during a receive.
-pub(super) const OVER: &[Life<'static>] = &[
+pub(super) const OVER: &[Life<'static>; 5] = &[
     &[
         (Make, Done, Open, Open),
         (TryRecv, NothingYet, Open, Open),
@@ -282,12 +282,12 @@ pub(super) const OVER: &[Life<'static>] = &[
 ];
 
 /// Every life but those of `TIMED`.
-pub(super) const LIVES: &[&[Life<'static>]] = &[
+pub(super) const LIVES: &[&[Life<'static>]; 7] = &[
     READY, TRIED, DROPPED, RAW, RECEIVED, UNRECEIVED, OVER,
 ];
 
 /// Timed receives, which get what is there whenever their time is over.
-const TIMED: &[Step] = &[
+const TIMED: &[Step; 6] = &[
     RecvTimeout(Past),
     RecvTimeout(Hour),
     RecvTimeout(Never),

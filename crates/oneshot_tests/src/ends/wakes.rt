@@ -28,7 +28,7 @@ pub(crate) type Waits = (&'static [Deed], [u64; 2]);
 
 /// In no row does one task poll twice and then the other: that drops the spare copy of the first, which
 /// wakes it.
-pub(crate) const WAITS: &[Waits] = &[
+pub(crate) const WAITS: &[Waits; 7] = &[
     (&[First, First, First, First, First], [1, 0]),
     (&[First, Second, First, Second, First, Second], [0, 1]),
     (&[First, First, Look, First, Look, Look, First], [1, 0]),
@@ -203,4 +203,10 @@ fn a_task_that_waits_beside_others_is_woken_by_the_sender_alone(
         assert_same(&rt, receiver.try_recv(), Err(TryRecvError::Disconnected));
     }
     Ok(())
+}
+
+#[test]
+#[should_panic(expected = "right: [0, 1]")]
+fn a_wake_that_nobody_made_ends_a_test(rt: HostRuntime) {
+    assert_wakes(&rt, &[Bell::new(), Bell::new()], [0, 1], &[]);
 }

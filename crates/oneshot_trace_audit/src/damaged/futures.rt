@@ -5,7 +5,6 @@ use crate::damage::Edit;
 use crate::damaged::Damaged;
 use crate::scripts::{Receiving, Sending};
 use oneshot_machine::machine::{End, Reply, Step};
-use oneshot_machine::states::UNPARKING;
 use oneshot_replay::{Place, WakerName, WakerPlace};
 
 const OF_ANOTHER_TASK: WakerName = WakerName::Copy {
@@ -37,19 +36,6 @@ pub(crate) const POLLED_ONCE: Damaged = (
             "rrrrrssssrrrrs",
             &[Edit::MoveBefore(13, 9)],
             (9, Fault::FreedTooEarly(End::Receiver)),
-        ),
-        // 8 R load 1, 9 R load 1, 10 S take-waker, 11 S swap 1>4, 12 R load 4, .. 15 R free = dropped, 16 S wake.
-        (
-            "a drop that waits for the sender frees the block before its final swap",
-            "rrrrrssssrrrrs",
-            &[
-                Edit::Double(10),
-                Edit::MoveBefore(10, 8),
-                Edit::Before(8, UNPARKING),
-                Edit::Double(8),
-                Edit::MoveBefore(15, 11),
-            ],
-            (11, Fault::FreedTooEarly(End::Receiver)),
         ),
         (
             "the sender takes the waker after its final swap",

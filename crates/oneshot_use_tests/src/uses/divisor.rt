@@ -33,8 +33,8 @@ fn a_divisor_of_another_number_is_not_taken(rt: HostRuntime) -> Result<(), Fail>
 fn a_search_ends_where_nobody_waits(rt: HostRuntime) -> Result<(), Fail> {
     let (waiter, receiver) = async_channel((), rt.alloc())?;
     drop(receiver);
-    let thread = start(&rt, 91, waiter)?;
-    thread.join(&rt);
+    let search = start(&rt, 91, waiter)?;
+    search.join(&rt);
     Ok(())
 }
 

@@ -9,7 +9,7 @@ use std::process::Abort;
 use std::test::Fail;
 
 /// The pieces of an input, in their order, each with the output for the prefixes that end in it.
-const FRONTS: &[(&str, &str)] = &[
+const FRONTS: &[(&str, &str); 14] = &[
     ("S", "2 line 2 is missing"),
     (" sen", "2 line 1: unknown word 1"),
     ("d ", "2 line 1: bad number at word 2"),
@@ -63,7 +63,7 @@ fn assert_told(rt: &(impl Abort + AllocGlobal), input: &[u8], output: &str) -> R
 }
 
 /// Inputs that go on after the third line, with the fault that the program reports.
-const BEFORE_MORE_INPUT: &[(&str, &str)] = &[
+const BEFORE_MORE_INPUT: &[(&str, &str); 12] = &[
     ("S\nR\nX\ns", "2 input after line 3"),
     ("s\nR\nX\ns", "2 line 1: must begin with S"),
     ("S\ns\nX\ns", "2 line 2: must begin with R"),

@@ -46,7 +46,7 @@ pub(super) enum Kind {
 }
 
 impl Kind {
-    pub(super) const ALL: &'static [Kind] = &[
+    pub(super) const ALL: &'static [Kind; 8] = &[
         Kind::Trace,
         Kind::NotAscii,
         Kind::Missing,

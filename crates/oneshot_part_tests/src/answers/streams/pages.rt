@@ -4,7 +4,7 @@ use crate::answers::{assert_trace, receives};
 use std::test::Fail;
 
 /// The number of receives and of moves, and where a line ends. The last three outputs end there.
-const PAGES: &[(usize, usize, usize)] = &[
+const PAGES: &[(usize, usize, usize); 6] = &[
     (2, 400, 4095),
     (4, 400, 4096),
     (6, 400, 4097),

@@ -23,7 +23,7 @@ block freed
 ";
 
 /// Inputs and their traces.
-const TRACES: &[(&str, &str)] = &[(SENT, SENT_TRACE), (LONG, LONG_TRACE)];
+const TRACES: &[(&str, &str); 2] = &[(SENT, SENT_TRACE), (LONG, LONG_TRACE)];
 
 #[test]
 fn short_reads_and_writes_move_all(rt: HostRuntime) {
