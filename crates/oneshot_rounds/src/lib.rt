@@ -18,21 +18,13 @@ mod duels;
 #[cfg(test)]
 mod line;
 #[cfg(test)]
-mod looks;
-#[cfg(test)]
 mod notes;
-#[cfg(test)]
-mod overtaken;
-#[cfg(test)]
-mod pending;
 #[cfg(test)]
 mod races;
 #[cfg(test)]
 mod replies;
 #[cfg(test)]
 mod sizes;
-#[cfg(test)]
-mod tries;
 #[cfg(test)]
 mod two_channels;
 #[cfg(test)]

@@ -1,7 +1,7 @@
 //! Two threads that each make a call in every round, at about the same time.
 //!
 //! If all processors are busy, both threads may share one. Their calls then follow each other in either
-//! order, and rarely overlap. Only the tests of `overtaken` need overlaps, and try for some seconds.
+//! order, and rarely overlap. No test needs overlaps: `scripts/schedules` goes through them.
 
 use super::answers::Outcome;
 use super::line::{Line, Side};

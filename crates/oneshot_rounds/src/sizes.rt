@@ -5,6 +5,7 @@ use super::channels::channels;
 use super::races::race;
 use super::uses::{blocking_uses, trying_uses};
 use super::waits::patience;
+use oneshot_channel::Sender;
 use oneshot_tests::uses::Use;
 use std::fmt::Debug;
 use std::process::Abort;
@@ -15,6 +16,11 @@ use std::thread::Threads;
 use std::time::{Clock, Instant};
 
 const ROUNDS: u64 = 100;
+
+// A function: in a closure this takes a minute longer to prove.
+fn is_sent<T: Send + Drop>(sender: Sender<T>, message: T) -> bool {
+    sender.send(message).is_ok()
+}
 
 // Fails unless `message` comes in each round.
 fn assert_comes<
@@ -27,7 +33,7 @@ fn assert_comes<
         rt.alloc(),
         senders,
         receivers,
-        |sender| sender.send(message).is_ok(),
+        |sender| is_sent(sender, message),
         |receiver| using.receive(rt, receiver) == Ok(message),
     );
     assert_answers(rt, &sends, &[true]);

@@ -5,8 +5,6 @@
 #[cfg(test)]
 mod arguments;
 #[cfg(test)]
-mod asserts;
-#[cfg(test)]
 mod callers;
 #[cfg(test)]
 mod loops;

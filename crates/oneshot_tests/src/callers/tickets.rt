@@ -2,9 +2,9 @@
 
 ghost use Rattle.std.specs.Prelude.{◌≡◌, ◌≤◌, IfOk, IfSome};
 
-use crate::asserts::{assert_same, assert_that};
 use futures::executor::block_on;
 use futures::future::{Either, join, select};
+use oneshot_asserts::{assert_same, assert_that};
 use oneshot_channel::reply::{Answer, Request, Ticket, request};
 use std::alloc::{AllocError, AllocGlobal};
 use std::io;

@@ -1,11 +1,11 @@
 //! A caller that steps a run and prints each entry, proved and tested; docs/MODEL.md shows it.
 
-use crate::asserts::{assert_same, assert_that};
 use oneshot::replay::{
     CallList, ErrorLast, ErrorScript, Move, ReceiverLast, ReceiverScript, Replayer, SenderLast,
     SenderScript,
 };
 use oneshot::text::EntryLine;
+use oneshot_asserts::{assert_same, assert_that};
 use std::alloc::{AllocError, Global};
 use std::test::Fail;
 

@@ -1,0 +1,12 @@
+//! Tests of the model's parts, by public names: lists of calls, runs that are stepped by hand, texts, and answers to
+//! inputs.
+#![tactic(auto)]
+
+#[cfg(test)]
+mod answers;
+#[cfg(test)]
+mod replayer;
+#[cfg(test)]
+mod scripts;
+#[cfg(test)]
+mod text;
