@@ -2,7 +2,7 @@
 
 use super::answers::assert_both_orders;
 use super::duels::beside_a_drop;
-use super::uses::{blocking_uses, trying_uses};
+use super::uses::blocking_uses;
 use futures::test::MockTask;
 use oneshot_tests::uses::Silence::{Disconnected, Dropped, NothingYet};
 use oneshot_tests::uses::{FutureUse, Use};
@@ -24,10 +24,22 @@ fn each_wait_returns_that_no_message_will_come(rt: HostRuntime) -> Result<(), Fa
 }
 
 #[test]
-fn each_try_and_poll_returns_that_no_message_will_come(rt: HostRuntime) -> Result<(), Fail> {
-    for using in &trying_uses(&rt)? {
-        beside_a_drop(&rt, using, &[Err(Disconnected)])?;
-    }
+fn each_try_returns_that_no_message_will_come(rt: HostRuntime) -> Result<(), Fail> {
+    beside_a_drop(&rt, &Use::TryUntil, &[Err(Disconnected)])?;
+    Ok(())
+}
+
+#[test]
+fn each_poll_returns_that_no_message_will_come(rt: HostRuntime) -> Result<(), Fail> {
+    let poll = FutureUse::PollUntil(MockTask::new(&rt)?);
+    beside_a_drop(&rt, &Use::AsFuture(poll), &[Err(Disconnected)])?;
+    Ok(())
+}
+
+#[test]
+fn each_await_returns_that_no_message_will_come(rt: HostRuntime) -> Result<(), Fail> {
+    let awaits = Use::AsFuture(FutureUse::Await);
+    beside_a_drop(&rt, &awaits, &[Err(Disconnected)])?;
     Ok(())
 }
 

@@ -1,7 +1,7 @@
 //! Each use of a receiver beside a `send` of 999.
 
 use super::duels::beside_a_send;
-use super::uses::{blocking_uses, trying_uses};
+use super::uses::blocking_uses;
 use futures::test::MockTask;
 use oneshot_tests::uses::Silence::{Dropped, NothingYet};
 use oneshot_tests::uses::{FutureUse, Use};
@@ -22,11 +22,20 @@ fn each_wait_gives_the_message(rt: HostRuntime) -> Result<(), Fail> {
 }
 
 #[test]
-fn each_try_and_poll_gives_the_message(rt: HostRuntime) -> Result<(), Fail> {
-    for using in &trying_uses(&rt)? {
-        beside_a_send(&rt, using, &[Ok(())], &[Ok(999)])?;
-    }
-    Ok(())
+fn each_try_gives_the_message(rt: HostRuntime) -> Result<(), Fail> {
+    beside_a_send(&rt, &Use::TryUntil, &[Ok(())], &[Ok(999)])
+}
+
+#[test]
+fn each_poll_gives_the_message(rt: HostRuntime) -> Result<(), Fail> {
+    let poll = FutureUse::PollUntil(MockTask::new(&rt)?);
+    beside_a_send(&rt, &Use::AsFuture(poll), &[Ok(())], &[Ok(999)])
+}
+
+#[test]
+fn each_await_gives_the_message(rt: HostRuntime) -> Result<(), Fail> {
+    let awaits = Use::AsFuture(FutureUse::Await);
+    beside_a_send(&rt, &awaits, &[Ok(())], &[Ok(999)])
 }
 
 #[test]
