@@ -42,3 +42,26 @@ pub(super) fn assert_both_orders<A>(rt: &impl Abort, outcomes: &[Outcome<A>]) {
         "late {late} times, early {early} times"
     );
 }
+
+const EARLY: [Outcome<u8>; 1] = [Outcome {
+    answer: 1,
+    late: false,
+}];
+
+#[test]
+#[should_panic(expected = "1 came")]
+fn an_answer_that_may_not_come_ends_a_test(rt: HostRuntime) {
+    assert_answers(&rt, &EARLY, &[2]);
+}
+
+#[test]
+#[should_panic(expected = "2 came 0 times")]
+fn an_answer_that_does_not_come_ends_a_test(rt: HostRuntime) {
+    assert_answers(&rt, &EARLY, &[1, 2]);
+}
+
+#[test]
+#[should_panic(expected = "late 0 times, early 1 times")]
+fn one_order_ends_a_test(rt: HostRuntime) {
+    assert_both_orders(&rt, &EARLY);
+}

@@ -57,3 +57,14 @@ impl Drops {
         }
     }
 }
+
+#[test]
+#[should_panic(expected = "0 drops of a message")]
+fn a_message_that_is_not_dropped_ends_a_test(rt: HostRuntime) {
+    let mut counts = Vec::new(rt.alloc());
+    let drops = Arc::new(rt.alloc(), AtomicU64::new(0)).ok();
+    counts
+        .push(drops.expect(&rt, "memory"))
+        .expect(&rt, "memory");
+    Drops(counts).assert_once(&rt);
+}

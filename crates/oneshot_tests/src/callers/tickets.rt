@@ -4,7 +4,6 @@ ghost use Rattle.std.specs.Prelude.{◌≡◌, ◌≤◌, IfOk, IfSome};
 
 use futures::executor::block_on;
 use futures::future::{Either, join, select};
-use oneshot_asserts::{assert_same, assert_that};
 use oneshot_channel::reply::{Answer, Request, Ticket, request};
 use std::alloc::{AllocError, AllocGlobal};
 use std::io;
@@ -96,9 +95,9 @@ where
 fn both_replies_come(rt: HostRuntime) -> Result<(), Fail> {
     let (few, first) = request((), rt.alloc(), 7u32).map_err(|_| AllocError)?;
     let (many, second) = request((), rt.alloc(), 11u32).map_err(|_| AllocError)?;
-    assert_that(&rt, serve(many));
-    assert_that(&rt, serve(few));
-    assert_same(&rt, both_replies(&rt, first, second)?, Some((7, 10)));
+    oneshot_asserts::assert_that(&rt, serve(many));
+    oneshot_asserts::assert_that(&rt, serve(few));
+    oneshot_asserts::assert_same(&rt, both_replies(&rt, first, second)?, Some((7, 10)));
     Ok(())
 }
 
@@ -106,8 +105,8 @@ fn both_replies_come(rt: HostRuntime) -> Result<(), Fail> {
 fn one_reply_comes_first(rt: HostRuntime) -> Result<(), Fail> {
     let (unserved, first) = request((), rt.alloc(), 7u32).map_err(|_| AllocError)?;
     let (served, second) = request((), rt.alloc(), 7u32).map_err(|_| AllocError)?;
-    assert_that(&rt, serve(served));
-    assert_same(&rt, first_reply(&rt, first, second)?, Some(7));
-    assert_that(&rt, !serve(unserved));
+    oneshot_asserts::assert_that(&rt, serve(served));
+    oneshot_asserts::assert_same(&rt, first_reply(&rt, first, second)?, Some(7));
+    oneshot_asserts::assert_that(&rt, !serve(unserved));
     Ok(())
 }

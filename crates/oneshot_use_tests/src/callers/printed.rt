@@ -5,7 +5,6 @@ use oneshot::replay::{
     SenderScript,
 };
 use oneshot::text::EntryLine;
-use oneshot_asserts::{assert_same, assert_that};
 use std::alloc::{AllocError, Global};
 use std::test::Fail;
 
@@ -60,13 +59,13 @@ fn a_message_comes_back_and_its_lines_are_printed(rt: HostRuntime) -> Result<(),
     let [dropped, written, refused] = lines.as_slice() else {
         panic!(rt; "a line a move")
     };
-    assert_same(&rt, dropped.as_str(), "1 R swap 3>2 = dropped");
-    assert_same(
+    oneshot_asserts::assert_same(&rt, dropped.as_str(), "1 R swap 3>2 = dropped");
+    oneshot_asserts::assert_same(
         &rt,
         written.as_str(),
         "2 S write-message 2>2 m:NotSent>InCell",
     );
-    assert_same(&rt, refused.as_str(), "3 S add 2>3 m:InCell>InError = Err");
-    assert_that(&rt, !run.block_freed());
+    oneshot_asserts::assert_same(&rt, refused.as_str(), "3 S add 2>3 m:InCell>InError = Err");
+    oneshot_asserts::assert_that(&rt, !run.block_freed());
     Ok(())
 }
