@@ -1,14 +1,27 @@
 """Cases of a program, which `rt try` builds once and runs on each: its input, its exit status and what it writes."""
+import contextlib
 import pathlib
 import re
+import shutil
 import subprocess
 import tempfile
 
 from parts.compare import same_lines
+from parts.sources import CRATES
+
+
+@contextlib.contextmanager
+def copied_crate(name):
+    """This crate in a copy of all: `rt ci` may prove those of the repository meanwhile."""
+    with tempfile.TemporaryDirectory() as folder:
+        top = pathlib.Path(folder)
+        shutil.copytree(CRATES, top / "crates", ignore=shutil.ignore_patterns("out"))
+        shutil.copy(CRATES.parent / "crates.txt", top)
+        yield top / "crates" / name
 
 
 def try_program(crate, given, *flags, environment=None):
-    """Runs the program of a crate on each of these inputs, by their names. What they wrote, and what was said of them."""
+    """Runs a crate's program on each of these inputs, by their names. What they wrote, and what was said of them."""
     with tempfile.TemporaryDirectory() as folder:
         for name, text in given.items():
             (pathlib.Path(folder) / name).write_bytes(text)

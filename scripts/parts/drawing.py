@@ -8,7 +8,9 @@ import re
 
 from parts.compare import Differs
 
-WORDS = {"0": "0 RECEIVING", "1": "1 UNPARKING", "2": "2 DISCONNECTED", "3": "3 EMPTY", "4": "4 MESSAGE", "-": "no word"}
+WORDS = {
+    "0": "0 RECEIVING", "1": "1 UNPARKING", "2": "2 DISCONNECTED", "3": "3 EMPTY", "4": "4 MESSAGE", "-": "no word",
+}
 OPERATIONS = {"load", "store", "swap", "exchange", "add", "xor"}
 STEPS = OPERATIONS | {
     "write-message", "take-message", "drop-message", "write-waker", "take-waker", "withdraw", "park", "clock", "copy",

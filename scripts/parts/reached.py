@@ -2,9 +2,9 @@
 
 A contract is stated by what its clauses name, and by what the definitions of that name in turn. So is a law, which is
 the contract of a function whose body does nothing; the first name of its clause is the law itself, and needs no example
-where only laws name it. An example is what a clause names of a file of examples. The definitions that may stay out are in UNREACHED, with the
-reason. Clauses of private functions, what a type always keeps (`invariant`) and what an operation on the table finds
-(`then`) are not read: others are proved from them.
+where only laws name it. An example is what a clause names of a file of examples. The definitions that may stay out
+are in UNREACHED, with the reason. Clauses of private functions, what a type always keeps (`invariant`) and what an
+operation on the table finds (`then`) are not read: others are proved from them.
 """
 import re
 from fnmatch import fnmatchcase
@@ -14,8 +14,12 @@ from parts.sources import CRATES, block_end, code_of, functions, sources
 
 # Left out are the definitions of texts and programs, which tests compare with what is read and written, and those of
 # grounds in memory, which serve tests.
-READ = ["machine", "drive", "word", "ends", "reply", "errors", "world", "laws", "law_examples", "replay", "bridge", "values"]
-EXAMPLES = re.compile(r"\w+\.\w*Examples\.|oneshot_law_examples\.|oneshot_word\.Received\.(?:Messages|Wakers)|\w+\.\w*Order\.W")
+READ = [
+    "machine", "drive", "word", "ends", "reply", "errors", "world", "laws", "law_examples", "replay", "bridge",
+    "values",
+]
+EXAMPLES = re.compile(
+    r"\w+\.\w*Examples\.|oneshot_law_examples\.|oneshot_word\.Received\.(?:Messages|Wakers)|\w+\.\w*Order\.W")
 
 # "crate.File", its definitions (also as patterns of the shell), and why no example has to reach them.
 UNREACHED = [
