@@ -45,6 +45,6 @@ def compile_scheduler(folder):
     flags = ["-O2", "-Wall", "-Wextra", "-shared", "-fPIC", "-ftls-model=initial-exec"]
     files = sorted(str(file) for file in SCHEDULER.glob("*.c"))
     ran = subprocess.run([os.environ.get("CC", "cc"), *flags, "-o", str(made), *files], capture_output=True, text=True)
-    if ran.returncode or ran.stderr:
-        raise Differs(ran.stderr)
+    if ran.returncode or ran.stderr or not made.exists():
+        raise Differs(ran.stderr or "the C compiler made no library")
     return str(made)
