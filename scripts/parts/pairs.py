@@ -40,7 +40,7 @@ SHORT = (pairs_of("", TRIES) + pairs_of("", POLLS[:4])
          + pairs_of("", ["future poll1 try drop", "future poll1 try poll2 drop", "future full poll1 closed poll2 drop",
                          "future poll1 full poll2 full drop"], senders=["drop"])
          + pairs_of("", POLLS[1:4], "refused=1", ["send"])
-         + pairs_of("two", BOTH[:3], senders=["send", "drop"]) + pairs_of("two", ["recv"], senders=[""]))
+         + pairs_of("two", BOTH[:3], senders=["send", "drop"]) + pairs_of("two", ["recv"], "spurious=0", ["send", ""]))
 # With --all.
 ALL = (pairs_of("", TRIES) + pairs_of("", POLLS) + pairs_of("", WAITS) + pairs_of("", TIMED, "readings=5")
        + pairs_of("", ["timeout drop", "deadline drop", "fartimeout drop"], "readings=3 failing-clock=1", SENDERS[:2])
