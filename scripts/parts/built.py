@@ -23,20 +23,34 @@ def newest_source(crate):
     return max(file.stat().st_mtime for file in files)
 
 
-def find_program(crate, compiler="llvm"):
+def build_program(crate, compiler):
+    """Builds the program, which `rt` puts in the place of LLVM's whatever the compiler."""
     folder = CRATES / crate
-    program = folder / "out" / f"{crate}{ENDINGS[compiler]}"
-    if not program.exists() or program.stat().st_mtime < newest_source(crate):
+    made, program = folder / "out" / crate, folder / "out" / f"{crate}{ENDINGS[compiler]}"
+    kept = made.read_bytes() if made != program and made.exists() else None
+    words = (folder / "args").read_text().split() if (folder / "args").exists() else []
+    with open(folder / "stdin" if (folder / "stdin").exists() else os.devnull) as given:
+        subprocess.run(["rt", "run", "--backend", compiler, "--", *words], cwd=folder, stdin=given,
+                       stdout=subprocess.DEVNULL)
+    if made != program and made.exists():
+        shutil.move(made, program)
+    if kept:
+        made.write_bytes(kept)
+        made.chmod(0o755)
+
+
+def find_program(crate, compiler="llvm"):
+    program = CRATES / crate / "out" / f"{crate}{ENDINGS[compiler]}"
+    if not is_new(program, crate):
         print(f"schedules: proving and building {crate}, which takes minutes the first time", file=sys.stderr, flush=True)
-        words = (folder / "args").read_text().split() if (folder / "args").exists() else []
-        with open(folder / "stdin" if (folder / "stdin").exists() else os.devnull) as given:
-            ran = subprocess.run(["rt", "run", "--backend", compiler, "--", *words], cwd=folder, stdin=given,
-                                 stdout=subprocess.DEVNULL)
-        if ran.returncode != 0:
-            sys.exit(f"schedules: {crate} was not built")
-        if compiler != "llvm":
-            shutil.move(folder / "out" / crate, program)
+        build_program(crate, compiler)
+    if not is_new(program, crate):
+        raise Differs(f"{crate} was not built")
     return str(program)
+
+
+def is_new(program, crate):
+    return program.exists() and program.stat().st_mtime >= newest_source(crate)
 
 
 def compile_scheduler(folder):
@@ -45,6 +59,6 @@ def compile_scheduler(folder):
     flags = ["-O2", "-Wall", "-Wextra", "-shared", "-fPIC", "-ftls-model=initial-exec"]
     files = sorted(str(file) for file in SCHEDULER.glob("*.c"))
     ran = subprocess.run([os.environ.get("CC", "cc"), *flags, "-o", str(made), *files], capture_output=True, text=True)
-    if ran.returncode or ran.stderr:
-        raise Differs(ran.stderr)
+    if ran.returncode or ran.stderr or not made.exists():
+        raise Differs(ran.stderr or "the C compiler made no library")
     return str(made)

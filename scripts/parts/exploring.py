@@ -1,4 +1,5 @@
 """Goes through the runs of pairs of scripts, each by the scheduler, and has each held against the model."""
+import collections
 import os
 import queue
 import re
@@ -35,6 +36,12 @@ class Result:
                 f"{self.orders - self.missed} of the model's {self.orders} orders")
 
 
+def tell_first(found, told):
+    result = found.popleft().result()
+    if result:
+        told(result)
+
+
 class Explorer:
     """Both programs and the scheduler, on these processors."""
 
@@ -69,21 +76,25 @@ class Explorer:
         self.running.discard(explorer)
         return Result(pair, written, said, auditor.returncode)
 
-    def explore_all(self, pairs, seconds, until, told):
-        """Goes through pairs, each for so many seconds, and begins none after `until`. Tells each result."""
-        with ThreadPoolExecutor(self.count) as pool:
-            def one(pair):
-                left = until - time.monotonic()
-                if self.stopped.is_set() or left < 1:
-                    return None
-                return self.explore(pair, f"seconds={int(min(seconds, left))}")
+    def explore_all(self, pairs, told, seconds=1e9, until=1e18):
+        """Goes through pairs, each for so many seconds, and begins none after `until`. Tells each result, also those
+        of the pairs that an interrupt ends."""
+        def one(pair):
+            left = until - time.monotonic()
+            if self.stopped.is_set() or left < 1:
+                return None
+            return self.explore(pair, f"seconds={int(min(seconds, left))}")
 
+        with ThreadPoolExecutor(self.count) as pool:
+            found = collections.deque(pool.submit(one, pair) for pair in pairs)
             try:
-                for result in pool.map(one, pairs):
-                    if result:
-                        told(result)
+                while found:
+                    found[0].result()
+                    tell_first(found, told)
             except KeyboardInterrupt:
                 self.stop()
+                while found:
+                    tell_first(found, told)
                 raise
 
     def stop(self):

@@ -19,8 +19,10 @@ TIMED = ["timeout drop", "zerotimeout drop", "deadline drop", "zerodeadline drop
          "fardeadline drop"]
 ASKED = ["try drop", "closed try drop", "drop", "recv", "try recv", "timeout drop", "timeout recv", "forever drop",
          "future poll1 drop", "future poll1 poll2 drop"]
-WORDS = set(" ".join(SENDERS + TRIES + POLLS + WAITS + TIMED + ASKED).split())
-KINDS = ["", "promise", "request", "nested"]
+# Of two channels of one pair of threads. Each thread sends by the one script, and then receives by the other.
+BOTH = ["try drop", "drop", "full closed try drop", "raw try drop", "recv", "ref drop", "try recv"]
+SETTINGS = re.compile(r"(spurious|readings|failing-clock|refused|queues|reduce|seconds)=\d+")
+KINDS = ["", "promise", "request", "nested", "two"]
 
 
 def pairs_of(kind, receivers, settings="", senders=SENDERS):
@@ -34,17 +36,42 @@ SHORT = (pairs_of("", TRIES) + pairs_of("", POLLS[:4])
          + pairs_of("", ["timeout drop", "fardeadline drop"], "readings=1", ["send", "drop"])
          + pairs_of("promise", ["try drop", "future poll1 drop"], senders=SENDERS[:5])
          + pairs_of("request", ["closed try drop", "future poll1 drop", "recv"], senders=["send", "closed send"])
-         + pairs_of("nested", ["try drop", "drop"], senders=["send", "send into", "drop"]))
+         + pairs_of("nested", ["try drop", "drop"], senders=["send", "send into", "drop"])
+         + pairs_of("", ["future poll1 try drop", "future poll1 try poll2 drop", "future full poll1 closed poll2 drop",
+                         "future poll1 full poll2 full drop"], senders=["drop"])
+         + pairs_of("", POLLS[1:4], "refused=1", ["send"])
+         + pairs_of("two", BOTH[:3], senders=["send", "drop"]) + pairs_of("two", ["recv"], "spurious=0", ["send", ""]))
 # With --all.
 ALL = (pairs_of("", TRIES) + pairs_of("", POLLS) + pairs_of("", WAITS) + pairs_of("", TIMED, "readings=5")
        + pairs_of("", ["timeout drop", "deadline drop", "fartimeout drop"], "readings=3 failing-clock=1", SENDERS[:2])
        + pairs_of("", ["recv", "ref drop", "fartimeout drop"], "spurious=2 readings=2", SENDERS[:2])
        + pairs_of("", ["future poll1 drop", "future poll1 poll2 drop"], "queues=1", SENDERS[:2])
+       + pairs_of("", POLLS[1:6] + POLLS[7:9], "refused=1", SENDERS[:3])
+       + pairs_of("two", BOTH[:4], senders=SENDERS[:3]) + pairs_of("two", BOTH[4:], "spurious=0", ["send", "drop", ""])
        + pairs_of("promise", TRIES[:4] + POLLS[1:4] + ["recv", "timeout drop"], "readings=3", SENDERS[:5])
        + pairs_of("nested", TRIES[:4] + POLLS[1:3] + ["recv"], senders=["send", "send into", "send drop", "drop"])
        + pairs_of("request", ASKED, "readings=3", ["send", "closed send", "send into", "drop", ""]))
 # Every interleaving of short scripts, not one run of each order.
 FULL = pairs_of("", TRIES + POLLS[:4], "reduce=0", SENDERS[:4])
+
+
+def words_in(scripts):
+    return set(" ".join(scripts).split())
+
+
+def lacking(pair):
+    """What the program or the scheduler lacks of a pair; nothing if it has all."""
+    receivers = {"request": ASKED, "two": BOTH}.get(pair.kind, TRIES + POLLS + WAITS + TIMED)
+    for script, scripts in ((pair.sender, SENDERS), (pair.receiver, receivers)):
+        for word in script.split():
+            if word not in words_in(scripts):
+                return f"unknown word{', with ' + pair.kind if pair.kind else ''}: {word}"
+    for word in pair.settings.split():
+        if not SETTINGS.fullmatch(word):
+            return f"unknown setting: {word}"
+    if pair.kind == "two" and pair.receiver.split()[-1:] not in (["drop"], ["recv"]):
+        return "a receiver of two channels is dropped"
+    return ""
 
 
 def name_of(pair):
@@ -57,7 +84,9 @@ def scripts_of(pair):
     sender = re.sub(r"\braw *", "", pair.sender).replace("send", "send 7")
     receiver = re.sub(r"\braw *|\bfar|\bzero", "", pair.receiver)
     receiver = re.sub(r"\bpoll([12])", r"poll \1", receiver)
-    return f"S {sender}".strip() + "\n" + f"R {receiver}".strip() + "\n"
+    lines = [pair.kind] if pair.kind == "two" else []
+    lines += ["refused"] if "refused=1" in pair.settings else []
+    return "".join(f"{line}\n" for line in [*lines, f"S {sender}".strip(), f"R {receiver}".strip()])
 
 
 def arguments_of(pair):

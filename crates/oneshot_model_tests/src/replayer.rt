@@ -1,6 +1,6 @@
 //! Tests of runs that are stepped by hand.
 
-use oneshot_asserts::{assert_same, assert_that};
+use crate::asserts::{assert_same, assert_that};
 use oneshot_machine::machine::{End, ReceiverStart, Seen, SenderCall, Step};
 use oneshot_machine::states::Op;
 use oneshot_replay::{

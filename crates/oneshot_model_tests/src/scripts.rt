@@ -1,6 +1,6 @@
 //! A test of the lists of calls in scripts.
 
-use oneshot_asserts::assert_same;
+use crate::asserts::assert_same;
 use oneshot_replay::{CallList, ReceiverCall};
 use std::test::Fail;
 

@@ -6,11 +6,11 @@
 
 use super::counted::Drops;
 use super::threads::{Act, By, Pace, assert_outcomes, outcome_of};
+use crate::asserts::{assert_same, assert_that};
 use futures::executor::block_on;
 use futures::task::Poll;
 use futures::test::MockTask;
 use oneshot::{RecvError, async_channel, channel};
-use oneshot_asserts::{assert_same, assert_that};
 use oneshot_tests::uses::FutureUse::Await;
 use oneshot_tests::uses::Silence;
 use oneshot_tests::uses::Use::AsFuture;

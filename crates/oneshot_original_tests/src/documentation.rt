@@ -2,11 +2,11 @@
 //! receives by blocking and by awaiting; and the same by typed requests.
 
 use super::times::hour;
+use crate::asserts::{assert_same, assert_that};
 use crossbeam_channel as queue;
 use futures::executor::block_on;
 use oneshot::reply::{self, Length};
 use oneshot::{Sender, channel};
-use oneshot_asserts::{assert_same, assert_that};
 use std::alloc::AllocError;
 use std::process::Abort;
 use std::sync::Wait;

@@ -2,8 +2,8 @@
 
 use super::threads::{Act, By, Pace, assert_outcomes};
 use super::times::hour;
+use crate::asserts::assert_same;
 use oneshot::channel;
-use oneshot_asserts::assert_same;
 use oneshot_tests::uses::Silence::Disconnected;
 use oneshot_tests::uses::Use::{Recv, RecvRef, RecvTimeout};
 use std::test::Fail;

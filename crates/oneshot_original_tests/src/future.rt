@@ -1,8 +1,8 @@
 //! The test of `tests/future.rs`, over a ground in memory whose tasks count the copies of their wakers.
 
+use crate::asserts::assert_same;
 use futures::task::Poll;
 use oneshot::drive::poll;
-use oneshot_asserts::assert_same;
 use oneshot_memory::{MemoryFuture, MemoryTask};
 
 #[test]

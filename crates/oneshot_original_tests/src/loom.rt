@@ -5,10 +5,10 @@
 
 use super::threads::{AT_ONCE, Act, By, ROUNDS, assert_outcomes, on_two_threads};
 use super::times::hour;
+use crate::asserts::{assert_same, assert_that};
 use futures::task::Poll;
 use futures::test::MockTask;
 use oneshot::{async_channel, drive};
-use oneshot_asserts::{assert_same, assert_that};
 use oneshot_memory::{MemoryFuture, MemoryTask};
 use oneshot_tests::uses::FutureUse;
 use oneshot_tests::uses::Silence::{Disconnected, Timeout};

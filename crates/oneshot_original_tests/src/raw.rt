@@ -1,7 +1,7 @@
 //! The tests of `tests/raw.rs`: ends made into raw values, and into ends again.
 
+use crate::asserts::{assert_same, assert_that};
 use oneshot::{Receiver, Sender, channel};
-use oneshot_asserts::{assert_same, assert_that};
 use std::test::Fail;
 
 #[test]

@@ -5,8 +5,8 @@
 use super::counted::Drops;
 use super::threads::{AT_ONCE, Act, By, Pace, ROUNDS, assert_outcomes};
 use super::times::{hour, in_time, tenth};
+use crate::asserts::{assert_same, assert_that};
 use oneshot::{RecvError, RecvTimeoutError, SendError, TryRecvError, channel};
-use oneshot_asserts::{assert_same, assert_that};
 use oneshot_tests::uses::Silence::{Disconnected, NothingYet};
 use oneshot_tests::uses::Use::{Recv, RecvTimeout, TryOnce};
 use std::alloc::{AllocError, Global};

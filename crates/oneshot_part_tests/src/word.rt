@@ -6,7 +6,7 @@ ghost use Rattle.oneshot_machine.specs.Phases.{fresh, sender_at, looked, first, 
 ghost use Rattle.oneshot_machine.specs.Slots.{vacant};
 ghost use Rattle.oneshot_word.specs.Side.{SenderCan, ReceiverCan};
 
-use oneshot_asserts::assert_same;
+use crate::asserts::assert_same;
 use oneshot_word::{AnyWaker, Peek, ReceiverSide, SenderSide, Slot, open};
 use std::mem::size_of;
 use std::process::Abort;

@@ -10,6 +10,7 @@ mod run;
 mod senders;
 mod sends;
 mod told;
+mod two;
 mod words;
 
 use run::{Kind, run};
@@ -29,6 +30,7 @@ fn main(rt: HostRuntime) -> io::Result<()> {
             Word::Promise => kind = Kind::Promise,
             Word::Request => kind = Kind::Request,
             Word::Nested => kind = Kind::Nested,
+            Word::TwoChannels => kind = Kind::TwoChannels,
             word if of_receiver => receives.push(word)?,
             word => sends.push(word)?,
         }

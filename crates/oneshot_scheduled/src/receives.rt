@@ -1,7 +1,7 @@
 //! The receiver's script.
 
 use crate::parcel::Parcel;
-use crate::polls::{poll_one, tasks_of};
+use crate::polls::{Tasks, poll_one, tasks_of};
 use crate::receivers::Receives;
 use crate::told::{
     BEGIN_RECEIVER, DEADLINE, DROPPED, END_RECEIVER, FUTURE, TIMEOUT, tell, tell_received,
@@ -15,34 +15,50 @@ use std::time::{Clock, Duration, Instant};
 
 /// What the script has: the receiver, or the future that it became.
 #[derive(Drop)]
-struct Receiving<E: Receives> {
+pub struct Receiving<E: Receives> {
     receiver: Option<E>,
     future: Option<AsyncReceiver<Parcel, E::Rt, E::About>>,
 }
 
-/// Makes the calls of the receiver's script, and tells what each returned.
+/// Makes the calls of the receiver's script in a thread of its own.
 pub fn receive_all<R, E>(rt: &R, words: Vec<Word>, receiver: E)
 where
     R: Clock + RandomSource + AllocGlobal,
     E: Receives,
 {
     let tasks = tasks_of(rt, &words);
-    let mut receiving = Receiving {
-        receiver: Some(receiver),
-        future: None,
-    };
     tell(rt, BEGIN_RECEIVER);
-    for word in words.iter() {
-        if receiving.receiver.is_some() {
-            receiving.make(rt, *word);
-        } else {
-            poll_one(rt, *word, &mut receiving.future, &tasks);
-        }
-    }
+    let receiving = receive_each(rt, &words, receiver, &tasks);
     tell(rt, END_RECEIVER);
     if let Some(tasks) = tasks.as_ref() {
         tasks.tell_woken(rt);
     }
+    drop(receiving);
+}
+
+/// Makes the calls of the receiver's script, and tells what each returned. Returns what is left.
+pub fn receive_each<R, E>(
+    rt: &R,
+    words: &Vec<Word>,
+    receiver: E,
+    tasks: &Option<Tasks>,
+) -> Receiving<E>
+where
+    R: Clock + RandomSource + AllocGlobal,
+    E: Receives,
+{
+    let mut receiving = Receiving {
+        receiver: Some(receiver),
+        future: None,
+    };
+    for word in words.iter() {
+        if receiving.receiver.is_some() {
+            receiving.make(rt, *word);
+        } else {
+            poll_one(rt, *word, &mut receiving.future, tasks);
+        }
+    }
+    receiving
 }
 
 impl<E: Receives> Receiving<E> {

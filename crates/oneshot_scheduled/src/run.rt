@@ -6,6 +6,7 @@ use crate::receives::receive_all;
 use crate::senders::Sends;
 use crate::sends::send_all;
 use crate::told::{DONE, OPENED, OPENING, READY, RECORD, RELEASE, tell};
+use crate::two::run_two;
 use crate::words::Word;
 use oneshot_channel::reply::request;
 use oneshot_channel::{channel, channel_for};
@@ -25,16 +26,18 @@ pub enum Kind {
     Request,
     /// A channel whose message has the sender of another channel.
     Nested,
+    /// Two channels, of each of which each thread has an end.
+    TwoChannels,
 }
 
-/// The number in the message.
-const NUMBER: u64 = 7;
+/// The number in each message.
+pub const NUMBER: u64 = 7;
 
 /// Both scripts.
 #[derive(Drop)]
-struct Scripts {
-    sends: Vec<Word>,
-    receives: Vec<Word>,
+pub struct Scripts {
+    pub sends: Vec<Word>,
+    pub receives: Vec<Word>,
 }
 
 /// Makes a channel of this kind, and runs both scripts, each in a thread.
@@ -66,6 +69,7 @@ pub fn run<R: Threads + Wait + Clock + RandomSource + AllocGlobal + Sync>(
             run_ends(rt, scripts, Parcel::new(content, None), sender, receiver);
         }
         Kind::Nested => run_nested(rt, scripts, content)?,
+        Kind::TwoChannels => run_two(rt, &scripts, content)?,
     }
     tell(rt, DONE);
     Ok(())

@@ -16,11 +16,24 @@ pub struct Sending<S: Sends> {
     error: Option<S::Refused>,
 }
 
-/// Makes the calls of the sender's script, and tells what each returned. Returns what is left, to be dropped
-/// when no end runs any more.
+/// Makes the calls of the sender's script in a thread of its own. Returns what is left, to be dropped when no end
+/// runs any more.
 pub fn send_all<R: Clock, S: Sends>(
     rt: &R,
     words: Vec<Word>,
+    sender: S,
+    parcel: Parcel,
+) -> Sending<S> {
+    tell(rt, BEGIN_SENDER);
+    let sending = send_each(rt, &words, sender, parcel);
+    tell(rt, END_SENDER);
+    sending
+}
+
+/// Makes the calls of the sender's script, and tells what each returned. Returns what is left.
+pub fn send_each<R: Clock, S: Sends>(
+    rt: &R,
+    words: &Vec<Word>,
     sender: S,
     parcel: Parcel,
 ) -> Sending<S> {
@@ -29,11 +42,9 @@ pub fn send_all<R: Clock, S: Sends>(
         parcel: Some(parcel),
         error: None,
     };
-    tell(rt, BEGIN_SENDER);
     for word in words.iter() {
         sending.make(rt, *word);
     }
-    tell(rt, END_SENDER);
     sending
 }
 

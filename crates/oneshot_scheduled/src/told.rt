@@ -36,6 +36,15 @@ pub const OPENED: u64 = 9;
 /// Both threads have ended, and what their scripts left is dropped.
 pub const DONE: u64 = 10;
 
+/// The message of another channel is made next.
+pub const MESSAGE: u64 = 11;
+
+/// The thread goes on with its end of the first channel.
+pub const AT_FIRST: u64 = 12;
+
+/// The thread goes on with its end of the second channel.
+pub const AT_SECOND: u64 = 13;
+
 /// The next call computes a new deadline.
 pub const TIMEOUT: u64 = 20;
 

@@ -1,11 +1,10 @@
 //! Reads the runs of pairs of scripts, holds each against the model, and prints what it counted.
 
-use crate::differs::Differs;
-use crate::event::event_of;
-use crate::follower::Follower;
-use crate::met::{Missed, begin, find_missed};
+use crate::beside::{Beside, Difference};
+use crate::met::{Missed, find_missed};
+use crate::scripts::Scripts;
 use oneshot_replay::{Move, Replayer};
-use oneshot_text::{Request, parse_request, write_run};
+use oneshot_text::{Request, write_run};
 use std::alloc::{AllocError, Global};
 use std::collections::BTreeSet;
 use std::io;
@@ -14,7 +13,7 @@ use std::io::{BufRead, Write};
 /// What is printed of a run.
 #[derive(Clone, Copy, Debug, Eq, PartialEq)]
 pub enum Shown {
-    /// Nothing, if it does not differ.
+    /// Nothing, if it does not differ, or if one before differs for the same reason.
     Differences,
     /// Its trace, as `oneshot-run` prints it.
     Traces,
@@ -23,36 +22,33 @@ pub enum Shown {
 /// A pair of scripts, and what was counted of its runs.
 #[derive(Drop)]
 struct Pair {
-    text: String,
+    scripts: Scripts,
     runs: usize,
     operations: usize,
     stuck: usize,
     differ: usize,
+    /// Why those differ that were printed.
+    reasons: BTreeSet<String>,
     met: BTreeSet<u64>,
 }
 
 impl Pair {
     fn new(alloc: Global) -> Pair {
         Pair {
-            text: String::new(alloc),
+            scripts: Scripts::new(alloc),
             runs: 0,
             operations: 0,
             stuck: 0,
             differ: 0,
+            reasons: BTreeSet::new(alloc),
             met: BTreeSet::new(alloc),
         }
     }
 }
 
-/// Where a run differs: at which of its words, from 1, and why.
-#[derive(Debug, Drop)]
-struct Difference {
-    word: usize,
-    why: Differs,
-}
-
 /// Reads a pair of scripts in two lines, as in an input of `oneshot-run`, and then a line a run: `X`, its choices, and its
-/// words. Returns whether no run differs.
+/// words. Before the scripts may stand a line `two`, if each thread has an end of two channels, and a line `refused`, if
+/// copies of wakers may be refused. Returns whether no run differs.
 pub fn audit<R: BufRead, W: Write>(
     alloc: Global,
     input: &mut R,
@@ -68,7 +64,7 @@ pub fn audit<R: BufRead, W: Write>(
         }
         match line.trim_end().split_once(' ') {
             Some(("X", run)) => pair.hold(alloc, run, output, shown)?,
-            _ => pair.add_script(line.trim_end())?,
+            _ => pair.scripts.add(line.trim_end())?,
         }
     }
     if shown == Shown::Differences {
@@ -79,17 +75,6 @@ pub fn audit<R: BufRead, W: Write>(
 }
 
 impl Pair {
-    /// Adds the script of an end. The receiver's is the last; a line without moves follows it.
-    fn add_script(&mut self, script: &str) -> Result<(), AllocError> {
-        self.text.push_str(script)?;
-        let ends = if script.starts_with('R') {
-            "\nX\n"
-        } else {
-            "\n"
-        };
-        self.text.push_str(ends)
-    }
-
     /// Holds a run against the model.
     fn hold<W: Write>(
         &mut self,
@@ -100,30 +85,46 @@ impl Pair {
     ) -> io::Result<()> {
         self.runs = self.runs.saturating_add(1);
         let (choices, words) = run.split_once(' ').unwrap_or((run, ""));
-        let mut beside = match begin(alloc, self.text.as_str()) {
-            Ok(model) => Follower::new(model),
+        let mut beside = match Beside::begin(alloc, &self.scripts) {
+            Ok(beside) => beside,
             Err(why) => return writeln!(output, "the scripts: {why}"),
         };
-        if let Err(difference) = follow(&mut beside, words) {
+        if let Err(difference) = beside.follow(words) {
             self.differ = self.differ.saturating_add(1);
-            if self.differ == 1 || shown == Shown::Traces {
+            let is_new = self.reasons.insert(difference.why.to_string(alloc)?)?;
+            if is_new || shown == Shown::Traces {
                 write_difference(output, choices, words, &difference)?;
-                write_moves(output, beside.model.moves())?;
+                write_all_moves(alloc, output, &beside)?;
             }
         }
         if shown == Shown::Traces {
-            return write_trace(alloc, output, self.text.as_str(), beside.model.moves());
+            return self.write_traces(alloc, output, &beside);
         }
-        self.count(&beside)?;
+        self.count(alloc, &beside)?;
         Ok(())
     }
 
-    fn count(&mut self, beside: &Follower) -> Result<(), AllocError> {
-        self.operations = self.operations.saturating_add(beside.model.operations());
-        if beside.is_stuck {
+    fn count(&mut self, alloc: Global, beside: &Beside) -> Result<(), AllocError> {
+        if beside.is_stuck() {
             self.stuck = self.stuck.saturating_add(1);
         }
-        self.met.insert(beside.model.digest())?;
+        for model in beside.models(alloc)? {
+            self.operations = self.operations.saturating_add(model.operations());
+            self.met.insert(model.digest())?;
+        }
+        Ok(())
+    }
+
+    /// Writes the trace of each channel.
+    fn write_traces<W: Write>(
+        &self,
+        alloc: Global,
+        output: &mut W,
+        beside: &Beside,
+    ) -> io::Result<()> {
+        for model in beside.models(alloc)? {
+            write_trace(alloc, output, &self.scripts, model.moves())?;
+        }
         Ok(())
     }
 
@@ -137,27 +138,10 @@ impl Pair {
             self.differ,
             self.met.len()
         )?;
-        match find_missed(alloc, self.text.as_str(), &self.met) {
+        match find_missed(alloc, &self.scripts, &self.met) {
             Ok(told) => write_missed(output, &told),
             Err(why) => writeln!(output, "the model: {why}"),
         }
-    }
-}
-
-/// Moves the model by each word.
-fn follow(beside: &mut Follower, words: &str) -> Result<(), Difference> {
-    let mut word = 0_usize;
-    for text in words.split(' ') {
-        word = word.saturating_add(1);
-        let event = event_of(text).ok_or(Differs::UnknownWord);
-        let followed = event.and_then(|event| beside.follow(event));
-        if let Err(why) = followed {
-            return Err(Difference { word, why });
-        }
-    }
-    match beside.end() {
-        Ok(()) => Ok(()),
-        Err(why) => Err(Difference { word, why }),
     }
 }
 
@@ -172,6 +156,14 @@ fn write_difference<W: Write>(
     writeln!(output, "words: {words}")
 }
 
+/// Writes the moves of each channel.
+fn write_all_moves<W: Write>(alloc: Global, output: &mut W, beside: &Beside) -> io::Result<()> {
+    for model in beside.models(alloc)? {
+        write_moves(output, model.moves())?;
+    }
+    Ok(())
+}
+
 /// Writes moves as a schedule that `oneshot-run` reads.
 fn write_moves<W: Write>(output: &mut W, moves: &[Move]) -> io::Result<()> {
     write!(output, "X ")?;
@@ -179,6 +171,7 @@ fn write_moves<W: Write>(output: &mut W, moves: &[Move]) -> io::Result<()> {
         let letter = match m {
             Move::Sender => 's',
             Move::Receiver { over: true, .. } => 'o',
+            Move::Receiver { refuse: true, .. } => 'n',
             Move::Receiver { .. } => 'r',
         };
         write!(output, "{letter}")?;
@@ -186,14 +179,14 @@ fn write_moves<W: Write>(output: &mut W, moves: &[Move]) -> io::Result<()> {
     writeln!(output)
 }
 
-/// Writes the trace of a run.
+/// Writes the trace of a run of the model.
 fn write_trace<W: Write>(
     alloc: Global,
     output: &mut W,
-    text: &str,
+    scripts: &Scripts,
     moves: &[Move],
 ) -> io::Result<()> {
-    let Ok(asked) = parse_request(alloc, text) else {
+    let Ok(asked) = scripts.read(alloc) else {
         return writeln!(output, "the scripts have changed");
     };
     let message = asked.message();

@@ -1,5 +1,6 @@
 //! Why a run is none of the model's.
 
+use crate::fault::Fault;
 use oneshot_machine::machine::{End, Reply, Step};
 use std::alloc::{AllocError, AllocFailed};
 use thiserror::Error;
@@ -11,8 +12,8 @@ pub(crate) enum Differs {
     #[error("the word is unknown")]
     UnknownWord,
     /// The scheduler saw a fault.
-    #[error("the scheduler saw a fault")]
-    Fault,
+    #[error("{0}")]
+    Fault(Fault),
     /// In the model this end has no call left.
     #[error("the model's {0:?} has no call left")]
     NothingLeft(End),
@@ -40,6 +41,9 @@ pub(crate) enum Differs {
     /// A task is not woken that the model wakes.
     #[error("the model wakes task {0}")]
     OtherTask(u64),
+    /// A copy of a waker is refused where the model copies none.
+    #[error("the model copies no waker")]
+    NoCopy,
     /// Nothing wakes the end, although the sender has acted.
     #[error("a wakeup is lost")]
     LostWakeup,

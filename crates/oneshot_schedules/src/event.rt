@@ -1,5 +1,6 @@
 //! The words of a run, each of which tells what an end did.
 
+use crate::fault::{Fault, fault_of};
 use oneshot_machine::machine::End;
 use oneshot_machine::states::Op;
 
@@ -30,6 +31,8 @@ pub(crate) enum Event {
     Operation(Operation),
     /// The receiver read its clock, which is past the deadline, or not.
     Clock { over: bool },
+    /// The receiver's copy of its task's waker is refused.
+    Refusal,
     /// A call replied, with this code.
     Reply { end: End, code: u64 },
     /// An end has made each call of its script.
@@ -43,7 +46,7 @@ pub(crate) enum Event {
     /// Whether a task was woken, by a code.
     Task(u64),
     /// The scheduler saw a fault.
-    Fault,
+    Fault(Fault),
     /// What the model does not have: a sleep, its end, a wake, the free of another block.
     Silent,
 }
@@ -51,18 +54,17 @@ pub(crate) enum Event {
 /// Reads a word; `None` if no run has it.
 pub(crate) fn event_of(word: &str) -> Option<Event> {
     let event = match word.as_bytes() {
-        [b'!', ..] => Event::Fault,
+        [b'!', ..] => Event::Fault(fault_of(word)?),
         [end, b'.'] => Event::Done(end_of(*end)?),
         [end, b'z'] => Event::Stuck(end_of(*end)?),
-        // Of a channel within the message.
-        [_, _, _, _, b'\''] => Event::Silent,
         [_, b'b' | b'k' | b's' | b't' | b'w'] => Event::Silent,
         [end, b'f', b'm'] => Event::MessageFreed(end_of(*end)?),
         [_, b'f', b'W'] => Event::BlockFreed,
         [_, b'f', _] => Event::Silent,
-        [b'R', b'c', over] => Event::Clock {
+        [_, b'c', over] => Event::Clock {
             over: *over == b'1',
         },
+        [_, b'n'] => Event::Refusal,
         [b'T', b'=', ..] => Event::Task(code_of(word)?),
         [end, b'=', ..] => Event::Reply {
             end: end_of(*end)?,
@@ -112,12 +114,45 @@ fn code_of(word: &str) -> Option<u64> {
     digits.parse().ok()
 }
 
+impl Event {
+    /// The same of a thread that has the other end of this channel.
+    pub(crate) fn by_other_thread(self) -> Event {
+        match self {
+            Event::Operation(told) => Event::Operation(Operation {
+                end: other(told.end),
+                ..told
+            }),
+            Event::Reply { end, code } => Event::Reply {
+                end: other(end),
+                code,
+            },
+            Event::Done(end) => Event::Done(other(end)),
+            Event::MessageFreed(end) => Event::MessageFreed(other(end)),
+            Event::Stuck(end) => Event::Stuck(other(end)),
+            Event::Clock { .. }
+            | Event::Refusal
+            | Event::BlockFreed
+            | Event::Task(_)
+            | Event::Fault(_)
+            | Event::Silent => self,
+        }
+    }
+}
+
+fn other(end: End) -> End {
+    match end {
+        End::Sender => End::Receiver,
+        End::Receiver => End::Sender,
+    }
+}
+
 impl Operation {
-    /// Whether an instruction of this kind makes `op`. A flip is an exchange that succeeds, and a store may be a swap.
+    /// Whether an instruction of this kind makes `op`. A flip is an exchange that succeeds. A store is a swap: a plain
+    /// one would not be ordered before the loads that follow it.
     pub(crate) fn makes(self, op: Op) -> bool {
         match op {
             Op::Load => self.kind == Kind::Load,
-            Op::Store(_) => self.kind == Kind::Store || self.kind == Kind::Swap,
+            Op::Store(_) => self.kind == Kind::Swap,
             Op::Swap(_) => self.kind == Kind::Swap,
             Op::Exchange(_, _) => self.kind == Kind::Exchange,
             Op::Add => self.kind == Kind::Add,

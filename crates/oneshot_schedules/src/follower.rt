@@ -2,7 +2,7 @@
 
 use crate::differs::Differs;
 use crate::event::{Event, Operation};
-use crate::model::{MOST_SILENT, Model};
+use crate::model::{Given, MOST_SILENT, Model};
 use crate::reply::{reply_of, task_of};
 use oneshot_machine::machine::{End, Reply, Step};
 use oneshot_machine::states::Op;
@@ -36,6 +36,8 @@ pub(crate) struct Follower {
     receiver: Side,
     block_freed: bool,
     has_acted: bool,
+    /// Whether the receiver was told that there is no copy, and the model was not.
+    is_refused: bool,
     pub(crate) is_stuck: bool,
 }
 
@@ -47,6 +49,7 @@ impl Follower {
             receiver: Side::new(),
             block_freed: false,
             has_acted: false,
+            is_refused: false,
             is_stuck: false,
         }
     }
@@ -58,14 +61,25 @@ impl Follower {
         }
     }
 
-    fn advance(&mut self, end: End, over: bool) -> Result<Made, Differs> {
-        let made = self.model.advance(end, over)?;
+    fn advance(&mut self, end: End, given: Given) -> Result<Made, Differs> {
+        let made = self.model.advance(end, given)?;
         let side = self.side(end);
         side.reply = made.reply;
         if let Some((_, Place::Delivered | Place::FromError)) = made.message {
             side.has_message = true;
         }
         Ok(made)
+    }
+
+    /// Makes a step of an end that nobody tells. A copy is refused if the run told so before.
+    fn advance_silently(&mut self, end: End, step: Step) -> Result<Made, Differs> {
+        let given = if self.is_refused && step == Step::Copy {
+            self.is_refused = false;
+            Given::Refusal
+        } else {
+            Given::Usual
+        };
+        self.advance(end, given)
     }
 
     /// Makes the steps of an end that nobody tells, and returns the next that is told. The call has to go on until then.
@@ -78,7 +92,7 @@ impl Follower {
             if is_told(step) {
                 return Ok(step);
             }
-            self.advance(end, false)?;
+            self.advance_silently(end, step)?;
         }
         Err(Differs::TooLong)
     }
@@ -90,7 +104,7 @@ impl Follower {
             if !self.model.is_under_way(End::Sender) || step.is_none_or(is_told) {
                 return Ok(());
             }
-            self.advance(End::Sender, false)?;
+            self.advance(End::Sender, Given::Usual)?;
         }
         Err(Differs::TooLong)
     }
@@ -112,7 +126,8 @@ impl Follower {
                 let (number, woken) = task_of(code).ok_or(Differs::UnknownWord)?;
                 self.model.tasks().compare(number, woken)
             }
-            Event::Fault => Err(Differs::Fault),
+            Event::Refusal => self.refuse(),
+            Event::Fault(fault) => Err(Differs::Fault(fault)),
             Event::Silent => Ok(()),
         }
     }
@@ -128,7 +143,7 @@ impl Follower {
         if !told.makes(op) {
             return Err(Differs::OtherStep(step));
         }
-        let made = self.advance(told.end, false)?;
+        let made = self.advance(told.end, Given::Usual)?;
         if made.before != Some(told.found) || made.after != Some(told.left) {
             return Err(Differs::OtherWord(made.before, made.after));
         }
@@ -145,13 +160,17 @@ impl Follower {
         if step != Step::Clock {
             return Err(Differs::OtherStep(step));
         }
-        self.advance(End::Receiver, over)?;
+        let given = if over { Given::Over } else { Given::Usual };
+        self.advance(End::Receiver, given)?;
         Ok(())
     }
 
     fn reply(&mut self, end: End, code: u64) -> Result<(), Differs> {
         let (told, message) = reply_of(code).ok_or(Differs::UnknownWord)?;
         let reply = self.end_call(end)?;
+        if self.is_refused {
+            return Err(Differs::NoCopy);
+        }
         if reply != told {
             return Err(Differs::OtherReply(reply));
         }
@@ -171,7 +190,7 @@ impl Follower {
             if is_told(step) {
                 return Err(Differs::OtherStep(step));
             }
-            self.advance(end, false)?;
+            self.advance_silently(end, step)?;
         }
         Err(Differs::TooLong)
     }
@@ -197,7 +216,16 @@ impl Follower {
         if step != Step::DropMessage {
             return Err(Differs::OtherStep(step));
         }
-        self.advance(end, false)?;
+        self.advance(end, Given::Usual)?;
+        Ok(())
+    }
+
+    /// The copy of a waker that the receiver makes next is refused.
+    fn refuse(&mut self) -> Result<(), Differs> {
+        if self.is_refused {
+            return Err(Differs::NoCopy);
+        }
+        self.is_refused = true;
         Ok(())
     }
 

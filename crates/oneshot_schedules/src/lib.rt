@@ -2,11 +2,14 @@
 #![tactic(auto)]
 
 pub mod audit;
+mod beside;
 mod differs;
 mod event;
+mod fault;
 mod follower;
 mod met;
 mod model;
 mod order;
 mod reply;
+mod scripts;
 mod tasks;

@@ -2,10 +2,10 @@
 
 use crate::differs::Differs;
 use crate::follower::is_told;
-use crate::model::{MOST_SILENT, Model};
+use crate::model::{Given, MOST_SILENT, Model};
+use crate::scripts::Scripts;
 use oneshot_machine::machine::{End, Step};
 use oneshot_replay::Move;
-use oneshot_text::{ParseError, parse_request};
 use std::alloc::{AllocError, Global};
 use std::collections::BTreeSet;
 
@@ -16,11 +16,12 @@ const MOST_CHOICES: usize = 64;
 
 const MOST_PARKS: usize = 3;
 
-/// What a choice stands for: the end that goes next, and what a clock says that it reads.
-const CHOICES: [(End, bool); 3] = [
-    (End::Sender, false),
-    (End::Receiver, false),
-    (End::Receiver, true),
+/// What a choice stands for: the end that goes next, and what it gets. The last is only for pairs that may be refused.
+const CHOICES: [(End, Given); 4] = [
+    (End::Sender, Given::Usual),
+    (End::Receiver, Given::Usual),
+    (End::Receiver, Given::Over),
+    (End::Receiver, Given::Refusal),
 ];
 
 /// The orders of the model, counted: all, and those that no run met, with the moves of the first of these.
@@ -32,19 +33,10 @@ pub(crate) struct Missed {
     pub(crate) is_whole: bool,
 }
 
-/// Begins a run of the model of the scripts in `text`.
-pub(crate) fn begin(alloc: Global, text: &str) -> Result<Model, Differs> {
-    match parse_request(alloc, text) {
-        Ok(asked) => Model::new(alloc, asked),
-        Err(ParseError::Malformed(_)) => Err(Differs::UnknownWord),
-        Err(ParseError::OutOfMemory(error)) => Err(Differs::OutOfMemory(error)),
-    }
-}
-
 /// Goes through the orders of the model, and counts those that are not among `met`.
 pub(crate) fn find_missed(
     alloc: Global,
-    text: &str,
+    scripts: &Scripts,
     met: &BTreeSet<u64>,
 ) -> Result<Missed, Differs> {
     let mut told = Missed {
@@ -55,13 +47,18 @@ pub(crate) fn find_missed(
     };
     let mut seen = BTreeSet::new(alloc);
     let mut choices = Vec::new(alloc);
+    let kinds = if scripts.may_refuse() {
+        CHOICES.len()
+    } else {
+        CHOICES.len() - 1
+    };
     for _ in 0..MOST_RUNS {
-        if let Some(run) = make_run(alloc, text, &mut choices)? {
+        if let Some(run) = make_run(alloc, scripts, &mut choices)? {
             if seen.insert(run.digest())? {
                 told.count(alloc, &run, met)?;
             }
         }
-        if !next_choices(&mut choices)? {
+        if !next_choices(&mut choices, kinds)? {
             told.is_whole = true;
             return Ok(told);
         }
@@ -85,8 +82,12 @@ impl Missed {
 
 /// Makes a run by these choices, and where they end by the first ones; `None` if a choice cannot be made, and then
 /// that is the last.
-fn make_run(alloc: Global, text: &str, choices: &mut Vec<usize>) -> Result<Option<Model>, Differs> {
-    let mut run = begin(alloc, text)?;
+fn make_run(
+    alloc: Global,
+    scripts: &Scripts,
+    choices: &mut Vec<usize>,
+) -> Result<Option<Model>, Differs> {
+    let mut run = scripts.begin(alloc)?;
     for at in 0..MOST_CHOICES {
         if !run.has_call(End::Sender) && !run.has_call(End::Receiver) {
             return Ok(Some(run));
@@ -107,37 +108,48 @@ fn make_run(alloc: Global, text: &str, choices: &mut Vec<usize>) -> Result<Optio
 
 /// Makes the steps that a choice stands for, up to one that is told; `false` if it stands for none of its own.
 fn go(run: &mut Model, chosen: usize) -> Result<bool, Differs> {
-    let Some((end, over)) = CHOICES.get(chosen) else {
+    let Some((end, given)) = CHOICES.get(chosen) else {
         return Ok(false);
     };
     if !run.has_call(*end) {
         return Ok(false);
     }
+    let mut is_own = *given == Given::Usual;
     for _ in 0..MOST_SILENT {
         let Some(step) = run.next_step(*end) else {
-            return Ok(!*over);
+            return Ok(is_own);
         };
+        let asks = asks_for(run, step, *given);
+        is_own = is_own || asks;
+        let gets = if asks { *given } else { Given::Usual };
         if is_told(step) {
-            let may_be_over = step == Step::Clock && !run.computes_deadline();
-            if *over && !may_be_over {
-                return Ok(false);
+            if is_own {
+                run.advance(*end, gets)?;
             }
-            run.advance(*end, *over)?;
-            return Ok(run.parks() <= MOST_PARKS);
+            return Ok(is_own && run.parks() <= MOST_PARKS);
         }
-        run.advance(*end, false)?;
+        run.advance(*end, gets)?;
     }
     Err(Differs::TooLong)
 }
 
-/// Moves to the next choices; `false` if there are none.
-fn next_choices(choices: &mut Vec<usize>) -> Result<bool, AllocError> {
+/// Whether a step of the receiver depends on what it gets.
+fn asks_for(run: &Model, step: Step, given: Given) -> bool {
+    match given {
+        Given::Usual => false,
+        Given::Over => step == Step::Clock && !run.computes_deadline(),
+        Given::Refusal => step == Step::Copy,
+    }
+}
+
+/// Moves to the next choices, of so many kinds; `false` if there are none.
+fn next_choices(choices: &mut Vec<usize>, kinds: usize) -> Result<bool, AllocError> {
     for _ in 0..MOST_CHOICES {
         let Some(last) = choices.pop() else {
             return Ok(false);
         };
         let next = last.saturating_add(1);
-        if next < CHOICES.len() {
+        if next < kinds {
             choices.push(next)?;
             return Ok(true);
         }

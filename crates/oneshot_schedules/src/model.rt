@@ -13,6 +13,17 @@ const MOST_MOVES: usize = 4096;
 
 pub(crate) const MOST_SILENT: usize = 16;
 
+/// What the receiver's next step gets.
+#[derive(Clone, Copy, Debug, Eq, PartialEq)]
+pub(crate) enum Given {
+    /// A reading of the clock that is in time, or a copy of its task's waker, if it asks for one.
+    Usual,
+    /// A reading past the deadline.
+    Over,
+    /// No copy.
+    Refusal,
+}
+
 /// A run of the model between two moves.
 #[derive(Drop)]
 pub(crate) struct Model {
@@ -120,8 +131,8 @@ impl Model {
         }
     }
 
-    /// Makes the next step of an end. A clock that it reads is past the deadline if `over`.
-    pub(crate) fn advance(&mut self, end: End, over: bool) -> Result<Made, Differs> {
+    /// Makes the next step of an end.
+    pub(crate) fn advance(&mut self, end: End, given: Given) -> Result<Made, Differs> {
         self.take_position(end);
         if self.moves.len() >= MOST_MOVES || self.run.count() == usize::MAX {
             return Err(Differs::TooLong);
@@ -129,8 +140,8 @@ impl Model {
         let m = match end {
             End::Sender => Move::Sender,
             End::Receiver => Move::Receiver {
-                over,
-                refuse: false,
+                over: given == Given::Over,
+                refuse: given == Given::Refusal,
             },
         };
         let Entry::Made(made) = self.run.step(m) else {

@@ -5,8 +5,8 @@ mod sizes;
 mod threads;
 mod waits;
 
+use crate::asserts::{assert_same, assert_that};
 use futures::executor::block_on;
-use oneshot_asserts::{assert_same, assert_that};
 use oneshot_channel::reply::{Answer, Length, Request, Ticket, request};
 use oneshot_channel::{RecvError, RecvTimeoutError, TryRecvError};
 use std::alloc::{AllocError, Global};

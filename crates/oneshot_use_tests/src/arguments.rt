@@ -1,6 +1,6 @@
 //! Tests of the arguments that are read and refused, and of the text of each fault.
 
-use oneshot_asserts::{assert_same, assert_that};
+use crate::asserts::{assert_same, assert_that};
 use oneshot_loops::channels::Channel;
 use oneshot_loops::command::fault::Fault;
 use oneshot_loops::command::{Command, parse_command, parse_count};

@@ -5,6 +5,8 @@
 #[cfg(test)]
 mod arguments;
 #[cfg(test)]
+mod asserts;
+#[cfg(test)]
 mod callers;
 #[cfg(test)]
 mod loops;

@@ -1,11 +1,11 @@
 //! Tests that each loop does what its name says, and reports a lost message.
 
+use crate::asserts::{assert_same, assert_that};
 use crossbeam_channel::bounded;
 use futures::channel::oneshot::channel as futures_channel;
 use futures::future::ready;
 use futures::task::Context;
 use oneshot::{async_channel, channel};
-use oneshot_asserts::{assert_same, assert_that};
 use oneshot_loops::channels::Channel;
 use oneshot_loops::fault::Fault;
 use oneshot_loops::loops::{Awaited, Loop};

@@ -17,6 +17,8 @@ static __thread struct {
     uint64_t before;
     char kind;
 } step;
+static const int REGISTERS[] = {REG_RAX, REG_RCX, REG_RDX, REG_RBX, REG_RSP, REG_RBP, REG_RSI, REG_RDI,
+                                REG_R8,  REG_R9,  REG_R10, REG_R11, REG_R12, REG_R13, REG_R14, REG_R15};
 
 // The bytes before the opcode, and whether the operand has 64 bits.
 static const uint8_t *skip_prefixes(const uint8_t *code, int *locked, int *extension) {
@@ -82,8 +84,6 @@ static int read_closed(uintptr_t address, uint64_t *value, int size) {
 
 // A plain load, `mov r, m` or `movzx r32, m8`, is done here: /proc/self/mem needs no access, so nothing has to be opened.
 static int load_here(ucontext_t *context, uintptr_t address) {
-    static const int REGISTERS[] = {REG_RAX, REG_RCX, REG_RDX, REG_RBX, REG_RSP, REG_RBP, REG_RSI, REG_RDI,
-                                    REG_R8,  REG_R9,  REG_R10, REG_R11, REG_R12, REG_R13, REG_R14, REG_R15};
     const uint8_t *code = (uint8_t *)context->uc_mcontext.gregs[REG_RIP];
     int extension = (*code & 0xF0) == 0x40 ? *code++ : 0, is_byte = code[0] == 0x0F && code[1] == 0xB6;
     if (*code != 0x8B && !is_byte) {
@@ -132,7 +132,18 @@ static void schedule_access(int block, uintptr_t address, char kind, int size, i
 
 static void tell_access(uint64_t after) {
     if (step.word != NULL && is_end() && step.word->kind == WORD) {
-        tell(" %c%c%d%d%s", "SR"[self], step.kind, (int)step.before, (int)after, step.word->channel ? "'" : "");
+        tell(" %c%c%d%d%s", "SR"[self], step.kind, (int)step.before, (int)after, prime(step.word->channel));
+    }
+}
+
+// The compare and exchange at this address may be one that copies a waker.
+static void refuse_exchange(const ucontext_t *context, int block, uintptr_t address) {
+    int locked, extension;
+    const greg_t *registers = context->uc_mcontext.gregs;
+    const uint8_t *code = skip_prefixes((const uint8_t *)registers[REG_RIP], &locked, &extension);
+    if (step.kind == 'e') {
+        int source = (code[2] >> 3 & 7) | (extension & 4) << 1;
+        refuse_share(block, address, registers[REG_RAX], registers[REGISTERS[source]]);
     }
 }
 
@@ -151,12 +162,16 @@ static void on_fault(int signal, siginfo_t *info, void *given) {
     }
     int writes = (context->uc_mcontext.gregs[REG_ERR] & WRITE_FAULT) != 0;
     step.kind = kind_of((uint8_t *)context->uc_mcontext.gregs[REG_RIP], &size);
+    if (!is_refused(address) || step.kind != 'l') {
+        end_refusal();
+    }
     if (is_end()) {
         schedule_access(block, address, step.kind, size, writes);
     }
     step.word = word_at(address);
     if (in_child() && !writes && step.kind == 'l' && load_here(context, address)) {
         tell_access(step.before);
+        end_refusal();
         return;
     }
     open_block(block);
@@ -164,6 +179,7 @@ static void on_fault(int signal, siginfo_t *info, void *given) {
     step.address = address;
     step.block = block;
     step.before = *(uint64_t *)(address & ~(uintptr_t)7);
+    refuse_exchange(context, block, address);
     context->uc_mcontext.gregs[REG_EFL] |= TRAP_FLAG;
 }
 
@@ -180,6 +196,9 @@ static void on_step(int signal, siginfo_t *info, void *given) {
     // One that waits for a lock of a queue goes on once the other end has gone.
     if (settings.queues && is_end() && step.kind == 'e' && blocks[step.block].label == OF_TASKS && after == step.before) {
         note_futile(self);
+    }
+    if (step.kind != 'e') {
+        end_refusal();
     }
     for (int at = 0; at < step.open_count; at++) {
         set_access(step.opened[at], 0);

@@ -12,7 +12,7 @@ extern void *__libc_realloc(void *block, size_t size);
 
 struct block blocks[MOST_BLOCKS];
 int block_count;
-int recording;
+int recording, channel_count;
 enum label made_as = OF_MESSAGE;
 static uint8_t *pages;
 static short block_of_page[PAGES];
@@ -51,6 +51,13 @@ uint64_t read_block(uintptr_t address) {
     return address & 4 ? value >> 32 : value;
 }
 
+void write_block(uintptr_t address, uint64_t value) {
+    int block = block_at(address), was_open = blocks[block].open;
+    set_access(block, 1);
+    *(uint64_t *)address = value;
+    set_access(block, was_open);
+}
+
 static void *make_block(size_t asked) {
     size_t size = asked == 0 ? ALIGNMENT : (asked + ALIGNMENT - 1) & ~(size_t)(ALIGNMENT - 1);
     size_t count = (size + PAGE - 1) / PAGE;
@@ -62,7 +69,8 @@ static void *make_block(size_t asked) {
         block_of_page[next_page + at] = number;
     }
     blocks[number] = (struct block){.address = (uintptr_t)pages + (next_page + count) * PAGE - size, .size = size,
-                                    .first_page = next_page, .pages = count, .label = made_as};
+                                    .first_page = next_page, .pages = count, .label = made_as,
+                                    .channel = channel_count};
     next_page += count + 1;
     set_access(number, 1);
     memset((void *)blocks[number].address, 0xA5, size);
@@ -71,21 +79,21 @@ static void *make_block(size_t asked) {
 }
 
 // A block with both counts of a share, and a pointer to what is shared, which `find_words` looks for.
-static int add_shares(int shares, int shared, int channel, int is_word) {
+static int add_shares(int shares, int shared, int is_word) {
     uint64_t *content = (uint64_t *)blocks[shares].address;
     blocks[shares].label = is_word ? OF_SHARES : OF_PARKER_SHARES;
     blocks[shared].label = is_word ? OF_WORD : OF_PARKER;
     if (word_count + 2 > MOST_WORDS) {
         give_up("more shared words than there is room for");
     }
-    words[word_count++] = (struct shared_word){content[1], is_word ? WORD : PARKER, channel, shared};
+    words[word_count++] = (struct shared_word){content[1], is_word ? WORD : PARKER, channel_count, shared};
     words[word_count++] =
-        (struct shared_word){(uintptr_t)content, is_word ? SHARES : PARKER_SHARES, channel, shares};
+        (struct shared_word){(uintptr_t)content, is_word ? SHARES : PARKER_SHARES, channel_count, shares};
     return is_word ? block_at(content[2]) : -1;
 }
 
 // Finds the words of the channel that was just made: a word that is EMPTY, and a parker's, which is 0.
-void find_words(int channel) {
+void find_words(void) {
     int found = 0, slots = -1;
     for (int at = 0; at < block_count; at++) {
         set_access(at, !blocks[at].freed);
@@ -101,7 +109,7 @@ void find_words(int channel) {
         }
         uint64_t value = *(uint64_t *)content[1];
         if (value == EMPTY || value == 0) {
-            int other = add_shares(at, shared, channel, value == EMPTY);
+            int other = add_shares(at, shared, value == EMPTY);
             slots = other < 0 ? slots : other;
             found |= value == EMPTY ? 1 : 2;
         }
@@ -113,6 +121,7 @@ void find_words(int channel) {
     if ((found & 1) == 0) {
         give_up("the channel has no word that is 3");
     }
+    channel_count++;
 }
 
 // The shared word at this address, or NULL.
@@ -140,26 +149,33 @@ void tell_left(void) {
     }
 }
 
-void *malloc(size_t size) {
-    if (pages != NULL && recording) {
-        return make_block(size);
-    }
-    if (is_end() && in_program((uintptr_t)__builtin_return_address(0))) {
+// What the program asks for in a call of an end is a fault; the C library asks for its own.
+static void note_asked(void *caller) {
+    if (!recording && is_end() && in_program((uintptr_t)caller)) {
         fault("allocates:%c", "SR"[self]);
     }
-    return __libc_malloc(size);
 }
 
-static void free_block(int block) {
+void *malloc(size_t size) {
+    note_asked(__builtin_return_address(0));
+    return pages != NULL && recording ? make_block(size) : __libc_malloc(size);
+}
+
+static void stop_at_freed(int block) {
     if (blocks[block].freed) {
         fault("freed-twice:%c", blocks[block].label);
         end_run();
     }
+}
+
+static void free_block(int block) {
+    struct block *it = &blocks[block];
+    stop_at_freed(block);
     if (is_end()) {
         order_free(self, block);
-        tell(" %cf%c", "SR"[self], blocks[block].label);
+        tell(" %cf%c%s", "SR"[self], it->label, prime(it->label == OF_TASKS ? 0 : it->channel));
     }
-    blocks[block].freed = 1;
+    it->freed = 1;
     set_access(block, 0);
 }
 
@@ -177,12 +193,15 @@ void free(void *address) {
 
 void *realloc(void *address, size_t size) {
     int block = block_at((uintptr_t)address);
+    note_asked(__builtin_return_address(0));
     if (block < 0) {
         return pages != NULL && recording && address == NULL ? make_block(size) : __libc_realloc(address, size);
     }
+    stop_at_freed(block);
     void *made = make_block(size);
     int other = block_at((uintptr_t)made);
     blocks[other].label = blocks[block].label;
+    blocks[other].channel = blocks[block].channel;
     set_access(block, 1);
     set_access(other, 1);
     memcpy(made, address, blocks[block].size < size ? blocks[block].size : size);

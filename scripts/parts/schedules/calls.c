@@ -15,12 +15,14 @@
 
 // The lengths of sleeps by which the program tells where it is, in nanoseconds. From REPLIES on they are replies.
 enum { RECORD = 1, RELEASE, READY, BEGIN_SENDER, BEGIN_RECEIVER, END_SENDER, END_RECEIVER, OPENING, OPENED, DONE,
-       TIMEOUT = 20, DEADLINE, LAST_TOLD = 9999 };
+       MESSAGE, AT_FIRST, AT_SECOND, TIMEOUT = 20, DEADLINE, LAST_TOLD = 9999 };
 enum { NANOSECONDS = 1000000000, LATER = 1000000, NEVER = 1000000000 };
 
 __thread int self = OTHER;
 static time_t seconds = LATER;
-static int computes, sets_deadline, readings, channels;
+static int computes, sets_deadline, readings;
+// The channel whose end the thread uses.
+static __thread int at_channel;
 
 int is_end(void) {
     return scheduled && self < ENDS;
@@ -116,7 +118,7 @@ static int read_for_timeout(void) {
     computes = 0;
     int fails = settings.failing_clock && choose(2, 3);
     time_is_over |= fails;
-    tell(" %cc-", "SR"[self]);
+    tell(" %cc-%s", "SR"[self], prime(at_channel));
     return fails;
 }
 
@@ -127,7 +129,7 @@ static int read_clock(void) {
         seen = ++readings > settings.readings ? 1 : choose(kinds, (1u << kinds) - 1);
         time_is_over = seen == 1;
     }
-    tell(" %cc%d", "SR"[self], time_is_over || seen == 2);
+    tell(" %cc%d%s", "SR"[self], time_is_over || seen == 2, prime(at_channel));
     return seen == 2;
 }
 
@@ -157,8 +159,16 @@ static void begin_deadline(long told) {
 static void open_channel(int is_open) {
     made_as = is_open ? OF_TASKS : OF_CHANNEL;
     if (is_open) {
-        find_words(channels++);
+        find_words();
     }
+}
+
+// A thread that goes on with its end of another channel is done with the one before.
+static void go_to_channel(int channel) {
+    if (is_end()) {
+        tell(" %c.%s", "SR"[self], prime(at_channel));
+    }
+    at_channel = channel;
 }
 
 static void end_program(void) {
@@ -183,6 +193,7 @@ static void hear(long told) {
         return;
     case END_SENDER:
     case END_RECEIVER:
+        tell(" %c.%s", "SR"[self], prime(at_channel));
         finish_end(told == END_SENDER ? SENDER : RECEIVER);
         return;
     case OPENING:
@@ -192,12 +203,19 @@ static void hear(long told) {
     case DONE:
         end_program();
         return;
+    case MESSAGE:
+        made_as = OF_MESSAGE;
+        return;
+    case AT_FIRST:
+    case AT_SECOND:
+        go_to_channel(told == AT_SECOND);
+        return;
     case TIMEOUT:
     case DEADLINE:
         begin_deadline(told);
         return;
     default:
-        tell(" %c=%ld", "SRT"[self], told);
+        tell(" %c=%ld%s", "SRT"[self], told, prime(at_channel));
     }
 }
 

@@ -132,8 +132,9 @@ static void end_sleep(int end, int way) {
 // A sleep that nothing but chance can end lasts for ever.
 static void tell_stuck(void) {
     for (int end = 0; end < ENDS; end++) {
+        const struct shared_word *word = word_at(ends[end].address);
         if (ends[end].state == ASLEEP) {
-            tell(" %cz", "SR"[end]);
+            tell(" %cz%s", "SR"[end], prime(word != NULL ? word->channel : 0));
         }
     }
     end_run();
@@ -193,7 +194,6 @@ void begin_end(int end) {
 }
 
 void finish_end(int end) {
-    tell(" %c.", "SR"[end]);
     ends[end].state = OVER;
     self = OTHER;
     pass_turn(end);

@@ -37,6 +37,11 @@ static void add_text(const char *format, va_list values) {
     }
 }
 
+// What ends the words of a channel other than the first.
+const char *prime(int channel) {
+    return channel == 0 ? "" : "'";
+}
+
 void tell(const char *format, ...) {
     if (is_child && record->length < (int)sizeof record->text - ROOM_LEFT) {
         va_list values;
@@ -184,8 +189,8 @@ static void find_program(void) {
 static void read_setting(const char *word) {
     static const struct { const char *name; long *value; } SETTINGS[] = {
         {"spurious=", &settings.spurious}, {"readings=", &settings.readings}, {"reduce=", &settings.reduce},
-        {"failing-clock=", &settings.failing_clock}, {"queues=", &settings.queues}, {"runs=", &settings.runs},
-        {"seconds=", &settings.seconds},
+        {"failing-clock=", &settings.failing_clock}, {"refused=", &settings.refused}, {"queues=", &settings.queues},
+        {"runs=", &settings.runs}, {"seconds=", &settings.seconds},
     };
     for (size_t at = 0; at < sizeof SETTINGS / sizeof *SETTINGS; at++) {
         size_t length = strlen(SETTINGS[at].name);

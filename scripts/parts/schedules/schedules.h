@@ -22,7 +22,7 @@ struct block {
     size_t size;
     size_t first_page, pages;
     enum label label;
-    int freed, open;
+    int channel, freed, open;
 };
 
 struct shared_word {
@@ -44,10 +44,10 @@ struct record {
 extern struct record *record;
 
 // What is explored: how many sleeps of a run may end by chance, how many readings of a clock may be in time, whether a
-// reading may fail, whether one run is enough of each order of dependent steps, and whether the atomic writes of a task's
-// queue are choices too.
+// reading may fail, whether a copy of a task's waker may be refused, whether one run is enough of each order of dependent
+// steps, and whether the atomic writes of a task's queue are choices too.
 struct settings {
-    long spurious, readings, failing_clock, reduce, queues, runs, seconds;
+    long spurious, readings, failing_clock, refused, reduce, queues, runs, seconds;
 };
 extern struct settings settings;
 
@@ -75,12 +75,13 @@ extern int block_count;
 int block_at(uintptr_t address);
 void set_access(int block, int open);
 uint64_t read_block(uintptr_t address);
+void write_block(uintptr_t address, uint64_t value);
 void begin_blocks(void);
-void find_words(int channel);
+void find_words(void);
 void tell_left(void);
 const struct shared_word *word_at(uintptr_t address);
 int place_at(uintptr_t address);
-extern int recording;
+extern int recording, channel_count;
 extern enum label made_as;
 
 // order.c: the happens-before order of accesses.
@@ -88,6 +89,11 @@ void begin_order(void);
 void order_atomic(int end, int place, int writes);
 void order_plain(int end, int block, size_t offset, int size, int writes);
 void order_free(int end, int block);
+
+// refusals.c: copies of a waker that are refused.
+void refuse_share(int block, uintptr_t address, uint64_t expected, uint64_t replaced);
+void end_refusal(void);
+int is_refused(uintptr_t address);
 
 // accesses.c: an access that faults.
 void begin_accesses(void);
@@ -98,6 +104,7 @@ long raw_call(long number, long a, long b, long c, long d, long e, long f);
 
 // explore.c: the runs, a child each.
 int explore(void);
+const char *prime(int channel);
 void tell(const char *format, ...) __attribute__((format(printf, 1, 2)));
 void fail(const char *format, ...) __attribute__((format(printf, 1, 2), noreturn));
 void fault(const char *format, ...) __attribute__((format(printf, 1, 2)));

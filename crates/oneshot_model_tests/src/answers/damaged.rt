@@ -9,7 +9,7 @@ mod place;
 mod reading;
 
 use crate::answers::told;
-use oneshot_asserts::assert_same;
+use crate::asserts::assert_same;
 use reading::{Asked, Kind, read};
 use std::process::Abort;
 use std::test::Fail;

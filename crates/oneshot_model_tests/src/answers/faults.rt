@@ -2,7 +2,7 @@
 //! its lines.
 
 use crate::answers::told;
-use oneshot_asserts::assert_same;
+use crate::asserts::assert_same;
 use std::test::Fail;
 
 /// Inputs with a fault of a line, each with what the program reports. Other faults of a line are among the

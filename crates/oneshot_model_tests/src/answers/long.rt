@@ -1,7 +1,7 @@
 //! Tests of long inputs: the output is whole, and the time grows with the length.
 
 use crate::answers::{receives, told};
-use oneshot_asserts::{assert_same, assert_that};
+use crate::asserts::{assert_same, assert_that};
 use std::process::Abort;
 use std::test::Fail;
 use std::time::{Clock, Duration, Instant};

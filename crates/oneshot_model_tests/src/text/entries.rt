@@ -1,6 +1,6 @@
 //! Lines of entries that no script's trace shows.
 
-use oneshot_asserts::assert_same;
+use crate::asserts::assert_same;
 use oneshot_machine::machine::{End, Seen, Step};
 use oneshot_machine::states::Op;
 use oneshot_replay::{Entry, Made, WakerName, WakerPlace};

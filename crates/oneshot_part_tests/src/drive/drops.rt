@@ -1,6 +1,6 @@
 //! Messages and wakers over grounds in memory that count their drops.
 
-use oneshot_asserts::{assert_same, assert_that};
+use crate::asserts::{assert_same, assert_that};
 use oneshot_drive::{drop_error, drop_receiver, recv, send};
 use oneshot_memory::{MemoryReceiver, MemorySender};
 use std::cell::Cell;

@@ -2,8 +2,8 @@
 
 ghost use Rattle.oneshot_drive.specs.BetweenCalls.{IsFresh};
 
+use crate::asserts::assert_same;
 use crate::drive::steps::steps_of;
-use oneshot_asserts::assert_same;
 use oneshot_drive::{drop_error, drop_sender, into_inner, send};
 use oneshot_memory::MemorySender;
 use std::alloc::Global;

@@ -2,9 +2,9 @@
 
 ghost use Rattle.oneshot_drive.specs.Polls.{IsPolled};
 
+use crate::asserts::assert_same;
 use crate::drive::steps::steps_of;
 use futures::task::Poll;
-use oneshot_asserts::assert_same;
 use oneshot_drive::{async_try_recv, drop_async, poll};
 use oneshot_errors::{RecvError, TryRecvError};
 use oneshot_memory::{MemoryFuture, MemoryTask};

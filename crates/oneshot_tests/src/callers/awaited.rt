@@ -1,7 +1,7 @@
 //! A caller that awaits a message under an executor, and its tests.
 
+use crate::asserts::{assert_same, assert_that};
 use futures::executor::block_on;
-use oneshot_asserts::{assert_same, assert_that};
 use oneshot_channel::{AsyncReceiver, RecvError, async_channel};
 use std::io;
 use std::random::RandomSource;

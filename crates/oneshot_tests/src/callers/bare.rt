@@ -1,9 +1,9 @@
 //! A future without a runtime, because none of its calls blocks.
 
+use crate::asserts::{assert_same, assert_that};
 use futures::executor::block_on;
 use futures::task::Poll;
 use futures::test::MockTask;
-use oneshot_asserts::{assert_same, assert_that};
 use oneshot_channel::{AsyncReceiver, RecvError, TryRecvError, async_channel};
 use std::alloc::Global;
 use std::io;

@@ -5,10 +5,10 @@ ghost use Rattle.oneshot_channel.specs.Ends.{IsDone, IsUnfinished};
 ghost use Rattle.oneshot_channel.specs.Phases.{receiver_at};
 ghost use Rattle.oneshot_channel.specs.Polls.{is_registered};
 
+use crate::asserts::{assert_same, assert_that};
 use futures::executor::block_on;
 use futures::task::Poll;
 use futures::test::MockTask;
-use oneshot_asserts::{assert_same, assert_that};
 use oneshot_channel::{AsyncReceiver, RecvError, TryRecvError, async_channel};
 use std::io;
 use std::random::RandomSource;

@@ -3,7 +3,7 @@
 ghost use Rattle.std.specs.Prelude.{◌≡◌, true, IfOk, IsNone};
 ghost use Rattle.oneshot_channel.specs.Ends.{IsClosed, IsOpen};
 
-use oneshot_asserts::{assert_same, assert_that};
+use crate::asserts::{assert_same, assert_that};
 use oneshot_channel::{Receiver, Sender, TryRecvError, channel};
 use std::alloc::{AllocError, Global};
 use std::test::Fail;

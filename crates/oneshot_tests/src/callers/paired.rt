@@ -4,7 +4,7 @@ ghost use Rattle.std.specs.Prelude.{◌≡◌, ◌<◌, None, Err, IfSome};
 ghost use Rattle.oneshot_channel.specs.Taken.{WasSent};
 ghost use Rattle.oneshot_channel.specs.TryRecvError.TheVariants as Tried;
 
-use oneshot_asserts::assert_same;
+use crate::asserts::assert_same;
 use oneshot_channel::laws::{
     an_unfinished_future_took_none, one_channel_is_about_one_value,
     one_channel_of_a_future_is_about_one_value, what_a_future_took_was_sent,

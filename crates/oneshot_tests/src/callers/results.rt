@@ -4,7 +4,7 @@ ghost use Rattle.std.specs.Prelude.{◌≡◌, ◌≢◌, None, Ok, Err, IsErr, 
 ghost use Rattle.oneshot_channel.specs.Ends.{IsClosed, IsOpen};
 ghost use Rattle.oneshot_channel.specs.TryRecvError.TheVariants as Tried;
 
-use oneshot_asserts::{assert_same, assert_that};
+use crate::asserts::{assert_same, assert_that};
 use oneshot_channel::{
     RawReceiver, Receiver, RecvError, RecvTimeoutError, Sender, TryRecvError, channel,
 };

@@ -4,7 +4,7 @@ ghost use Rattle.std.specs.Prelude.{◌≡◌, None, Some, Err, IfOk};
 ghost use Rattle.oneshot_channel.specs.Taken.{WasSent};
 ghost use Rattle.oneshot_channel.specs.TryRecvError.TheVariants as Tried;
 
-use oneshot_asserts::assert_same;
+use crate::asserts::assert_same;
 use oneshot_channel::laws::{an_open_receiver_took_none, what_a_receiver_took_was_sent};
 use oneshot_channel::{Promise, Receiver, TryRecvError, channel};
 use std::test::Fail;

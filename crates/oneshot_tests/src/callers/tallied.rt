@@ -6,7 +6,7 @@ ghost use Rattle.oneshot_channel.specs.Called.{as_receiver, ReceiverCalled};
 ghost use Rattle.oneshot_channel.specs.Ends.{Waking};
 ghost use Rattle.oneshot_channel.specs.ReceiverStart.TheVariants.{TryRecv};
 
-use oneshot_asserts::assert_same;
+use crate::asserts::assert_same;
 use oneshot_channel::laws::calls_add_up;
 use oneshot_channel::{Receiver, TryRecvError, channel};
 use std::test::Fail;

@@ -3,7 +3,7 @@
 ghost use Rattle.oneshot_channel.specs.NoLostWakeup.{NoSleeperIsForgotten};
 ghost use Rattle.oneshot_channel.specs.Tokens.{TokensAreGivenOnce};
 
-use oneshot_asserts::assert_same;
+use crate::asserts::assert_same;
 use oneshot_channel::laws::{a_token_is_given_once_and_then_taken, no_wakeup_is_lost};
 use oneshot_channel::{Promise, Receiver, RecvError, channel};
 use std::sync::Wait;

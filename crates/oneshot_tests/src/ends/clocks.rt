@@ -1,6 +1,6 @@
 //! Receives by clocks that return written readings, count them, or have the sender act at one.
 
-use oneshot_asserts::{assert_same, assert_that};
+use crate::asserts::{assert_same, assert_that};
 use oneshot_channel::{Receiver, RecvTimeoutError, Sender, channel};
 use std::alloc::{AllocError, Global};
 use std::cell::Cell;

@@ -1,7 +1,7 @@
 //! Receives with a deadline or a timeout: how long they take, and what a sender on another thread changes.
 
 use super::beside::{Act, Pace, Receive, assert_receives, hour};
-use oneshot_asserts::{assert_same, assert_that};
+use crate::asserts::{assert_same, assert_that};
 use oneshot_channel::{RecvTimeoutError, channel};
 use std::test::Fail;
 use std::thread::{join, sleep};

@@ -1,6 +1,6 @@
 //! A channel whose message is the sender of another channel.
 
-use oneshot_asserts::{assert_same, assert_that};
+use crate::asserts::{assert_same, assert_that};
 use oneshot_channel::{Receiver, Sender, TryRecvError, channel};
 use std::alloc::{AllocError, AllocGlobal};
 use std::test::Fail;

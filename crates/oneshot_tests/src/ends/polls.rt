@@ -2,11 +2,11 @@
 
 ghost use Rattle.std.specs.Prelude.{◌≡◌};
 
+use crate::asserts::{assert_same, assert_that};
 use futures::Future;
 use futures::executor::block_on;
 use futures::future::join;
 use futures::task::{Context, Poll};
-use oneshot_asserts::{assert_same, assert_that};
 use oneshot_channel::{AsyncReceiver, RecvError, async_channel};
 use std::process::Abort;
 use std::random::RandomSource;

@@ -3,9 +3,9 @@
 ghost use Rattle.std.specs.Prelude.{◌≡◌};
 
 use super::leaks::assert_no_leak;
+use crate::asserts::{assert_same, assert_that};
 use futures::executor::block_on;
 use futures::test::MockTask;
-use oneshot_asserts::{assert_same, assert_that};
 use oneshot_channel::{Promise, TryRecvError, async_channel_for, channel_for};
 use std::alloc::Global;
 use std::io;

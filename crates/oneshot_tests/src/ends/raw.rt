@@ -1,6 +1,6 @@
 //! Raw ends that go to other threads.
 
-use oneshot_asserts::{assert_same, assert_that};
+use crate::asserts::{assert_same, assert_that};
 use oneshot_channel::{RawReceiver, RawSender, Receiver, Sender, channel};
 use std::test::Fail;
 use std::thread::{Threads, join};

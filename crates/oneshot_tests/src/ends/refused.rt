@@ -1,6 +1,6 @@
 //! The texts of the error that carries a refused message.
 
-use oneshot_asserts::assert_same;
+use crate::asserts::assert_same;
 use oneshot_channel::channel;
 use std::test::Fail;
 

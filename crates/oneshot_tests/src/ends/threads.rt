@@ -1,6 +1,6 @@
 //! Each end on a thread of its own.
 
-use oneshot_asserts::{assert_same, assert_that};
+use crate::asserts::{assert_same, assert_that};
 use oneshot_channel::{RawSender, Receiver, SendError, Sender, TryRecvError, channel};
 use std::mem::size_of_val;
 use std::test::Fail;

@@ -1,10 +1,10 @@
 //! Two tasks of one executor that wait for one future and for something else, and how often each is woken.
 
 use self::Deed::{First, Look, Second};
+use crate::asserts::{assert_same, assert_that};
 use futures::Future;
 use futures::executor::LocalPool;
 use futures::task::{Context, Poll, Source, Waker};
-use oneshot_asserts::{assert_same, assert_that};
 use oneshot_channel::{AsyncReceiver, Promise, TryRecvError, async_channel};
 use std::alloc::AllocError;
 use std::cell::Cell;

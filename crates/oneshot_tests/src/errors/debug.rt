@@ -1,6 +1,6 @@
 //! The texts that `{:?}` prints.
 
-use oneshot_asserts::assert_same;
+use crate::asserts::assert_same;
 use oneshot_channel::{RecvError, RecvTimeoutError, TryRecvError};
 use std::alloc::Global;
 use std::fmt::Debug;

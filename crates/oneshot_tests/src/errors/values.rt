@@ -1,6 +1,6 @@
 //! Copies of the errors, their equality and their hashes, at run time.
 
-use oneshot_asserts::assert_that;
+use crate::asserts::assert_that;
 use oneshot_channel::{RecvError, RecvTimeoutError, TryRecvError};
 use std::alloc::AllocError;
 use std::hash::{DefaultHasher, Hash, Hasher};

@@ -2,8 +2,8 @@
 
 ghost use Rattle.std.specs.Prelude.{◌≡◌};
 
+use crate::asserts::{assert_same, assert_that};
 use futures::executor::block_on;
-use oneshot_asserts::{assert_same, assert_that};
 use oneshot_channel::async_channel;
 use oneshot_channel::reply::{Answer, Ticket, request};
 use std::fmt::Debug;

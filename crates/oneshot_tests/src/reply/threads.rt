@@ -1,7 +1,7 @@
 //! Requests, tickets and replies on threads other than their makers'.
 
 use super::{TEXT, ask, bytes_of};
-use oneshot_asserts::{assert_same, assert_that};
+use crate::asserts::{assert_same, assert_that};
 use oneshot_channel::TryRecvError;
 use oneshot_channel::reply::{Answer, Length, Request, Ticket};
 use std::test::Fail;

@@ -1,9 +1,9 @@
 //! Waits for a reply: by a task that waits for something else too, and with a timeout by a written clock.
 
 use super::{answer, ask, bytes_of};
+use crate::asserts::{assert_same, assert_that};
 use crate::ends::clocks::{FIVE_NANOSECONDS, Written};
 use crate::ends::wakes::{WAITS, waited_for};
-use oneshot_asserts::{assert_same, assert_that};
 use oneshot_channel::{RecvTimeoutError, TryRecvError};
 use std::test::Fail;
 use std::time::Duration;

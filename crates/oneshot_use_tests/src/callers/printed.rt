@@ -59,13 +59,13 @@ fn a_message_comes_back_and_its_lines_are_printed(rt: HostRuntime) -> Result<(),
     let [dropped, written, refused] = lines.as_slice() else {
         panic!(rt; "a line a move")
     };
-    oneshot_asserts::assert_same(&rt, dropped.as_str(), "1 R swap 3>2 = dropped");
-    oneshot_asserts::assert_same(
+    crate::asserts::assert_same(&rt, dropped.as_str(), "1 R swap 3>2 = dropped");
+    crate::asserts::assert_same(
         &rt,
         written.as_str(),
         "2 S write-message 2>2 m:NotSent>InCell",
     );
-    oneshot_asserts::assert_same(&rt, refused.as_str(), "3 S add 2>3 m:InCell>InError = Err");
-    oneshot_asserts::assert_that(&rt, !run.block_freed());
+    crate::asserts::assert_same(&rt, refused.as_str(), "3 S add 2>3 m:InCell>InError = Err");
+    crate::asserts::assert_that(&rt, !run.block_freed());
     Ok(())
 }

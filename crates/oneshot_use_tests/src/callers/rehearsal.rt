@@ -3,11 +3,11 @@
 ghost use Rattle.std.specs.Prelude.{◌≡◌, IfSome};
 ghost use Rattle.oneshot_replay.specs.declared.rest.Rest.TheVariants as Rest;
 
+use crate::asserts::assert_that;
 use oneshot::replay::{
     CallList, ErrorLast, ErrorScript, Move, ReceiverLast, ReceiverScript, Rest, SenderLast,
     SenderScript, replay,
 };
-use oneshot_asserts::assert_that;
 use std::alloc::Global;
 
 /// Replays a `send` after the receiver's drop: the message comes back in the error.

@@ -5,13 +5,13 @@ ghost use Rattle.oneshot_world.specs.Scripts.{calls_of};
 ghost use Rattle.oneshot_laws.specs.MessagePlaces.{is_message_followed};
 ghost use Rattle.oneshot_laws.specs.Unwoken.{NeverUnwoken};
 
+use crate::asserts::assert_same;
 use oneshot::machine::{End, Reply, Step};
 use oneshot::replay::laws::a_run_is_right;
 use oneshot::replay::{
     CallList, Entry, ErrorLast, ErrorScript, Move, ReceiverLast, ReceiverScript, Replayer,
     SenderLast, SenderScript,
 };
-use oneshot_asserts::assert_same;
 use std::alloc::{AllocError, Global};
 use std::test::Fail;
 

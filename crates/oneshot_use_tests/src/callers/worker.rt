@@ -3,9 +3,9 @@
 ghost use Rattle.std.specs.Prelude.{IfOk};
 ghost use Rattle.oneshot_values.specs.Values.{OnlyTheLastGot};
 
+use crate::asserts::{assert_same, assert_that};
 use oneshot::laws::{a_receiver_has_its_calls, calls_add_up};
 use oneshot::{Receiver, TryRecvError, channel};
-use oneshot_asserts::{assert_same, assert_that};
 use oneshot_values::a_receiver_runs;
 use std::test::Fail;
 

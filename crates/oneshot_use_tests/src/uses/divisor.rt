@@ -1,7 +1,7 @@
 //! Tests of searches that find a divisor, and of those that drop their sender.
 
+use crate::asserts::{assert_same, assert_that};
 use oneshot::{RecvError, async_channel};
-use oneshot_asserts::{assert_same, assert_that};
 use oneshot_uses::divisor::{await_divisor, divisor_of, least_divisor, send_divisor, start};
 use std::test::Fail;
 

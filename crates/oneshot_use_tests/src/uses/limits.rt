@@ -1,8 +1,8 @@
 //! Tests that each wait lasts as long as its limit, by a clock that returns written readings.
 
+use crate::asserts::assert_same;
 use oneshot::channel;
 use oneshot::reply::request;
-use oneshot_asserts::assert_same;
 use oneshot_uses::pool::{pooled, total};
 use oneshot_uses::request::{Square, Unanswered, ask};
 use oneshot_uses::tickets::{asked, square_within};

@@ -1,8 +1,8 @@
 //! Tests of replies that come, come too late or never come, and of the shutdown of a pool.
 
+use crate::asserts::{assert_same, assert_that};
 use crossbeam_channel as queue;
 use oneshot::channel;
-use oneshot_asserts::{assert_same, assert_that};
 use oneshot_uses::pool::{answers_to, ask_all, pooled, total, work};
 use oneshot_uses::request::{Unanswered, ask};
 use std::test::Fail;

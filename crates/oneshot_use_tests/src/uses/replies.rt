@@ -1,6 +1,6 @@
 //! Tests of two replies awaited at once, and of those that do not come.
 
-use oneshot_asserts::{assert_same, assert_that};
+use crate::asserts::{assert_same, assert_that};
 use oneshot_uses::replies::{both_replies, both_squares, first_reply, first_square};
 use oneshot_uses::request::ask;
 use std::test::Fail;

@@ -1,6 +1,6 @@
 //! Tests of replies that come, and of those that do not.
 
-use oneshot_asserts::{assert_same, assert_that};
+use crate::asserts::{assert_same, assert_that};
 use oneshot_uses::request::{Asked, ask, serve_all, squares_of};
 use std::test::Fail;
 

@@ -1,7 +1,7 @@
 //! Tests of how a worker stops.
 
+use crate::asserts::{assert_same, assert_that};
 use oneshot::channel;
-use oneshot_asserts::{assert_same, assert_that};
 use oneshot_uses::shutdown::{Ending, Order, Report, watched, work_until};
 use std::test::Fail;
 

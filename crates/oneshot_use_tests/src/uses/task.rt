@@ -1,7 +1,7 @@
 //! Tests of results that are received, and of those that come back.
 
+use crate::asserts::assert_same;
 use oneshot::channel;
-use oneshot_asserts::assert_same;
 use oneshot_uses::task::{awaited, perform, start, unclaimed};
 use std::test::Fail;
 

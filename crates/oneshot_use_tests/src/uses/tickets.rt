@@ -1,7 +1,7 @@
 //! Tests of tickets whose reply comes, comes too late or never comes.
 
+use crate::asserts::{assert_same, assert_that};
 use oneshot::reply::{Request, Ticket, request};
-use oneshot_asserts::{assert_same, assert_that};
 use oneshot_uses::request::{Square, Unanswered};
 use oneshot_uses::tickets::{asked, serve, square_awaited, square_within};
 use std::alloc::{AllocError, Global};

@@ -3,7 +3,7 @@
 use crate::answers::damaged::assert_as_read;
 use crate::answers::damaged::reading::Kind;
 use crate::answers::told;
-use oneshot_asserts::assert_same;
+use crate::asserts::assert_same;
 use std::alloc::AllocGlobal;
 use std::process::Abort;
 use std::test::Fail;

@@ -2,7 +2,7 @@
 
 use super::{FAILURES, Failures, INTERRUPTS, Reader, ending};
 use crate::answers::{SENT, SENT_TRACE, assert_trace, idle};
-use oneshot_asserts::assert_that;
+use crate::asserts::assert_that;
 use oneshot_streams::fault::Fault;
 use oneshot_streams::run::run;
 use std::io;

@@ -2,7 +2,7 @@
 
 use super::{FAILURES, Failures, INTERRUPTS, Reader, Writer, ending};
 use crate::answers::{SENT, SENT_TRACE, idle};
-use oneshot_asserts::{assert_same, assert_that};
+use crate::asserts::{assert_same, assert_that};
 use oneshot_streams::answer::answer;
 use std::io::ErrorKind;
 use std::test::Fail;
