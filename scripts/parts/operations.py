@@ -67,7 +67,7 @@ LAST_CALLS = {
     "Drop for Receiver::drop": "ground.dropped",
     "Drop for AsyncReceiver::drop": "ground.dropped",
 }
-CHANNEL = ["oneshot_machine", "oneshot_drive", "oneshot_word", "oneshot_ends", "oneshot_reply"]
+CHANNEL = ["oneshot_errors", "oneshot_machine", "oneshot_drive", "oneshot_word", "oneshot_ends", "oneshot_reply"]
 
 
 def uses(words, body):

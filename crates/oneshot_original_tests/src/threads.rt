@@ -146,3 +146,10 @@ pub(super) fn assert_outcomes<
     }
     Ok(())
 }
+
+#[test]
+#[should_panic(expected = "(Ok(()), Ok(1)), not of []")]
+fn an_outcome_that_is_not_wanted_ends_a_test(rt: HostRuntime) {
+    let by = By::Receiver(Use::Recv);
+    let _ = assert_outcomes(&rt, AT_ONCE, Act::Send(1u8), &by, &[]);
+}

@@ -11,8 +11,7 @@ pub(super) struct Outcome<A> {
     pub(super) late: bool,
 }
 
-/// In how many of these rounds each answer that may come has to come, and each order: in a hundredth. By the drawn
-/// delays each comes in a tenth of them.
+/// In how many of these rounds each answer that may come has to come, and each order: in a hundredth.
 fn often<A>(outcomes: &[Outcome<A>]) -> usize {
     (outcomes.len() / 100).max(1)
 }

@@ -79,7 +79,7 @@ impl Side<'_> {
         self.there.ended.load(Ordering::SeqCst) >= round
     }
 
-    /// Waits until both threads are at this line, of which each round has two. Fails if the other does not come.
+    /// Waits until both threads are at this line, of which each round has two.
     pub(super) fn meet(&self, rt: &(impl Abort + Clock), line: u64) {
         self.here.arrived.store(line, Ordering::SeqCst);
         for looks in 0..LINE_LOOKS {

@@ -33,7 +33,7 @@ fn run<E: Drop, A: Copy, F: FnMut(E) -> A>(
 }
 
 /// What both sides return in each round. Each makes its call on a thread of its own, with its value for
-/// that round. Fails if a call lasts for seconds.
+/// that round. Does not end if a call does not.
 pub(super) fn race<
     R: Threads + Abort + Clock + Sync,
     S: Send + Drop,

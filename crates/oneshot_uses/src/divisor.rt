@@ -48,7 +48,7 @@ pub fn send_divisor(number: u32, waiter: Sender<Divisor>) {
     }
 }
 
-// It is not `Drop`, so a program that does not join its thread does not compile.
+// It is not `Drop`, so a program that only lets it go does not compile.
 /// A search on its own thread, which has to be joined.
 pub struct Search {
     thread: JoinHandle<()>,

@@ -23,7 +23,7 @@ fn a_timeout_that_runs_out_takes_its_time(rt: HostRuntime) -> Result<(), Fail> {
 
 // If a receive were not woken, this test would not end.
 #[test]
-fn two_threads_answer_each_other_promptly(rt: HostRuntime) -> Result<(), Fail> {
+fn two_threads_answer_each_other(rt: HostRuntime) -> Result<(), Fail> {
     let (to_right, mut at_right) = channel::<u8, _>(&rt, rt.alloc())?;
     let (to_left, mut at_left) = channel::<u8, _>(&rt, rt.alloc())?;
     let (left, right) = join(

@@ -79,8 +79,8 @@ fn a_send_of_another_thread_wakes_the_task(rt: HostRuntime) -> Result<(), Fail> 
     Ok(())
 }
 
-/// How often the receiver of two joined ones is polled whose message comes last. Fails unless both get theirs.
-fn polls_of_the_last<R: thread::Threads + Wait + Clock + RandomSource + AllocGlobal + Abort + Sync>(
+/// How often two joined receivers are polled, one of which gets its message later. Fails unless both get theirs.
+fn polls_of_two<R: thread::Threads + Wait + Clock + RandomSource + AllocGlobal + Abort + Sync>(
     rt: &R,
 ) -> Result<u64, Fail> {
     let polls = AtomicU64::new(0);
@@ -88,6 +88,10 @@ fn polls_of_the_last<R: thread::Threads + Wait + Clock + RandomSource + AllocGlo
     let (other_sender, other) = async_channel(rt, rt.alloc())?;
     let counted = Counted {
         receiver,
+        polls: &polls,
+    };
+    let other = Counted {
+        receiver: other,
         polls: &polls,
     };
     let (received, sent) = thread::join(
@@ -111,11 +115,11 @@ fn polls_of_the_last<R: thread::Threads + Wait + Clock + RandomSource + AllocGlo
 #[test]
 fn two_joined_receivers_are_polled_as_often_as_they_are_woken(rt: HostRuntime) -> Result<(), Fail> {
     for _ in 0..TRIES {
-        if polls_of_the_last(&rt)? <= MOST_POLLS {
+        if polls_of_two(&rt)? <= MOST_POLLS {
             return Ok(());
         }
     }
-    Err(Fail::new("it is polled without end"))
+    Err(Fail::new("they are polled without end"))
 }
 
 /// Polls a receiver once on another thread, and returns it.
