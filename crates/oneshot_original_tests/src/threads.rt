@@ -4,7 +4,7 @@ use oneshot::{Sender, async_channel, channel};
 use oneshot_tests::uses::{FutureUse, Silence, Use};
 use std::fmt::Debug;
 use std::hint::spin_loop;
-use std::process::Abort;
+use std::process::{Abort, Termination};
 use std::random::RandomSource;
 use std::sync::Wait;
 use std::sync::atomic::{AtomicU64, Ordering};
@@ -151,5 +151,5 @@ pub(super) fn assert_outcomes<
 #[should_panic(expected = "(Ok(()), Ok(1)), not of []")]
 fn an_outcome_that_is_not_wanted_ends_a_test(rt: HostRuntime) {
     let by = By::Receiver(Use::Recv);
-    let _ = assert_outcomes(&rt, AT_ONCE, Act::Send(1u8), &by, &[]);
+    let _ = assert_outcomes(&rt, AT_ONCE, Act::Send(1u8), &by, &[]).report(&rt);
 }
