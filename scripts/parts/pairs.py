@@ -1,4 +1,5 @@
-"""The pairs of scripts whose runs are gone through: the words of the program, and the same in an input of oneshot-run."""
+"""The pairs of scripts whose runs are gone through: the words of the program, and the same in an input of
+oneshot-run."""
 import collections
 import re
 
@@ -72,6 +73,11 @@ def lacking(pair):
     if pair.kind == "two" and pair.receiver.split()[-1:] not in (["drop"], ["recv"]):
         return "a receiver of two channels is dropped"
     return ""
+
+
+def may_wait(pair):
+    """Whether a receive may wait. The model's waits may end by chance more often than the scheduler's."""
+    return bool(re.search(r"recv|ref|forever|timeout|deadline", pair.receiver))
 
 
 def name_of(pair):
