@@ -10,7 +10,7 @@ import threading
 import time
 from concurrent.futures import ThreadPoolExecutor
 
-from parts.pairs import arguments_of, may_wait, name_of, scripts_of
+from parts.pairs import arguments_of, may_miss, name_of, scripts_of
 
 RUNS = re.compile(r"(?m)^runs (\d+) operations (\d+) stuck (\d+) differ (\d+) met \d+\n"
                   r"orders( at least)? (\d+) missed (\d+)")
@@ -39,7 +39,7 @@ class Result:
             return f"{self.differ} runs differ"
         if self.runs == 0 or self.runs != self.explored:
             return f"{self.runs} runs are held against the model, of {self.explored}"
-        if self.complete and self.missed and not may_wait(self.pair):
+        if self.complete and self.missed and not may_miss(self.pair):
             return f"no run meets {self.missed} of the model's orders"
         return ""
 
