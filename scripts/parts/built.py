@@ -1,5 +1,6 @@
 """The compiled programs: those that `rt ci` left in out/, or built now; and the scheduler."""
 import os
+import pathlib
 import shutil
 import subprocess
 import sys
@@ -17,10 +18,12 @@ def beneath(crate, listed):
 
 
 def newest_source(crate):
-    """When the sources of a crate and of those beneath it were last written."""
+    """When what a program is built from was last written: its crate's sources and those beneath it, the list of the
+    crates, and the toolchain."""
     files = [file for name in beneath(crate, crates()) for part in ("src", "specs", "proofs")
              for file in (CRATES / name / part).rglob("*") if file.is_file()]
-    return max(file.stat().st_mtime for file in files)
+    files += [CRATES.parent / "crates.txt", CRATES / crate / "args", pathlib.Path(shutil.which("rt") or "").resolve()]
+    return max(file.stat().st_mtime for file in files if file.is_file())
 
 
 def build_program(crate, compiler):
@@ -42,7 +45,8 @@ def build_program(crate, compiler):
 def find_program(crate, compiler="llvm"):
     program = CRATES / crate / "out" / f"{crate}{ENDINGS[compiler]}"
     if not is_new(program, crate):
-        print(f"schedules: proving and building {crate}, which takes minutes the first time", file=sys.stderr, flush=True)
+        print(f"schedules: proving and building {crate}, which takes minutes the first time", file=sys.stderr,
+              flush=True)
         build_program(crate, compiler)
     if not is_new(program, crate):
         raise Differs(f"{crate} was not built")

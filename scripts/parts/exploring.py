@@ -5,35 +5,48 @@ import queue
 import re
 import signal
 import subprocess
+import tempfile
 import threading
 import time
 from concurrent.futures import ThreadPoolExecutor
 
-from parts.pairs import arguments_of, name_of, scripts_of
+from parts.pairs import arguments_of, may_miss, name_of, scripts_of
 
-RUNS = re.compile(r"(?m)^runs (\d+) operations (\d+) stuck (\d+) differ (\d+) met (\d+)\norders( at least)? (\d+) missed (\d+)")
+RUNS = re.compile(r"(?m)^runs (\d+) operations (\d+) stuck (\d+) differ (\d+) met \d+\n"
+                  r"orders( at least)? (\d+) missed (\d+)")
 CHOICES = re.compile(r"runs (\d+) pruned (\d+) points (\d+) longest (\d+) complete ([01])")
 
 
 class Result:
-    """What was counted of a pair, and what the programs said."""
+    """What was counted of a pair, what the programs said, and the status of each."""
 
-    def __init__(self, pair, written, said, status):
+    def __init__(self, pair, written, said, status, ended):
         self.pair, self.written, self.said, self.status = pair, written, said, status
         counted, gone = RUNS.search(written), CHOICES.search(said)
-        self.is_told = bool(counted and gone)
-        counts = counted.groups() if counted else [0] * 8
-        self.runs, self.operations, self.stuck, self.differ, self.met = map(int, counts[:5])
-        self.orders, self.missed = int(counts[6]), int(counts[7])
+        self.is_told = bool(counted and gone and ended == 0)
+        counts = counted.groups() if counted else [0, 0, 0, 0, None, 0, 0]
+        self.runs, self.operations, self.stuck, self.differ = map(int, counts[:4])
+        self.is_whole, self.orders, self.missed = not counts[4], int(counts[5]), int(counts[6])
         self.complete = bool(gone and gone[5] == "1")
+        # The runs that the scheduler counted, also where the other program prints traces.
+        self.explored = int(gone[1]) if gone and ended == 0 else 0
 
-    def is_right(self):
-        return self.is_told and self.status == 0 and self.differ == 0
+    def wrong(self):
+        """What is wrong with the runs; nothing if they are right."""
+        if not self.is_told:
+            return "a program ended early"
+        if self.status != 0 or self.differ:
+            return f"{self.differ} runs differ"
+        if self.runs == 0 or self.runs != self.explored:
+            return f"{self.runs} runs are held against the model, of {self.explored}"
+        if self.complete and self.missed and not may_miss(self.pair):
+            return f"no run meets {self.missed} of the model's orders"
+        return ""
 
     def line(self):
-        ended = "" if self.complete else ", not to the end"
+        ended, least = "" if self.complete else ", not to the end", "" if self.is_whole else "at least "
         return (f"{name_of(self.pair)}: {self.runs:,} runs{ended}, {self.operations:,} operations, "
-                f"{self.orders - self.missed} of the model's {self.orders} orders")
+                f"{self.orders - self.missed} of the model's {least}{self.orders} orders")
 
 
 def tell_first(found, told):
@@ -53,28 +66,33 @@ class Explorer:
         self.count, self.running, self.stopped = len(processors), set(), threading.Event()
 
     def explore(self, pair, settings="", shown=()):
-        """Goes through one pair. Its processor is the thread's alone: two threads of a run take turns."""
-        processor = self.processors.get()
+        """Goes through one pair, on a processor that is this thread's alone: two threads of a run take turns."""
+        processor, before = self.processors.get(), os.sched_getaffinity(0)
+        os.sched_setaffinity(0, {processor})
         try:
-            return self.explore_on(processor, pair, settings, shown)
+            with tempfile.TemporaryFile() as errors:
+                return self.explore_here(pair, settings, shown, errors)
         finally:
+            os.sched_setaffinity(0, before)
             self.processors.put(processor)
 
-    def explore_on(self, processor, pair, settings, shown):
+    def explore_here(self, pair, settings, shown, errors):
+        """The programs have the processor of this thread."""
         reads, writes = os.pipe()
         os.write(writes, scripts_of(pair).encode())
         environment = {"LD_PRELOAD": self.scheduler, "SCHEDULES": f"{pair.settings} {settings}"}
-        how = {"start_new_session": True, "preexec_fn": lambda: os.sched_setaffinity(0, {processor})}
         explorer = subprocess.Popen([self.program, *arguments_of(pair)], env=environment, stdin=subprocess.DEVNULL,
-                                    stdout=writes, stderr=subprocess.PIPE, **how)
+                                    stdout=writes, stderr=errors, start_new_session=True)
         os.close(writes)
         self.running.add(explorer)
-        auditor = subprocess.Popen([self.auditor, *shown], stdin=reads, stdout=subprocess.PIPE, **how)
+        auditor = subprocess.Popen([self.auditor, *shown], stdin=reads, stdout=subprocess.PIPE,
+                                   start_new_session=True)
         os.close(reads)
         written = auditor.communicate()[0].decode(errors="replace")
-        said = explorer.communicate()[1].decode(errors="replace")
+        ended = explorer.wait()
         self.running.discard(explorer)
-        return Result(pair, written, said, auditor.returncode)
+        errors.seek(0)
+        return Result(pair, written, errors.read().decode(errors="replace"), auditor.returncode, ended)
 
     def explore_all(self, pairs, told, seconds=1e9, until=1e18):
         """Goes through pairs, each for so many seconds, and begins none after `until`. Tells each result, also those

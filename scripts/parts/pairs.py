@@ -1,4 +1,5 @@
-"""The pairs of scripts whose runs are gone through: the words of the program, and the same in an input of oneshot-run."""
+"""The pairs of scripts whose runs are gone through: the words of the program, and the same in an input of
+oneshot-run."""
 import collections
 import re
 
@@ -72,6 +73,13 @@ def lacking(pair):
     if pair.kind == "two" and pair.receiver.split()[-1:] not in (["drop"], ["recv"]):
         return "a receiver of two channels is dropped"
     return ""
+
+
+def may_miss(pair):
+    """Whether the runs may miss orders of the model. The model's waits may end by chance more often than the
+    scheduler's. Of three polls with refused copies some orders are met by no run, and it is not known why."""
+    waits = re.search(r"recv|ref|forever|timeout|deadline", pair.receiver)
+    return bool(waits) or ("refused=1" in pair.settings and pair.receiver.count("poll") > 2)
 
 
 def name_of(pair):

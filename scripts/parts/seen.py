@@ -11,12 +11,12 @@ from parts.pairs import Pair, name_of
 from parts.sources import CRATES
 
 STUB = CRATES.parent / "scripts" / "parts" / "unproved.c"
-# What is planted, the file, its text and the other, and the pair that shows it.
+# What is planted, the reason for which runs differ, the file, its text and the other, and the pair that shows it.
 DAMAGES = [
-    ("the receiver is woken before the last swap: a wakeup is lost", "oneshot_drive/src/sender.rt",
+    ("the receiver is woken before the last swap: a wakeup is lost", "a wakeup is lost", "oneshot_drive/src/sender.rt",
      "    let found = g.swap(last);\n    g.wake(waker);\n", "    g.wake(waker);\n    let found = g.swap(last);\n",
      Pair("", "send", "recv", "")),
-    ("both ends have one share: a freed block is read", "oneshot_word/src/opening.rt",
+    ("both ends have one share: a freed block is read", "a freed block is accessed", "oneshot_word/src/opening.rt",
      "Arc::try_clone(&table)?", "unsafe { std::ptr::read(&table) }", Pair("", "send", "try drop", "")),
 ]
 
@@ -27,6 +27,12 @@ def plant(crates, file, text, other):
     if before.count(text) != 1:
         raise Differs(f"{file} has not one: {text}")
     source.write_text(before.replace(text, other))
+
+
+def run_tool(*words):
+    ran = subprocess.run(words, capture_output=True, text=True)
+    if ran.returncode:
+        raise Differs(f"{words[0]}: {ran.stderr}")
 
 
 def make_kit(folder, copy):
@@ -41,8 +47,8 @@ def make_kit(folder, copy):
     for name in ("rt", "rtlib.py"):
         shutil.copy(kit / "bin" / name, made / "bin")
     stub = folder / "unproved.o"
-    subprocess.run([os.environ.get("CC", "cc"), "-O2", f'-DCOPY="{copy}"', "-c", str(STUB), "-o", str(stub)], check=True)
-    subprocess.run(["ar", "rcs", str(made / "c" / "asan.a"), str(stub)], check=True)
+    run_tool(os.environ.get("CC", "cc"), "-O2", f'-DCOPY="{copy}"', "-c", str(STUB), "-o", str(stub))
+    run_tool("ar", "rcs", str(made / "c" / "asan.a"), str(stub))
     return made / "bin" / "rt"
 
 
@@ -53,22 +59,40 @@ def build_unproved(folder, damage=None):
     shutil.copy(CRATES.parent / "crates.txt", folder)
     if damage:
         plant(folder / "crates", *damage)
-    ran = subprocess.run([str(make_kit(folder, copy)), "try", "--steps", "1"], cwd=folder / "crates" / "oneshot_scheduled",
-                         stdin=subprocess.DEVNULL, capture_output=True, text=True)
+    ran = subprocess.run([str(make_kit(folder, copy)), "try", "--steps", "1"], stdin=subprocess.DEVNULL,
+                         cwd=folder / "crates" / "oneshot_scheduled", capture_output=True, text=True)
     if not copy.exists():
         raise Differs(ran.stdout + ran.stderr)
     return str(copy)
 
 
-def see_damages(explorer_of):
-    """Whether each damage is seen, and nothing without one."""
+def is_seen(result, why):
+    """Whether the runs are told, and some differ for this reason; without a reason, whether they are right."""
+    if why is None:
+        return result.complete and not result.wrong()
+    reasons = [line.rpartition(": ")[2] for line in result.written.splitlines() if line.startswith("differs: ")]
+    return result.is_told and result.differ > 0 and why in reasons
+
+
+def see_each(explorer_of, title, why, damage, pairs):
+    """Builds a program, and tells whether each pair shows what it has to."""
     right = True
-    for title, *damage, pair in [("no damage", DAMAGES[0][-1]), *DAMAGES]:
-        with tempfile.TemporaryDirectory() as folder:
-            program = build_unproved(pathlib.Path(folder), damage)
-            result = explorer_of(program).explore(pair)
-        is_seen = result.is_told and result.differ > 0
-        print(f"{title}: {name_of(pair)}: {result.differ:,} of {result.runs:,} runs differ")
-        print("".join(f"    {line}\n" for line in result.written.splitlines() if is_seen), end="", flush=True)
-        right = right and is_seen == bool(damage)
+    with tempfile.TemporaryDirectory() as folder:
+        explorer = explorer_of(build_unproved(pathlib.Path(folder), damage))
+        for pair in pairs:
+            result = explorer.explore(pair)
+            seen = is_seen(result, why)
+            print(f"{title}: {name_of(pair)}: {result.differ:,} of {result.runs:,} runs differ"
+                  f"{'' if seen else ', WHICH IS WRONG'}")
+            shown = result.written if result.differ or not seen else ""
+            print("".join(f"    {line}\n" for line in shown.splitlines()), end="", flush=True)
+            right = right and seen
+    return right
+
+
+def see_damages(explorer_of):
+    """Whether each damage is seen for its reason, and nothing without one."""
+    right = see_each(explorer_of, "no damage", None, None, [pair for *_, pair in DAMAGES])
+    for title, why, *damage, pair in DAMAGES:
+        right = see_each(explorer_of, title, why, damage, [pair]) and right
     return right

@@ -53,6 +53,12 @@ static void copy_file(const char *path) {
     }
     while (at < file.st_size && sendfile(to, from, &at, file.st_size - at) > 0) {
     }
+    // A part of a program is none.
+    if (at < file.st_size || close(to) != 0) {
+        unlink(COPY);
+        _exit(1);
+    }
+    close(from);
 }
 
 static void begin(void);
@@ -76,7 +82,9 @@ static void copy_program(void) {
 
 static void begin(void) {
     int flags = MAP_PRIVATE | MAP_ANONYMOUS | MAP_NORESERVE | MAP_FIXED;
-    mmap((void *)SHADOW, SHADOW_END - SHADOW, PROT_READ | PROT_WRITE, flags, -1, 0);
+    if (mmap((void *)SHADOW, SHADOW_END - SHADOW, PROT_READ | PROT_WRITE, flags, -1, 0) == MAP_FAILED) {
+        _exit(1);
+    }
     copy_program();
 }
 

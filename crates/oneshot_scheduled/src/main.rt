@@ -1,7 +1,8 @@
 //! Runs a script of each end of a channel, each in a thread, and tells by short sleeps where it is and what each call
-//! returned. The arguments are the kind of the channel, `S` and the sender's words, `R` and the receiver's.
+//! returned. The arguments are the kind of the channel, `S` and the sender's words, `R` and the receiver's. Others are refused.
 #![tactic(auto)]
 
+mod asked;
 mod parcel;
 mod polls;
 mod receivers;
@@ -13,28 +14,22 @@ mod told;
 mod two;
 mod words;
 
-use run::{Kind, run};
+use asked::Asked;
+use run::run;
+use std::process::ExitCode;
 use std::{env, io};
-use words::{Word, word_of};
 
-fn main(rt: HostRuntime) -> io::Result<()> {
-    let alloc = rt.alloc();
-    let mut kind = Kind::Plain;
-    let mut sends = Vec::new(alloc);
-    let mut receives = Vec::new(alloc);
-    let mut of_receiver = false;
+fn main(rt: HostRuntime) -> io::Result<ExitCode> {
+    let mut asked = Asked::new(rt.alloc());
     for arg in env::args(&rt)?.skip(1) {
-        match word_of(arg.as_str()) {
-            Word::Sender => {}
-            Word::Receiver => of_receiver = true,
-            Word::Promise => kind = Kind::Promise,
-            Word::Request => kind = Kind::Request,
-            Word::Nested => kind = Kind::Nested,
-            Word::TwoChannels => kind = Kind::TwoChannels,
-            word if of_receiver => receives.push(word)?,
-            word => sends.push(word)?,
+        if !asked.add(arg.as_str())? {
+            return Ok(ExitCode::FAILURE);
         }
     }
-    run(&rt, kind, sends, receives)?;
-    Ok(())
+    if !asked.is_whole() {
+        return Ok(ExitCode::FAILURE);
+    }
+    let Asked { kind, scripts, .. } = asked;
+    run(&rt, kind, scripts)?;
+    Ok(ExitCode::SUCCESS)
 }

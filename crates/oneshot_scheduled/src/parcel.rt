@@ -1,5 +1,5 @@
-//! The message of every channel: a number in a block of its own, with the question that it answers, and where the channel
-//! is nested the sender of another.
+//! The message of every channel: a number in a block of its own, with the question that it answers, and where the
+//! channel is nested the sender of another.
 
 ghost use Rattle.std.specs.Prelude.{⊤};
 

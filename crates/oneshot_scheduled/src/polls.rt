@@ -1,10 +1,8 @@
 //! The script of a future, and the tasks that poll it.
 
 use crate::parcel::Parcel;
-use crate::told::{
-    DROPPED, RECORD, RELEASE, TASKS, code_of_try, tell, tell_polled, tell_received, tell_whether,
-};
-use crate::words::Word;
+use crate::told::{DROPPED, TASKS, tell, tell_polled, tell_received, tell_whether, why_of_try};
+use crate::words::ReceiverWord;
 use futures::test::MockTask;
 use oneshot_channel::{AsyncReceiver, Promise};
 use std::alloc::AllocGlobal;
@@ -19,14 +17,12 @@ pub struct Tasks {
 }
 
 /// Makes the tasks, if a script has use for them and there is memory.
-pub fn tasks_of<R: Clock + RandomSource + AllocGlobal>(rt: &R, words: &Vec<Word>) -> Option<Tasks> {
-    if !words.iter().any(|word| *word == Word::Future) {
+pub fn tasks_of<R: RandomSource + AllocGlobal>(rt: &R, words: &Vec<ReceiverWord>) -> Option<Tasks> {
+    if !words.iter().any(|word| *word == ReceiverWord::Future) {
         return None;
     }
-    tell(rt, RECORD);
     let one = MockTask::new(rt);
     let two = MockTask::new(rt);
-    tell(rt, RELEASE);
     match (one, two) {
         (Ok(one), Ok(two)) => Some(Tasks { one, two }),
         _ => None,
@@ -56,13 +52,13 @@ impl Tasks {
 }
 
 /// Makes a call of the future, if the script has one.
-pub fn poll_one<R: Clock, Q: Drop, P: Promise<Parcel>>(
+pub fn call_future<R: Clock, Q: Drop, P: Promise<Parcel>>(
     rt: &R,
-    word: Word,
+    word: ReceiverWord,
     future: &mut Option<AsyncReceiver<Parcel, Q, P>>,
     tasks: &Option<Tasks>,
 ) {
-    if word == Word::Drop {
+    if word == ReceiverWord::Drop {
         if let Some(future) = future.take() {
             drop(future);
             tell(rt, DROPPED);
@@ -73,11 +69,19 @@ pub fn poll_one<R: Clock, Q: Drop, P: Promise<Parcel>>(
         return;
     };
     match word {
-        Word::Closed => tell_whether(rt, future.is_closed()),
-        Word::Full => tell_whether(rt, future.has_message()),
-        Word::Try => tell_received(rt, future.try_recv().map_err(code_of_try)),
-        Word::One => tell_polled(rt, tasks.one.poll(future)),
-        Word::Two => tell_polled(rt, tasks.two.poll(future)),
-        _ => {}
+        ReceiverWord::Closed => tell_whether(rt, future.is_closed()),
+        ReceiverWord::Full => tell_whether(rt, future.has_message()),
+        ReceiverWord::Try => tell_received(rt, future.try_recv().map_err(why_of_try)),
+        ReceiverWord::PollOne => tell_polled(rt, tasks.one.poll(future)),
+        ReceiverWord::PollTwo => tell_polled(rt, tasks.two.poll(future)),
+        // A future lacks these, and its drop is above.
+        ReceiverWord::Ref
+        | ReceiverWord::Recv
+        | ReceiverWord::Deadline(_)
+        | ReceiverWord::Timeout(_)
+        | ReceiverWord::Forever
+        | ReceiverWord::Raw
+        | ReceiverWord::Drop
+        | ReceiverWord::Future => {}
     }
 }

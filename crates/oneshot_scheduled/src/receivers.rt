@@ -1,13 +1,13 @@
-//! The receivers of each kind of channel. Each receive returns a parcel, or the code of its error.
+//! The receivers of each kind of channel. Each receive returns a parcel, or why there is none.
 
 use crate::parcel::Parcel;
-use crate::told::{code_of_received, code_of_timed, code_of_try};
+use crate::told::{Unreceived, why_of_received, why_of_timed, why_of_try};
 use oneshot_channel::reply::{Asked, Ticket};
 use oneshot_channel::{AsyncReceiver, Promise, Receiver};
 use std::sync::Wait;
 use std::time::{Clock, Duration, Instant};
 
-/// A receiver of some kind. `None` is told where the kind lacks the call.
+/// A receiver of some kind. Where the kind lacks a call, the call does nothing and returns `None`.
 pub trait Receives: Drop + Sized {
     /// The runtime of its receives that block.
     type Rt: Wait + Clock + Drop;
@@ -18,15 +18,15 @@ pub trait Receives: Drop + Sized {
 
     fn has_message(&self) -> Option<bool>;
 
-    fn try_recv(&mut self) -> Result<Parcel, u64>;
+    fn try_recv(&mut self) -> Result<Parcel, Unreceived>;
 
-    fn recv_ref(&mut self) -> Option<Result<Parcel, u64>>;
+    fn recv_ref(&mut self) -> Option<Result<Parcel, Unreceived>>;
 
-    fn recv_deadline(&mut self, deadline: Instant) -> Option<Result<Parcel, u64>>;
+    fn recv_deadline(&mut self, deadline: Instant) -> Option<Result<Parcel, Unreceived>>;
 
-    fn recv_timeout(&mut self, timeout: Duration) -> Result<Parcel, u64>;
+    fn recv_timeout(&mut self, timeout: Duration) -> Result<Parcel, Unreceived>;
 
-    fn recv(self) -> Result<Parcel, u64>;
+    fn recv(self) -> Result<Parcel, Unreceived>;
 
     fn into_future(self) -> AsyncReceiver<Parcel, Self::Rt, Self::About>;
     /// The receiver as a raw value, and back.
@@ -46,24 +46,24 @@ impl<R: Wait + Clock + Drop, P: Promise<Parcel>> Receives for Receiver<Parcel, R
         Some(self.has_message())
     }
 
-    fn try_recv(&mut self) -> Result<Parcel, u64> {
-        self.try_recv().map_err(code_of_try)
+    fn try_recv(&mut self) -> Result<Parcel, Unreceived> {
+        self.try_recv().map_err(why_of_try)
     }
 
-    fn recv_ref(&mut self) -> Option<Result<Parcel, u64>> {
-        Some(self.recv_ref().map_err(code_of_received))
+    fn recv_ref(&mut self) -> Option<Result<Parcel, Unreceived>> {
+        Some(self.recv_ref().map_err(why_of_received))
     }
 
-    fn recv_deadline(&mut self, deadline: Instant) -> Option<Result<Parcel, u64>> {
-        Some(self.recv_deadline(deadline).map_err(code_of_timed))
+    fn recv_deadline(&mut self, deadline: Instant) -> Option<Result<Parcel, Unreceived>> {
+        Some(self.recv_deadline(deadline).map_err(why_of_timed))
     }
 
-    fn recv_timeout(&mut self, timeout: Duration) -> Result<Parcel, u64> {
-        self.recv_timeout(timeout).map_err(code_of_timed)
+    fn recv_timeout(&mut self, timeout: Duration) -> Result<Parcel, Unreceived> {
+        self.recv_timeout(timeout).map_err(why_of_timed)
     }
 
-    fn recv(self) -> Result<Parcel, u64> {
-        self.recv().map_err(code_of_received)
+    fn recv(self) -> Result<Parcel, Unreceived> {
+        self.recv().map_err(why_of_received)
     }
 
     fn into_future(self) -> AsyncReceiver<Parcel, R, P> {
@@ -88,24 +88,24 @@ impl<R: Wait + Clock + Drop> Receives for Ticket<u64, Parcel, R> {
         None
     }
 
-    fn try_recv(&mut self) -> Result<Parcel, u64> {
-        self.try_take().map_err(code_of_try)
+    fn try_recv(&mut self) -> Result<Parcel, Unreceived> {
+        self.try_take().map_err(why_of_try)
     }
 
-    fn recv_ref(&mut self) -> Option<Result<Parcel, u64>> {
+    fn recv_ref(&mut self) -> Option<Result<Parcel, Unreceived>> {
         None
     }
 
-    fn recv_deadline(&mut self, _: Instant) -> Option<Result<Parcel, u64>> {
+    fn recv_deadline(&mut self, _: Instant) -> Option<Result<Parcel, Unreceived>> {
         None
     }
 
-    fn recv_timeout(&mut self, timeout: Duration) -> Result<Parcel, u64> {
-        self.wait_for(timeout).map_err(code_of_timed)
+    fn recv_timeout(&mut self, timeout: Duration) -> Result<Parcel, Unreceived> {
+        self.wait_for(timeout).map_err(why_of_timed)
     }
 
-    fn recv(self) -> Result<Parcel, u64> {
-        self.wait().map_err(code_of_received)
+    fn recv(self) -> Result<Parcel, Unreceived> {
+        self.wait().map_err(why_of_received)
     }
 
     fn into_future(self) -> AsyncReceiver<Parcel, R, Asked<u64>> {

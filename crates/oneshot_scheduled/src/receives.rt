@@ -1,16 +1,14 @@
 //! The receiver's script.
 
 use crate::parcel::Parcel;
-use crate::polls::{Tasks, poll_one, tasks_of};
+use crate::polls::{Tasks, call_future};
 use crate::receivers::Receives;
 use crate::told::{
-    BEGIN_RECEIVER, DEADLINE, DROPPED, END_RECEIVER, FUTURE, TIMEOUT, tell, tell_received,
-    tell_whether,
+    BEGIN_RECEIVER, DEADLINE, DROPPED, END_RECEIVER, FUTURE, TIMEOUT, Unreceived, tell,
+    tell_received, tell_whether,
 };
-use crate::words::Word;
+use crate::words::ReceiverWord;
 use oneshot_channel::AsyncReceiver;
-use std::alloc::AllocGlobal;
-use std::random::RandomSource;
 use std::time::{Clock, Duration, Instant};
 
 /// What the script has: the receiver, or the future that it became.
@@ -21,12 +19,11 @@ pub struct Receiving<E: Receives> {
 }
 
 /// Makes the calls of the receiver's script in a thread of its own.
-pub fn receive_all<R, E>(rt: &R, words: Vec<Word>, receiver: E)
+pub fn receive_all<R, E>(rt: &R, words: Vec<ReceiverWord>, receiver: E, tasks: Option<Tasks>)
 where
-    R: Clock + RandomSource + AllocGlobal,
+    R: Clock,
     E: Receives,
 {
-    let tasks = tasks_of(rt, &words);
     tell(rt, BEGIN_RECEIVER);
     let receiving = receive_each(rt, &words, receiver, &tasks);
     tell(rt, END_RECEIVER);
@@ -39,12 +36,12 @@ where
 /// Makes the calls of the receiver's script, and tells what each returned. Returns what is left.
 pub fn receive_each<R, E>(
     rt: &R,
-    words: &Vec<Word>,
+    words: &Vec<ReceiverWord>,
     receiver: E,
     tasks: &Option<Tasks>,
 ) -> Receiving<E>
 where
-    R: Clock + RandomSource + AllocGlobal,
+    R: Clock,
     E: Receives,
 {
     let mut receiving = Receiving {
@@ -55,7 +52,7 @@ where
         if receiving.receiver.is_some() {
             receiving.make(rt, *word);
         } else {
-            poll_one(rt, *word, &mut receiving.future, tasks);
+            call_future(rt, *word, &mut receiving.future, tasks);
         }
     }
     receiving
@@ -63,58 +60,72 @@ where
 
 impl<E: Receives> Receiving<E> {
     /// Makes a call of the receiver.
-    fn make<R: Clock>(&mut self, rt: &R, word: Word) {
+    fn make<R: Clock>(&mut self, rt: &R, word: ReceiverWord) {
         match word {
-            Word::Raw => {
+            ReceiverWord::Raw => {
                 if let Some(receiver) = self.receiver.take() {
                     self.receiver = Some(receiver.there_and_back());
                 }
             }
-            Word::Recv => {
+            ReceiverWord::Recv => {
                 if let Some(receiver) = self.receiver.take() {
                     tell_received(rt, receiver.recv());
                 }
             }
-            Word::Future => {
+            ReceiverWord::Future => {
                 if let Some(receiver) = self.receiver.take() {
                     self.future = Some(receiver.into_future());
                     tell(rt, FUTURE);
                 }
             }
-            Word::Drop => {
+            ReceiverWord::Drop => {
                 self.receiver = None;
                 tell(rt, DROPPED);
             }
-            _ => {
+            ReceiverWord::Closed
+            | ReceiverWord::Full
+            | ReceiverWord::Try
+            | ReceiverWord::Ref
+            | ReceiverWord::Deadline(_)
+            | ReceiverWord::Timeout(_)
+            | ReceiverWord::Forever => {
                 if let Some(receiver) = self.receiver.as_mut() {
                     receive_one(rt, word, receiver);
                 }
             }
+            // Only a future is polled.
+            ReceiverWord::PollOne | ReceiverWord::PollTwo => {}
         }
     }
 }
 
 /// Makes a call that keeps the receiver.
-fn receive_one<R: Clock, E: Receives>(rt: &R, word: Word, receiver: &mut E) {
+fn receive_one<R: Clock, E: Receives>(rt: &R, word: ReceiverWord, receiver: &mut E) {
     match word {
-        Word::Closed => tell_whether(rt, receiver.is_closed()),
-        Word::Full => {
+        ReceiverWord::Closed => tell_whether(rt, receiver.is_closed()),
+        ReceiverWord::Full => {
             if let Some(yes) = receiver.has_message() {
                 tell_whether(rt, yes);
             }
         }
-        Word::Try => tell_received(rt, receiver.try_recv()),
-        Word::Ref => tell_some(rt, receiver.recv_ref()),
-        Word::Deadline(millis) => receive_until(rt, millis, receiver),
-        Word::Timeout(millis) => {
+        ReceiverWord::Try => tell_received(rt, receiver.try_recv()),
+        ReceiverWord::Ref => tell_some(rt, receiver.recv_ref()),
+        ReceiverWord::Deadline(millis) => receive_until(rt, millis, receiver),
+        ReceiverWord::Timeout(millis) => {
             tell(rt, TIMEOUT);
             tell_received(rt, receiver.recv_timeout(Duration::from_millis(millis)));
         }
-        Word::Forever => {
+        ReceiverWord::Forever => {
             tell(rt, TIMEOUT);
             tell_received(rt, receiver.recv_timeout(Duration::from_secs(u64::MAX)));
         }
-        _ => {}
+        // These do not keep the receiver, or only a future has them.
+        ReceiverWord::Recv
+        | ReceiverWord::Raw
+        | ReceiverWord::Drop
+        | ReceiverWord::Future
+        | ReceiverWord::PollOne
+        | ReceiverWord::PollTwo => {}
     }
 }
 
@@ -130,7 +141,7 @@ fn receive_until<R: Clock, E: Receives>(rt: &R, millis: u64, receiver: &mut E) {
     }
 }
 
-fn tell_some<R: Clock>(rt: &R, received: Option<Result<Parcel, u64>>) {
+fn tell_some<R: Clock>(rt: &R, received: Option<Result<Parcel, Unreceived>>) {
     if let Some(received) = received {
         tell_received(rt, received);
     }

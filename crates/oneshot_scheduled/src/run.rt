@@ -1,13 +1,14 @@
 //! Makes a channel of some kind, and runs a script of each end in a thread.
 
 use crate::parcel::{Any, Parcel, QUESTION};
+use crate::polls::tasks_of;
 use crate::receivers::Receives;
 use crate::receives::receive_all;
 use crate::senders::Sends;
 use crate::sends::send_all;
 use crate::told::{DONE, OPENED, OPENING, READY, RECORD, RELEASE, tell};
 use crate::two::run_two;
-use crate::words::Word;
+use crate::words::{ReceiverWord, SenderWord};
 use oneshot_channel::reply::request;
 use oneshot_channel::{channel, channel_for};
 use std::alloc::{AllocError, AllocGlobal};
@@ -36,8 +37,8 @@ pub const NUMBER: u64 = 7;
 /// Both scripts.
 #[derive(Drop)]
 pub struct Scripts {
-    pub sends: Vec<Word>,
-    pub receives: Vec<Word>,
+    pub sends: Vec<SenderWord>,
+    pub receives: Vec<ReceiverWord>,
 }
 
 /// Makes a channel of this kind, and runs both scripts, each in a thread.
@@ -46,10 +47,8 @@ pub struct Scripts {
 pub fn run<R: Threads + Wait + Clock + RandomSource + AllocGlobal + Sync>(
     rt: &R,
     kind: Kind,
-    sends: Vec<Word>,
-    receives: Vec<Word>,
+    scripts: Scripts,
 ) -> Result<(), AllocError> {
-    let scripts = Scripts { sends, receives };
     tell(rt, RECORD);
     let content = Box::new(rt.alloc(), NUMBER)?;
     tell(rt, OPENING);
@@ -104,15 +103,16 @@ where
     E: Receives + Send,
 {
     tell(rt, OPENED);
+    let Scripts { sends, receives } = scripts;
+    let tasks = tasks_of(rt, &receives);
     tell(rt, RELEASE);
     tell(rt, READY);
-    let Scripts { sends, receives } = scripts;
     // What the sender's script leaves is dropped here, when no end runs any more.
     let mut left = None;
     join(
         rt,
         || left = Some(send_all(rt, sends, sender, parcel)),
-        || receive_all(rt, receives, receiver),
+        || receive_all(rt, receives, receiver, tasks),
     );
     drop(left);
 }

@@ -3,9 +3,9 @@
 use crate::parcel::Parcel;
 use crate::senders::{Refuses, Sends, Sent};
 use crate::told::{
-    BACK, BEGIN_SENDER, DROPPED, END_SENDER, REFUSED, SENT, tell, tell_parcel, tell_whether,
+    BEGIN_SENDER, DROPPED, END_SENDER, GOT, REFUSED, SENT, tell, tell_parcel, tell_whether,
 };
-use crate::words::Word;
+use crate::words::SenderWord;
 use std::time::Clock;
 
 /// What the script has, and what it leaves.
@@ -20,7 +20,7 @@ pub struct Sending<S: Sends> {
 /// runs any more.
 pub fn send_all<R: Clock, S: Sends>(
     rt: &R,
-    words: Vec<Word>,
+    words: Vec<SenderWord>,
     sender: S,
     parcel: Parcel,
 ) -> Sending<S> {
@@ -33,7 +33,7 @@ pub fn send_all<R: Clock, S: Sends>(
 /// Makes the calls of the sender's script, and tells what each returned. Returns what is left.
 pub fn send_each<R: Clock, S: Sends>(
     rt: &R,
-    words: &Vec<Word>,
+    words: &Vec<SenderWord>,
     sender: S,
     parcel: Parcel,
 ) -> Sending<S> {
@@ -49,31 +49,30 @@ pub fn send_each<R: Clock, S: Sends>(
 }
 
 impl<S: Sends> Sending<S> {
-    fn make<R: Clock>(&mut self, rt: &R, word: Word) {
+    fn make<R: Clock>(&mut self, rt: &R, word: SenderWord) {
         match word {
-            Word::Closed => {
+            SenderWord::Closed => {
                 if let Some(sender) = self.sender.as_ref() {
                     tell_whether(rt, sender.is_closed());
                 }
             }
-            Word::Raw => {
+            SenderWord::Raw => {
                 if let Some(sender) = self.sender.take() {
                     self.sender = Some(sender.there_and_back());
                 }
             }
-            Word::Send => self.send(rt),
-            Word::Inner => {
+            SenderWord::Send => self.send(rt),
+            SenderWord::Inner => {
                 if let Some(error) = self.error.as_ref() {
-                    tell(rt, BACK.wrapping_add(error.number()));
+                    tell(rt, GOT.wrapping_add(error.number()));
                 }
             }
-            Word::Into => {
+            SenderWord::Into => {
                 if let Some(error) = self.error.take() {
-                    tell_parcel(rt, BACK, error.into_parcel());
+                    tell_parcel(rt, error.into_parcel());
                 }
             }
-            Word::Drop => self.drop_one(rt),
-            _ => {}
+            SenderWord::Drop => self.drop_one(rt),
         }
     }
 

@@ -66,14 +66,45 @@ pub const NO: u64 = 103;
 /// An end, a future or an error was dropped.
 pub const DROPPED: u64 = 104;
 
+/// A `try_recv` found no message yet.
+pub const EMPTY: u64 = 105;
+
+/// A receive returned its disconnected error.
+pub const DISCONNECTED: u64 = 106;
+
+/// The deadline of a receive is over.
+pub const TIMED_OUT: u64 = 107;
+
+/// A poll returned `Pending`.
+pub const PENDING: u64 = 109;
+
 /// The receiver became a future.
 pub const FUTURE: u64 = 111;
 
-/// Added to the message that an error showed or gave back.
-pub const BACK: u64 = 3000;
+/// Added to the message that a call returned.
+pub const GOT: u64 = 1000;
 
 /// The first of the codes of tasks: of each two codes, the second if the task was woken.
 pub const TASKS: u64 = 4000;
+
+/// Why a receive returned no parcel.
+#[derive(Clone, Copy, Debug, PartialEq, Eq)]
+pub enum Unreceived {
+    Empty,
+    Disconnected,
+    TimedOut,
+}
+
+impl Unreceived {
+    /// The code by which it is told.
+    pub fn code(self) -> u64 {
+        match self {
+            Unreceived::Empty => EMPTY,
+            Unreceived::Disconnected => DISCONNECTED,
+            Unreceived::TimedOut => TIMED_OUT,
+        }
+    }
+}
 
 /// Tells the scheduler `code`.
 pub fn tell<R: Clock>(rt: &R, code: u64) {
@@ -86,45 +117,45 @@ pub fn tell_whether<R: Clock>(rt: &R, yes: bool) {
 }
 
 /// Tells what a receive returned, and drops its parcel.
-pub fn tell_received<R: Clock>(rt: &R, received: Result<Parcel, u64>) {
+pub fn tell_received<R: Clock>(rt: &R, received: Result<Parcel, Unreceived>) {
     match received {
-        Ok(parcel) => tell_parcel(rt, 1000, parcel),
-        Err(code) => tell(rt, code),
+        Ok(parcel) => tell_parcel(rt, parcel),
+        Err(why) => tell(rt, why.code()),
     }
 }
 
-/// Tells the number of a parcel, added to `base`, and drops the parcel.
-pub fn tell_parcel<R: Clock>(rt: &R, base: u64, parcel: Parcel) {
-    tell(rt, base.wrapping_add(parcel.number()));
+/// Tells the number of a parcel, and drops the parcel.
+pub fn tell_parcel<R: Clock>(rt: &R, parcel: Parcel) {
+    tell(rt, GOT.wrapping_add(parcel.number()));
     drop(parcel);
 }
 
 /// Tells what a poll returned, and drops its parcel.
 pub fn tell_polled<R: Clock>(rt: &R, polled: Poll<Result<Parcel, RecvError>>) {
     match polled {
-        Poll::Pending => tell(rt, 109),
-        Poll::Ready(Ok(parcel)) => tell_parcel(rt, 2000, parcel),
-        Poll::Ready(Err(RecvError)) => tell(rt, 110),
+        Poll::Pending => tell(rt, PENDING),
+        Poll::Ready(Ok(parcel)) => tell_parcel(rt, parcel),
+        Poll::Ready(Err(RecvError)) => tell(rt, DISCONNECTED),
     }
 }
 
-/// The code of an error of `try_recv`.
-pub fn code_of_try(error: TryRecvError) -> u64 {
+/// What an error of `try_recv` says.
+pub fn why_of_try(error: TryRecvError) -> Unreceived {
     match error {
-        TryRecvError::Empty => 105,
-        TryRecvError::Disconnected => 106,
+        TryRecvError::Empty => Unreceived::Empty,
+        TryRecvError::Disconnected => Unreceived::Disconnected,
     }
 }
 
-/// The code of an error of `recv_timeout` or `recv_deadline`.
-pub fn code_of_timed(error: RecvTimeoutError) -> u64 {
+/// What an error of `recv_timeout` or `recv_deadline` says.
+pub fn why_of_timed(error: RecvTimeoutError) -> Unreceived {
     match error {
-        RecvTimeoutError::Timeout => 107,
-        RecvTimeoutError::Disconnected => 106,
+        RecvTimeoutError::Timeout => Unreceived::TimedOut,
+        RecvTimeoutError::Disconnected => Unreceived::Disconnected,
     }
 }
 
-/// The code of an error of `recv` or `recv_ref`.
-pub fn code_of_received(_: RecvError) -> u64 {
-    108
+/// What an error of `recv` or `recv_ref` says.
+pub fn why_of_received(_: RecvError) -> Unreceived {
+    Unreceived::Disconnected
 }

@@ -1,20 +1,20 @@
-//! The words of the arguments.
+//! The words of both scripts.
 
-/// A kind of channel, the name of an end, or one call, or what comes before one.
+/// A call of the sender or of a refused message's error, or what comes before one.
 #[derive(Clone, Copy, Debug, PartialEq, Eq)]
-pub enum Word {
-    Sender,
-    Receiver,
-    Promise,
-    Request,
-    Nested,
-    TwoChannels,
+pub enum SenderWord {
     Closed,
     Send,
     Drop,
     Inner,
     Into,
     Raw,
+}
+
+/// A call of the receiver or of its future, or what comes before one.
+#[derive(Clone, Copy, Debug, PartialEq, Eq)]
+pub enum ReceiverWord {
+    Closed,
     Full,
     Try,
     Ref,
@@ -23,41 +23,50 @@ pub enum Word {
     Deadline(u64),
     Timeout(u64),
     Forever,
+    Raw,
+    Drop,
     Future,
-    One,
-    Two,
-    Unknown,
+    /// A poll by the first task.
+    PollOne,
+    /// A poll by the second task.
+    PollTwo,
 }
 
-/// Reads a word; `Unknown` if there is no such word.
-pub fn word_of(text: &str) -> Word {
-    match text {
-        "S" => Word::Sender,
-        "R" => Word::Receiver,
-        "promise" => Word::Promise,
-        "request" => Word::Request,
-        "nested" => Word::Nested,
-        "two" => Word::TwoChannels,
-        "closed" => Word::Closed,
-        "send" => Word::Send,
-        "drop" => Word::Drop,
-        "inner" => Word::Inner,
-        "into" => Word::Into,
-        "raw" => Word::Raw,
-        "full" => Word::Full,
-        "try" => Word::Try,
-        "ref" => Word::Ref,
-        "recv" => Word::Recv,
-        "deadline" => Word::Deadline(50),
-        "fardeadline" => Word::Deadline(1_000_000),
-        "zerodeadline" => Word::Deadline(0),
-        "timeout" => Word::Timeout(50),
-        "fartimeout" => Word::Timeout(1_000_000),
-        "zerotimeout" => Word::Timeout(0),
-        "forever" => Word::Forever,
-        "future" => Word::Future,
-        "poll1" => Word::One,
-        "poll2" => Word::Two,
-        _ => Word::Unknown,
-    }
+/// Reads a word of the sender's script; `None` if there is no such word.
+pub fn sender_word_of(text: &str) -> Option<SenderWord> {
+    let word = match text {
+        "closed" => SenderWord::Closed,
+        "send" => SenderWord::Send,
+        "drop" => SenderWord::Drop,
+        "inner" => SenderWord::Inner,
+        "into" => SenderWord::Into,
+        "raw" => SenderWord::Raw,
+        _ => return None,
+    };
+    Some(word)
+}
+
+/// Reads a word of the receiver's script; `None` if there is no such word.
+pub fn receiver_word_of(text: &str) -> Option<ReceiverWord> {
+    let word = match text {
+        "closed" => ReceiverWord::Closed,
+        "full" => ReceiverWord::Full,
+        "try" => ReceiverWord::Try,
+        "ref" => ReceiverWord::Ref,
+        "recv" => ReceiverWord::Recv,
+        "deadline" => ReceiverWord::Deadline(50),
+        "fardeadline" => ReceiverWord::Deadline(1_000_000),
+        "zerodeadline" => ReceiverWord::Deadline(0),
+        "timeout" => ReceiverWord::Timeout(50),
+        "fartimeout" => ReceiverWord::Timeout(1_000_000),
+        "zerotimeout" => ReceiverWord::Timeout(0),
+        "forever" => ReceiverWord::Forever,
+        "raw" => ReceiverWord::Raw,
+        "drop" => ReceiverWord::Drop,
+        "future" => ReceiverWord::Future,
+        "poll1" => ReceiverWord::PollOne,
+        "poll2" => ReceiverWord::PollTwo,
+        _ => return None,
+    };
+    Some(word)
 }

@@ -1,6 +1,7 @@
 //! Reads the runs of pairs of scripts, holds each against the model, and prints what it counted.
 
 use crate::beside::{Beside, Difference};
+use crate::differs::Differs;
 use crate::met::{Missed, find_missed};
 use crate::scripts::Scripts;
 use oneshot_replay::{Move, Replayer};
@@ -46,9 +47,10 @@ impl Pair {
     }
 }
 
-/// Reads a pair of scripts in two lines, as in an input of `oneshot-run`, and then a line a run: `X`, its choices, and its
-/// words. Before the scripts may stand a line `two`, if each thread has an end of two channels, and a line `refused`, if
-/// copies of wakers may be refused. Returns whether no run differs.
+/// Reads a pair of scripts in two lines, as in an input of `oneshot-run`, and then a line a run: `X`, its choices, and
+/// its words. Before the scripts may stand a line `two`, if each thread has an end of two channels, and a line
+/// `refused`, if copies of wakers may be refused. Returns whether no run differs. Each differs from scripts that
+/// cannot be read.
 pub fn audit<R: BufRead, W: Write>(
     alloc: Global,
     input: &mut R,
@@ -87,23 +89,35 @@ impl Pair {
         let (choices, words) = run.split_once(' ').unwrap_or((run, ""));
         let mut beside = match Beside::begin(alloc, &self.scripts) {
             Ok(beside) => beside,
-            Err(why) => return writeln!(output, "the scripts: {why}"),
+            Err(why) => {
+                self.count_difference(alloc, &why)?;
+                return writeln!(output, "the scripts: {why}");
+            }
         };
-        if let Err(difference) = beside.follow(words) {
-            self.differ = self.differ.saturating_add(1);
-            let is_new = self.reasons.insert(difference.why.to_string(alloc)?)?;
+        let followed = beside.follow(words);
+        if let Err(difference) = &followed {
+            let is_new = self.count_difference(alloc, &difference.why)?;
             if is_new || shown == Shown::Traces {
-                write_difference(output, choices, words, &difference)?;
+                write_difference(output, choices, words, difference)?;
                 write_all_moves(alloc, output, &beside)?;
             }
         }
         if shown == Shown::Traces {
             return self.write_traces(alloc, output, &beside);
         }
-        self.count(alloc, &beside)?;
+        if followed.is_ok() {
+            self.count(alloc, &beside)?;
+        }
         Ok(())
     }
 
+    /// Counts a run that differs. Returns whether none before it differs for the same reason.
+    fn count_difference(&mut self, alloc: Global, why: &Differs) -> io::Result<bool> {
+        self.differ = self.differ.saturating_add(1);
+        Ok(self.reasons.insert(why.to_string(alloc)?)?)
+    }
+
+    /// Counts what a run did that does not differ.
     fn count(&mut self, alloc: Global, beside: &Beside) -> Result<(), AllocError> {
         if beside.is_stuck() {
             self.stuck = self.stuck.saturating_add(1);
@@ -172,7 +186,10 @@ fn write_moves<W: Write>(output: &mut W, moves: &[Move]) -> io::Result<()> {
             Move::Sender => 's',
             Move::Receiver { over: true, .. } => 'o',
             Move::Receiver { refuse: true, .. } => 'n',
-            Move::Receiver { .. } => 'r',
+            Move::Receiver {
+                over: false,
+                refuse: false,
+            } => 'r',
         };
         write!(output, "{letter}")?;
     }

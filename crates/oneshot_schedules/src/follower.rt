@@ -1,7 +1,7 @@
 //! Moves a run of the model by what the ends of a compiled channel did, and compares.
 
 use crate::differs::Differs;
-use crate::event::{Event, Operation};
+use crate::event::{Event, Kind, Operation};
 use crate::model::{Given, MOST_SILENT, Model};
 use crate::reply::{reply_of, task_of};
 use oneshot_machine::machine::{End, Reply, Step};
@@ -36,6 +36,8 @@ pub(crate) struct Follower {
     receiver: Side,
     block_freed: bool,
     has_acted: bool,
+    /// Whether the sender's drop has loaded the word for its next exchange.
+    has_loaded: bool,
     /// Whether the receiver was told that there is no copy, and the model was not.
     is_refused: bool,
     pub(crate) is_stuck: bool,
@@ -49,6 +51,7 @@ impl Follower {
             receiver: Side::new(),
             block_freed: false,
             has_acted: false,
+            has_loaded: false,
             is_refused: false,
             is_stuck: false,
         }
@@ -82,7 +85,8 @@ impl Follower {
         self.advance(end, given)
     }
 
-    /// Makes the steps of an end that nobody tells, and returns the next that is told. The call has to go on until then.
+    /// Makes the steps of an end that nobody tells, and returns the next that is told. The call has to go on until
+    /// then.
     fn reach(&mut self, end: End) -> Result<Step, Differs> {
         for _ in 0..MOST_SILENT {
             if let Some(reply) = self.side(end).reply {
@@ -134,7 +138,7 @@ impl Follower {
 
     fn operate(&mut self, told: Operation) -> Result<(), Differs> {
         if told.end == End::Sender && self.model.drops_sender() && told.tries_to_flip() {
-            return Ok(());
+            return self.try_to_flip(told);
         }
         let step = self.reach(told.end)?;
         let Step::Word(op) = step else {
@@ -149,6 +153,20 @@ impl Follower {
         }
         self.has_acted = self.has_acted || matches!(op, Op::Add | Op::Xor);
         self.settle_sender()
+    }
+
+    /// A flip is a loop of exchanges until one succeeds. Before each there may be one load.
+    fn try_to_flip(&mut self, told: Operation) -> Result<(), Differs> {
+        let word = self.model.word();
+        if word != Some(told.found) || word != Some(told.left) {
+            return Err(Differs::OtherWord(word, word));
+        }
+        let is_load = told.kind == Kind::Load;
+        if is_load && self.has_loaded {
+            return Err(Differs::OtherStep(Step::Word(Op::Xor)));
+        }
+        self.has_loaded = is_load;
+        Ok(())
     }
 
     /// A park until a deadline may read the clock too.

@@ -33,6 +33,23 @@ pub(crate) struct Missed {
     pub(crate) is_whole: bool,
 }
 
+/// A run of the model by some choices.
+#[derive(Drop)]
+enum Run {
+    Ended(Model),
+    /// A choice stands for no step of its own.
+    Refused,
+    /// It has more choices or parks than are gone through.
+    Cut,
+}
+
+/// What a choice did.
+enum Went {
+    On,
+    Nowhere,
+    TooFar,
+}
+
 /// Goes through the orders of the model, and counts those that are not among `met`.
 pub(crate) fn find_missed(
     alloc: Global,
@@ -52,14 +69,19 @@ pub(crate) fn find_missed(
     } else {
         CHOICES.len() - 1
     };
+    let mut is_cut = false;
     for _ in 0..MOST_RUNS {
-        if let Some(run) = make_run(alloc, scripts, &mut choices)? {
-            if seen.insert(run.digest())? {
-                told.count(alloc, &run, met)?;
+        match make_run(alloc, scripts, &mut choices)? {
+            Run::Ended(run) => {
+                if seen.insert(run.digest())? {
+                    told.count(alloc, &run, met)?;
+                }
             }
+            Run::Refused => {}
+            Run::Cut => is_cut = true,
         }
         if !next_choices(&mut choices, kinds)? {
-            told.is_whole = true;
+            told.is_whole = !is_cut;
             return Ok(told);
         }
     }
@@ -80,17 +102,12 @@ impl Missed {
     }
 }
 
-/// Makes a run by these choices, and where they end by the first ones; `None` if a choice cannot be made, and then
-/// that is the last.
-fn make_run(
-    alloc: Global,
-    scripts: &Scripts,
-    choices: &mut Vec<usize>,
-) -> Result<Option<Model>, Differs> {
+/// Makes a run by these choices, and where they end by the first ones. The last is the one that ends the run early.
+fn make_run(alloc: Global, scripts: &Scripts, choices: &mut Vec<usize>) -> Result<Run, Differs> {
     let mut run = scripts.begin(alloc)?;
     for at in 0..MOST_CHOICES {
         if !run.has_call(End::Sender) && !run.has_call(End::Receiver) {
-            return Ok(Some(run));
+            return Ok(Run::Ended(run));
         }
         let chosen = match choices.get(at) {
             Some(chosen) => *chosen,
@@ -99,34 +116,38 @@ fn make_run(
                 0
             }
         };
-        if !go(&mut run, chosen)? {
-            return Ok(None);
+        match go(&mut run, chosen)? {
+            Went::On => {}
+            Went::Nowhere => return Ok(Run::Refused),
+            Went::TooFar => return Ok(Run::Cut),
         }
     }
-    Ok(None)
+    Ok(Run::Cut)
 }
 
-/// Makes the steps that a choice stands for, up to one that is told; `false` if it stands for none of its own.
-fn go(run: &mut Model, chosen: usize) -> Result<bool, Differs> {
+/// Makes the steps that a choice stands for, up to one that is told.
+fn go(run: &mut Model, chosen: usize) -> Result<Went, Differs> {
     let Some((end, given)) = CHOICES.get(chosen) else {
-        return Ok(false);
+        return Ok(Went::Nowhere);
     };
     if !run.has_call(*end) {
-        return Ok(false);
+        return Ok(Went::Nowhere);
     }
     let mut is_own = *given == Given::Usual;
     for _ in 0..MOST_SILENT {
         let Some(step) = run.next_step(*end) else {
-            return Ok(is_own);
+            return Ok(if is_own { Went::On } else { Went::Nowhere });
         };
         let asks = asks_for(run, step, *given);
         is_own = is_own || asks;
         let gets = if asks { *given } else { Given::Usual };
         if is_told(step) {
-            if is_own {
-                run.advance(*end, gets)?;
+            if !is_own {
+                return Ok(Went::Nowhere);
             }
-            return Ok(is_own && run.parks() <= MOST_PARKS);
+            run.advance(*end, gets)?;
+            let is_far = run.parks() > MOST_PARKS;
+            return Ok(if is_far { Went::TooFar } else { Went::On });
         }
         run.advance(*end, gets)?;
     }

@@ -13,6 +13,9 @@ const MOST_MOVES: usize = 4096;
 
 pub(crate) const MOST_SILENT: usize = 16;
 
+/// The word of a new channel.
+const EMPTY: u8 = 3;
+
 /// What the receiver's next step gets.
 #[derive(Clone, Copy, Debug, Eq, PartialEq)]
 pub(crate) enum Given {
@@ -34,6 +37,8 @@ pub(crate) struct Model {
     message: u64,
     sender_at: Option<SenderPos>,
     receiver_at: Option<ReceiverPos>,
+    /// The word; `None` once the block is freed.
+    word: Option<u8>,
     parks: usize,
     operations: usize,
 }
@@ -55,6 +60,7 @@ impl Model {
             message,
             sender_at: None,
             receiver_at: None,
+            word: Some(EMPTY),
             parks: 0,
             operations: 0,
         })
@@ -74,6 +80,11 @@ impl Model {
 
     pub(crate) fn message(&self) -> u64 {
         self.message
+    }
+
+    /// The word; `None` once the block is freed.
+    pub(crate) fn word(&self) -> Option<u8> {
+        self.word
     }
 
     /// How often the receiver has parked.
@@ -164,6 +175,7 @@ impl Model {
 
     /// Notes what a step did, and where it leads.
     fn note(&mut self, made: &Made) -> Result<(), Differs> {
+        self.word = made.after;
         self.order.note(made)?;
         self.tasks.note(made)?;
         match made.step {

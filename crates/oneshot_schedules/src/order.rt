@@ -1,10 +1,13 @@
-//! The order of a run, by which runs are compared: what each operation found, each reading of a clock and each reply, of
-//! the one end and then of the other. What a call repeats while it waits counts once.
+//! The order of a run, by which runs are compared: what each operation found, each reading of a clock and each reply,
+//! of the one end and then of the other. What a call repeats while it waits counts once.
 
-use oneshot_machine::machine::{End, Reply, Seen, Step};
+use oneshot_machine::machine::{End, Seen, Step};
 use oneshot_machine::states::Op;
 use oneshot_replay::Made;
 use std::alloc::{AllocError, Global};
+
+/// Added to a reply's place among the replies.
+const FIRST_REPLY: u64 = 1000;
 
 /// What one end did, as numbers, and where those of its call under way begin.
 #[derive(Drop)]
@@ -40,7 +43,7 @@ impl Steps {
             }
         }
         if let Some(reply) = made.reply {
-            self.numbers.push(number_of_reply(reply))?;
+            self.numbers.push(FIRST_REPLY.wrapping_add(reply as u64))?;
             self.call = self.numbers.len();
         }
         Ok(())
@@ -63,7 +66,8 @@ impl Order {
         }
     }
 
-    /// The 64-bit FNV-1a digest of both ends' numbers, by which orders are told apart.
+    /// A digest of both ends' numbers, by which orders are told apart: it mixes each number in at once, with the constants
+    /// of FNV-1a.
     pub(crate) fn digest(&self) -> u64 {
         let mut state = 0xcbf2_9ce4_8422_2325_u64;
         for steps in [&self.sender, &self.receiver] {
@@ -90,28 +94,23 @@ fn number_of(step: Step, seen: Seen) -> Option<u64> {
         Step::Word(Op::Add) => 40,
         Step::Word(Op::Xor) => 50,
         Step::Clock => 60,
-        _ => return None,
+        Step::WriteMessage
+        | Step::TakeMessage
+        | Step::DropMessage
+        | Step::WriteWaker
+        | Step::TakeWaker
+        | Step::Withdraw
+        | Step::Park
+        | Step::Copy
+        | Step::Wake
+        | Step::WakeOwn
+        | Step::Free
+        | Step::Plain => return None,
     };
     let found = match seen {
         Seen::Word(word) => u64::from(word),
         Seen::Over(over) => u64::from(over),
-        _ => 9,
+        Seen::Done | Seen::Refused(_) | Seen::Token(_) => 9,
     };
     Some(kind + found)
-}
-
-fn number_of_reply(reply: Reply) -> u64 {
-    match reply {
-        Reply::Sent => 1000,
-        Reply::Refused => 1001,
-        Reply::Yes => 1002,
-        Reply::No => 1003,
-        Reply::Message => 1004,
-        Reply::Empty => 1005,
-        Reply::Timeout => 1006,
-        Reply::Disconnected => 1007,
-        Reply::Pending => 1008,
-        Reply::Future => 1009,
-        Reply::Done => 1010,
-    }
 }

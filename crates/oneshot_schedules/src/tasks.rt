@@ -5,7 +5,7 @@ use oneshot_replay::{AsyncCall, Made, ReceiverLast, WakerName, WakerPlace};
 use std::alloc::{AllocError, Global};
 
 /// The tasks that a program under the scheduler has.
-const TASKS: [u64; 2] = [1, 2];
+const NUMBERS: [u64; 2] = [1, 2];
 
 /// The tasks that are woken, and those of the polls to come, the next one last.
 #[derive(Drop)]
@@ -26,7 +26,7 @@ impl Tasks {
             }
         }
         Ok(Tasks {
-            woken: Vec::from_slice(alloc, &TASKS)?,
+            woken: Vec::from_slice(alloc, &NUMBERS)?,
             polls,
         })
     }

@@ -1,5 +1,5 @@
-// Accesses of blocks. Each faults, since a block's pages have no access. At a shared word the end first waits for its turn;
-// then the access is made, by one instruction alone, and the pages are closed again.
+// Accesses of blocks. Each faults, since a block's pages have no access. At a shared word the end first waits for its
+// turn; then the access is made, by one instruction alone, and the pages are closed again.
 #include "schedules.h"
 #include <fcntl.h>
 #include <signal.h>
@@ -11,7 +11,7 @@ enum { MOST_OPEN = 16, TRAP_FLAG = 0x100, WRITE_FAULT = 2 };
 
 // The instruction that is stepped, and the blocks that it opened.
 static __thread struct {
-    int runs, block, open_count, opened[MOST_OPEN];
+    int runs, block, size, open_count, opened[MOST_OPEN];
     const struct shared_word *word;
     uintptr_t address;
     uint64_t before;
@@ -82,7 +82,8 @@ static int read_closed(uintptr_t address, uint64_t *value, int size) {
     return raw_call(SYS_pread64, memory, (long)value, size, address, 0, 0) == size;
 }
 
-// A plain load, `mov r, m` or `movzx r32, m8`, is done here: /proc/self/mem needs no access, so nothing has to be opened.
+// A plain load, `mov r, m` or `movzx r32, m8`, is done here: /proc/self/mem needs no access, so nothing has to be
+// opened.
 static int load_here(ucontext_t *context, uintptr_t address) {
     const uint8_t *code = (uint8_t *)context->uc_mcontext.gregs[REG_RIP];
     int extension = (*code & 0xF0) == 0x40 ? *code++ : 0, is_byte = code[0] == 0x0F && code[1] == 0xB6;
@@ -107,7 +108,7 @@ static int load_here(ucontext_t *context, uintptr_t address) {
 
 static void stop_at_freed(int block, uintptr_t address) {
     if (blocks[block].freed) {
-        fault("freed:%c+%zu:%c", blocks[block].label, (size_t)(address - blocks[block].address), "SRM"[self]);
+        fault("freed:%c+%zu:%c", blocks[block].label, (size_t)(address - blocks[block].address), "SRT"[self]);
         end_run();
     }
 }
@@ -115,19 +116,30 @@ static void stop_at_freed(int block, uintptr_t address) {
 // Waits for the turn where the access is a choice of the scheduler, and orders it.
 static void schedule_access(int block, uintptr_t address, char kind, int size, int writes) {
     const struct shared_word *word = word_at(address);
-    int is_task = blocks[block].label == OF_TASKS, place = place_at(address);
+    int is_task = blocks[block].label == OF_TASKS, is_locked = strchr("eadoux", kind) != NULL;
     size_t offset = address - blocks[block].address;
-    if (word != NULL || (is_task && settings.queues && strchr("eadoux", kind) != NULL)) {
-        reach(self, place, word == NULL || writes);
+    if (word != NULL || (is_task && settings.queues && is_locked)) {
+        reach(self, place_at(address), word == NULL || writes);
         stop_at_freed(block, address);
     }
-    if (word == NULL && !is_task) {
-        order_plain(self, block, offset, size, writes);
-        return;
+    int is_atomic = word != NULL || (is_task && is_locked);
+    // A load of what was written with a lock is an atomic one.
+    if (is_task && !is_locked) {
+        order_atomic(self, block, offset, 0);
     }
     // Only a free conflicts with an atomic access.
-    order_plain(self, block, offset, size, 0);
-    order_atomic(self, place, writes);
+    order_plain(self, block, offset, size, !is_atomic && writes);
+    if (is_atomic) {
+        order_atomic(self, block, offset, writes);
+    }
+}
+
+// The other block of an instruction with two operands is no shared word.
+static void order_other(int block, uintptr_t address, int writes) {
+    if (word_at(address) != NULL) {
+        fail("an instruction with a shared word and another operand, at %lx", (unsigned long)address);
+    }
+    order_plain(self, block, address - blocks[block].address, step.size, writes);
 }
 
 static void tell_access(uint64_t after) {
@@ -151,22 +163,24 @@ static void on_fault(int signal, siginfo_t *info, void *given) {
     (void)signal;
     ucontext_t *context = given;
     uintptr_t address = (uintptr_t)info->si_addr;
-    int block = block_at(address), size;
+    int block = block_at(address), writes = (context->uc_mcontext.gregs[REG_ERR] & WRITE_FAULT) != 0;
     if (block < 0 || address < blocks[block].address) {
         fail("an access outside of all blocks, at %lx", (unsigned long)address);
     }
     stop_at_freed(block, address);
     if (step.runs) {
+        if (is_end()) {
+            order_other(block, address, writes);
+        }
         open_block(block);
         return;
     }
-    int writes = (context->uc_mcontext.gregs[REG_ERR] & WRITE_FAULT) != 0;
-    step.kind = kind_of((uint8_t *)context->uc_mcontext.gregs[REG_RIP], &size);
+    step.kind = kind_of((uint8_t *)context->uc_mcontext.gregs[REG_RIP], &step.size);
     if (!is_refused(address) || step.kind != 'l') {
         end_refusal();
     }
     if (is_end()) {
-        schedule_access(block, address, step.kind, size, writes);
+        schedule_access(block, address, step.kind, step.size, writes);
     }
     step.word = word_at(address);
     if (in_child() && !writes && step.kind == 'l' && load_here(context, address)) {
@@ -194,7 +208,8 @@ static void on_step(int signal, siginfo_t *info, void *given) {
     uint64_t after = *(uint64_t *)(step.address & ~(uintptr_t)7);
     tell_access(after);
     // One that waits for a lock of a queue goes on once the other end has gone.
-    if (settings.queues && is_end() && step.kind == 'e' && blocks[step.block].label == OF_TASKS && after == step.before) {
+    int is_of_task = is_end() && blocks[step.block].label == OF_TASKS;
+    if (settings.queues && is_of_task && step.kind == 'e' && after == step.before) {
         note_futile(self);
     }
     if (step.kind != 'e') {
@@ -208,8 +223,10 @@ static void on_step(int signal, siginfo_t *info, void *given) {
 
 void begin_accesses(void) {
     struct sigaction action = {.sa_flags = SA_SIGINFO | SA_NODEFER};
+    struct sigaction stepped = action;
     action.sa_sigaction = on_fault;
-    sigaction(SIGSEGV, &action, NULL);
-    action.sa_sigaction = on_step;
-    sigaction(SIGTRAP, &action, NULL);
+    stepped.sa_sigaction = on_step;
+    if (sigaction(SIGSEGV, &action, NULL) != 0 || sigaction(SIGTRAP, &stepped, NULL) != 0) {
+        give_up("no handlers of faults");
+    }
 }

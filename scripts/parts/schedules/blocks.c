@@ -1,6 +1,6 @@
-// Blocks of memory, each at the end of pages of its own that nobody may access. A freed block's pages are not used again.
+// Blocks of memory, each at the end of pages of its own that nobody may access. A freed block's pages are not used
+// again.
 #include "schedules.h"
-#include <stdio.h>
 #include <string.h>
 #include <sys/mman.h>
 
@@ -39,7 +39,10 @@ int block_at(uintptr_t address) {
 
 void set_access(int block, int open) {
     struct block *it = &blocks[block];
-    mprotect(pages + it->first_page * PAGE, it->pages * PAGE, open ? PROT_READ | PROT_WRITE : PROT_NONE);
+    int access = open ? PROT_READ | PROT_WRITE : PROT_NONE;
+    if (mprotect(pages + it->first_page * PAGE, it->pages * PAGE, access) != 0) {
+        give_up("a block is neither opened nor closed");
+    }
     it->open = open;
 }
 
@@ -118,8 +121,11 @@ void find_words(void) {
         set_access(at, 0);
         blocks[at].label = at == slots ? OF_SLOTS : blocks[at].label;
     }
-    if ((found & 1) == 0) {
-        give_up("the channel has no word that is 3");
+    if ((found & 1) == 0 || slots < 0) {
+        give_up("the channel has no word that is 3, or no slots");
+    }
+    if ((found & 2) == 0) {
+        give_up("the channel has no parker that is 0");
     }
     channel_count++;
 }
@@ -161,16 +167,12 @@ void *malloc(size_t size) {
     return pages != NULL && recording ? make_block(size) : __libc_malloc(size);
 }
 
-static void stop_at_freed(int block) {
-    if (blocks[block].freed) {
-        fault("freed-twice:%c", blocks[block].label);
+static void free_block(int block, uintptr_t address) {
+    struct block *it = &blocks[block];
+    if (it->freed || address != it->address) {
+        fault(it->freed ? "freed-twice:%c" : "freed-inside:%c", it->label);
         end_run();
     }
-}
-
-static void free_block(int block) {
-    struct block *it = &blocks[block];
-    stop_at_freed(block);
     if (is_end()) {
         order_free(self, block);
         tell(" %cf%c%s", "SR"[self], it->label, prime(it->label == OF_TASKS ? 0 : it->channel));
@@ -183,11 +185,8 @@ void free(void *address) {
     int block = block_at((uintptr_t)address);
     if (block < 0) {
         __libc_free(address);
-    } else if ((uintptr_t)address != blocks[block].address) {
-        fault("freed-inside:%c", blocks[block].label);
-        end_run();
     } else {
-        free_block(block);
+        free_block(block, (uintptr_t)address);
     }
 }
 
@@ -197,16 +196,16 @@ void *realloc(void *address, size_t size) {
     if (block < 0) {
         return pages != NULL && recording && address == NULL ? make_block(size) : __libc_realloc(address, size);
     }
-    stop_at_freed(block);
     void *made = make_block(size);
     int other = block_at((uintptr_t)made);
     blocks[other].label = blocks[block].label;
     blocks[other].channel = blocks[block].channel;
+    // Freed first, so that an address that may not be freed is not read.
+    free_block(block, (uintptr_t)address);
     set_access(block, 1);
     set_access(other, 1);
     memcpy(made, address, blocks[block].size < size ? blocks[block].size : size);
     set_access(other, 0);
-    blocks[block].freed = 1;
     set_access(block, 0);
     return made;
 }

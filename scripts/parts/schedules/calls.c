@@ -1,8 +1,7 @@
-// What the program asks of the C library and of the kernel: to sleep and to wake, to yield, to read the clock. While the
-// ends run, the scheduler answers. Short sleeps tell it where they are.
+// What the program asks of the C library and of the kernel: to sleep and to wake, to yield, to read the clock. While
+// the ends run, the scheduler answers. Short sleeps tell it where they are.
 #include "schedules.h"
 #include <errno.h>
-#include <linux/audit.h>
 #include <linux/filter.h>
 #include <linux/futex.h>
 #include <linux/seccomp.h>
@@ -13,7 +12,8 @@
 #include <time.h>
 #include <ucontext.h>
 
-// The lengths of sleeps by which the program tells where it is, in nanoseconds. From REPLIES on they are replies.
+// The lengths of sleeps by which the program tells where it is, in nanoseconds. The others, up to the last, tell what a
+// call returned.
 enum { RECORD = 1, RELEASE, READY, BEGIN_SENDER, BEGIN_RECEIVER, END_SENDER, END_RECEIVER, OPENING, OPENED, DONE,
        MESSAGE, AT_FIRST, AT_SECOND, TIMEOUT = 20, DEADLINE, LAST_TOLD = 9999 };
 enum { NANOSECONDS = 1000000000, LATER = 1000000, NEVER = 1000000000 };
@@ -122,7 +122,8 @@ static int read_for_timeout(void) {
     return fails;
 }
 
-// What a reading sees is a choice, until one is past the deadline: in time, past it, or a failure, which counts as past it.
+// What a reading sees is a choice, until one is past the deadline: in time, past it, or a failure, which counts as past
+// it.
 static int read_clock(void) {
     int kinds = settings.failing_clock ? 3 : 2, seen = 0;
     if (!time_is_over) {
@@ -243,9 +244,8 @@ void begin_calls(void) {
     };
     struct sock_fprog program = {sizeof filter / sizeof *filter, filter};
     struct sigaction action = {.sa_flags = SA_SIGINFO | SA_NODEFER, .sa_sigaction = on_call};
-    sigaction(SIGSYS, &action, NULL);
-    if (program_ends >> 32 != high || prctl(PR_SET_NO_NEW_PRIVS, 1, 0, 0, 0) != 0 ||
-        prctl(PR_SET_SECCOMP, SECCOMP_MODE_FILTER, &program) != 0) {
+    if (sigaction(SIGSYS, &action, NULL) != 0 || program_ends >> 32 != high ||
+        prctl(PR_SET_NO_NEW_PRIVS, 1, 0, 0, 0) != 0 || prctl(PR_SET_SECCOMP, SECCOMP_MODE_FILTER, &program) != 0) {
         give_up("the kernel hands no call back");
     }
 }

@@ -1,5 +1,5 @@
-// Which end goes next. One thread goes at a time: it stops before each access to a shared word, in a sleep and at its end,
-// and then hands the turn to the end that the schedule chooses.
+// Which end goes next. One thread goes at a time: it stops before each access to a shared word, in a sleep and at its
+// end, and then hands the turn to the end that the schedule chooses.
 #include "schedules.h"
 #include <linux/futex.h>
 #include <sys/syscall.h>
@@ -45,10 +45,6 @@ int choose(int options, uint32_t allowed) {
     choice->allowed = allowed;
     record->count++;
     return choice->chosen;
-}
-
-void pass_time(void) {
-    time_is_over = 1;
 }
 
 void note_futile(int end) {
@@ -115,8 +111,8 @@ static int choose_key(const int *keys, int count) {
     return keys[chosen];
 }
 
-// What the end that goes next is told of its sleep.
-static void end_sleep(int end, int way) {
+// What the end that goes next is told, of its sleep if it was in one.
+static void tell_chosen(int end, int way) {
     ends[end].woken = way == ENDS_BY_CHANCE ? BY_CHANCE : way == ENDS_BY_TIME ? BY_TIME : BY_WAKE;
     ends[!end].futile = 0;
     if (way == ENDS_BY_CHANCE) {
@@ -124,7 +120,7 @@ static void end_sleep(int end, int way) {
         tell(" %cs", "SR"[end]);
     }
     if (way == ENDS_BY_TIME) {
-        pass_time();
+        time_is_over = 1;
         tell(" %ct", "SR"[end]);
     }
 }
@@ -156,7 +152,7 @@ static int next_end(void) {
     }
     int key = choose_key(keys, count);
     record->points++;
-    end_sleep(key / WAYS, key % WAYS);
+    tell_chosen(key / WAYS, key % WAYS);
     return key / WAYS;
 }
 

@@ -15,6 +15,7 @@
 enum { LONGEST_RUN = 20, ROOM_LEFT = 256, UNUSABLE = 96 };
 
 struct settings settings = {.spurious = 1, .readings = 8, .reduce = 1, .runs = -1, .seconds = -1};
+static const char SCHEDULE[] = "schedule=";
 struct record *record;
 uintptr_t program_begins, program_ends;
 static int is_child;
@@ -37,22 +38,34 @@ static void add_text(const char *format, va_list values) {
     }
 }
 
+__attribute__((format(printf, 1, 2))) static void add_words(const char *format, ...) {
+    va_list values;
+    va_start(values, format);
+    add_text(format, values);
+    va_end(values);
+}
+
 // What ends the words of a channel other than the first.
 const char *prime(int channel) {
     return channel == 0 ? "" : "'";
 }
 
 void tell(const char *format, ...) {
-    if (is_child && record->length < (int)sizeof record->text - ROOM_LEFT) {
-        va_list values;
-        va_start(values, format);
-        add_text(format, values);
-        va_end(values);
+    if (!is_child) {
+        return;
     }
+    if (record->length >= (int)sizeof record->text - ROOM_LEFT) {
+        give_up("the text of a run is full");
+    }
+    va_list values;
+    va_start(values, format);
+    add_text(format, values);
+    va_end(values);
 }
 
+// A fault has the room that the words leave.
 void fault(const char *format, ...) {
-    tell(" !");
+    add_words(" !");
     va_list values;
     va_start(values, format);
     add_text(format, values);
@@ -65,25 +78,25 @@ void end_run(void) {
     abort();
 }
 
-void give_up(const char *why) {
-    if (is_child) {
-        fault("tool:%s", why);
-        end_run();
-    }
-    fprintf(stderr, "schedules: %s\n", why);
-    _exit(UNUSABLE);
-}
-
 void fail(const char *format, ...) {
     char why[ROOM_LEFT];
     va_list values;
     va_start(values, format);
     vsnprintf(why, sizeof why, format, values);
     va_end(values);
-    for (char *at = why; is_child && *at != 0; at++) {
+    if (!is_child) {
+        fprintf(stderr, "schedules: %s\n", why);
+        _exit(UNUSABLE);
+    }
+    for (char *at = why; *at != 0; at++) {
         *at = *at == ' ' ? '-' : *at;
     }
-    give_up(why);
+    fault("tool:%s", why);
+    end_run();
+}
+
+void give_up(const char *why) {
+    fail("%s", why);
 }
 
 static double now(void) {
@@ -151,7 +164,10 @@ int explore(void) {
             alarm(LONGEST_RUN);
             return 1;
         }
-        if (child < 0 || waitpid(child, &status, 0) != child || interrupted) {
+        if (child < 0 || waitpid(child, &status, 0) != child) {
+            give_up("no child, or none that ends");
+        }
+        if (interrupted) {
             break;
         }
         count_run(status);
@@ -184,6 +200,29 @@ static void find_program(void) {
     if (maps != NULL) {
         fclose(maps);
     }
+    if (program_ends == 0) {
+        give_up("the program is not among its own mappings");
+    }
+}
+
+// The choices of the first run, which is then the only one.
+static void read_schedule(const char *digits) {
+    settings.runs = 1;
+    for (const char *digit = strcmp(digits, "-") == 0 ? "" : digits; *digit != 0; digit++) {
+        if (*digit < '0' || *digit > '9' || record->forced == MOST_CHOICES) {
+            give_up("a schedule is a row of digits");
+        }
+        record->choices[record->forced++].chosen = *digit - '0';
+    }
+}
+
+static long read_number(const char *digits) {
+    char *until;
+    long number = strtol(digits, &until, 10);
+    if (until == digits || *until != 0) {
+        give_up("a setting without a number");
+    }
+    return number;
 }
 
 static void read_setting(const char *word) {
@@ -195,16 +234,15 @@ static void read_setting(const char *word) {
     for (size_t at = 0; at < sizeof SETTINGS / sizeof *SETTINGS; at++) {
         size_t length = strlen(SETTINGS[at].name);
         if (strncmp(word, SETTINGS[at].name, length) == 0) {
-            *SETTINGS[at].value = strtol(word + length, NULL, 10);
+            *SETTINGS[at].value = read_number(word + length);
+            return;
         }
     }
-    // One schedule: the choices of the first run, which is then the only one.
-    for (const char *digit = word; strncmp(word, "schedule=", 9) == 0 && *digit != 0; digit++) {
-        if (*digit >= '0' && *digit <= '9' && record->forced < MOST_CHOICES) {
-            record->choices[record->forced++].chosen = *digit - '0';
-            settings.runs = 1;
-        }
+    size_t length = strlen(SCHEDULE);
+    if (strncmp(word, SCHEDULE, length) != 0) {
+        give_up("an unknown setting");
     }
+    read_schedule(word + length);
 }
 
 __attribute__((constructor)) static void begin(void) {
@@ -212,7 +250,11 @@ __attribute__((constructor)) static void begin(void) {
     if (given == NULL) {
         return;
     }
-    record = mmap(NULL, sizeof *record, PROT_READ | PROT_WRITE, MAP_SHARED | MAP_ANONYMOUS, -1, 0);
+    void *mapped = mmap(NULL, sizeof *record, PROT_READ | PROT_WRITE, MAP_SHARED | MAP_ANONYMOUS, -1, 0);
+    if (mapped == MAP_FAILED) {
+        give_up("no room for the record of a run");
+    }
+    record = mapped;
     char words[8192];
     snprintf(words, sizeof words, "%s", given);
     for (char *word = strtok(words, " "); word != NULL; word = strtok(NULL, " ")) {

@@ -1,5 +1,6 @@
-// What the parts of the scheduler share. It is a library that is loaded before a program whose two threads, the sender's
-// and the receiver's, tell by the lengths of short sleeps where they are (crates/oneshot_scheduled/src/told.rt).
+// What the parts of the scheduler share. It is a library that is loaded before a program whose two threads, the
+// sender's and the receiver's, tell by the lengths of short sleeps where they are:
+// crates/oneshot_scheduled/src/told.rt.
 #ifndef SCHEDULES_H
 #define SCHEDULES_H
 #define _GNU_SOURCE
@@ -44,8 +45,8 @@ struct record {
 extern struct record *record;
 
 // What is explored: how many sleeps of a run may end by chance, how many readings of a clock may be in time, whether a
-// reading may fail, whether a copy of a task's waker may be refused, whether one run is enough of each order of dependent
-// steps, and whether the atomic writes of a task's queue are choices too.
+// reading may fail, whether a copy of a task's waker may be refused, whether one run is enough of each order of
+// dependent steps, and whether the atomic writes of a task's queue are choices too.
 struct settings {
     long spurious, readings, failing_clock, refused, reduce, queues, runs, seconds;
 };
@@ -67,7 +68,6 @@ int wake_at(int end, uintptr_t address);
 int choose(int options, uint32_t allowed);
 void note_futile(int end);
 extern int time_is_over;
-void pass_time(void);
 
 // blocks.c: blocks on pages without access.
 extern struct block blocks[MOST_BLOCKS];
@@ -86,7 +86,7 @@ extern enum label made_as;
 
 // order.c: the happens-before order of accesses.
 void begin_order(void);
-void order_atomic(int end, int place, int writes);
+void order_atomic(int end, int block, size_t offset, int writes);
 void order_plain(int end, int block, size_t offset, int size, int writes);
 void order_free(int end, int block);
 

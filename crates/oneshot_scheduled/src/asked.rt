@@ -1,0 +1,72 @@
+//! What the arguments ask for: the kind of the channel, and both scripts.
+
+use crate::run::{Kind, Scripts};
+use crate::words::{receiver_word_of, sender_word_of};
+use std::alloc::{AllocError, Global};
+
+/// The arguments so far.
+#[derive(Drop)]
+pub struct Asked {
+    pub kind: Kind,
+    pub scripts: Scripts,
+    of: Part,
+}
+
+/// What an argument is read as.
+#[derive(Clone, Copy, PartialEq, Eq)]
+enum Part {
+    Kind,
+    Sender,
+    Receiver,
+}
+
+impl Asked {
+    /// No arguments: a plain channel, and a script of no call for each end.
+    pub fn new(alloc: Global) -> Asked {
+        Asked {
+            kind: Kind::Plain,
+            scripts: Scripts {
+                sends: Vec::new(alloc),
+                receives: Vec::new(alloc),
+            },
+            of: Part::Kind,
+        }
+    }
+
+    /// Adds an argument. Returns whether it may stand there.
+    pub fn add(&mut self, text: &str) -> Result<bool, AllocError> {
+        match (self.of, text) {
+            (Part::Kind, "S") => self.of = Part::Sender,
+            (Part::Sender, "R") => self.of = Part::Receiver,
+            (Part::Kind, _) => match kind_of(text) {
+                Some(kind) => self.kind = kind,
+                None => return Ok(false),
+            },
+            (Part::Sender, _) => match sender_word_of(text) {
+                Some(word) => self.scripts.sends.push(word)?,
+                None => return Ok(false),
+            },
+            (Part::Receiver, _) => match receiver_word_of(text) {
+                Some(word) => self.scripts.receives.push(word)?,
+                None => return Ok(false),
+            },
+        }
+        Ok(true)
+    }
+
+    /// Whether both scripts were there.
+    pub fn is_whole(&self) -> bool {
+        self.of == Part::Receiver
+    }
+}
+
+fn kind_of(text: &str) -> Option<Kind> {
+    let kind = match text {
+        "promise" => Kind::Promise,
+        "request" => Kind::Request,
+        "nested" => Kind::Nested,
+        "two" => Kind::TwoChannels,
+        _ => return None,
+    };
+    Some(kind)
+}
