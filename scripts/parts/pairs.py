@@ -77,7 +77,7 @@ def lacking(pair):
 
 def may_miss(pair):
     """Whether the runs may miss orders of the model. The model's waits may end by chance more often than the
-    scheduler's. Of three polls with refused copies some orders are met by no run, and it is not known why."""
+    scheduler's. A third poll uses a copy that an earlier one has left in hand, which only the model may refuse."""
     waits = re.search(r"recv|ref|forever|timeout|deadline", pair.receiver)
     return bool(waits) or ("refused=1" in pair.settings and pair.receiver.count("poll") > 2)
 
