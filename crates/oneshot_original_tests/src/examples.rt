@@ -4,8 +4,8 @@ use super::threads::{Act, By, Pace, assert_outcomes};
 use super::times::hour;
 use crate::asserts::assert_same;
 use oneshot::channel;
-use oneshot_tests::uses::Silence::Disconnected;
-use oneshot_tests::uses::Use::{Recv, RecvRef, RecvTimeout};
+use oneshot_test_uses::Silence::Disconnected;
+use oneshot_test_uses::Use::{Recv, RecvRef, RecvTimeout};
 use std::test::Fail;
 
 /// The sender acts once, after a while in which the receiver begins to wait.

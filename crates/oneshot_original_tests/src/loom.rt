@@ -10,9 +10,9 @@ use futures::task::Poll;
 use futures::test::MockTask;
 use oneshot::{async_channel, drive};
 use oneshot_memory::{MemoryFuture, MemoryTask};
-use oneshot_tests::uses::FutureUse;
-use oneshot_tests::uses::Silence::{Disconnected, Timeout};
-use oneshot_tests::uses::Use::{AsFuture, RecvTimeout, TryUntil};
+use oneshot_test_uses::FutureUse;
+use oneshot_test_uses::Silence::{Disconnected, Timeout};
+use oneshot_test_uses::Use::{AsFuture, RecvTimeout, TryUntil};
 use std::test::Fail;
 use std::time::Duration;
 

@@ -3,9 +3,9 @@
 use super::threads::{AT_ONCE, Act, By, assert_outcomes};
 use super::times::hour;
 use futures::test::MockTask;
-use oneshot_tests::uses::FutureUse::{PollOnce, PollUntil};
-use oneshot_tests::uses::Silence::{Disconnected, Dropped, NothingYet};
-use oneshot_tests::uses::Use::{JustDrop, Recv, RecvRef, RecvTimeout, TryOnce, TryUntil};
+use oneshot_test_uses::FutureUse::{PollOnce, PollUntil};
+use oneshot_test_uses::Silence::{Disconnected, Dropped, NothingYet};
+use oneshot_test_uses::Use::{JustDrop, Recv, RecvRef, RecvTimeout, TryOnce, TryUntil};
 use std::test::Fail;
 
 const SEND: Act<i32> = Act::Send(999);

@@ -1,7 +1,7 @@
 //! Both ends of a channel, each on a thread of its own.
 
 use oneshot::{Sender, async_channel, channel};
-use oneshot_tests::uses::{FutureUse, Silence, Use};
+use oneshot_test_uses::{FutureUse, Silence, Use};
 use std::fmt::Debug;
 use std::hint::spin_loop;
 use std::process::{Abort, Termination};

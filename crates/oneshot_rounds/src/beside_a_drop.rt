@@ -4,8 +4,8 @@ use super::answers::assert_both_orders;
 use super::duels::beside_a_drop;
 use super::uses::blocking_uses;
 use futures::test::MockTask;
-use oneshot_tests::uses::Silence::{Disconnected, Dropped, NothingYet};
-use oneshot_tests::uses::{FutureUse, Use};
+use oneshot_test_uses::Silence::{Disconnected, Dropped, NothingYet};
+use oneshot_test_uses::{FutureUse, Use};
 use std::test::Fail;
 
 #[test]

@@ -3,8 +3,8 @@
 use super::duels::beside_a_send;
 use super::uses::blocking_uses;
 use futures::test::MockTask;
-use oneshot_tests::uses::Silence::{Dropped, NothingYet};
-use oneshot_tests::uses::{FutureUse, Use};
+use oneshot_test_uses::Silence::{Dropped, NothingYet};
+use oneshot_test_uses::{FutureUse, Use};
 use std::test::Fail;
 
 #[test]

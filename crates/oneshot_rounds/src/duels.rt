@@ -4,7 +4,7 @@ use super::answers::{Outcome, assert_answers, assert_both_orders};
 use super::channels::channels;
 use super::counted::{load, send};
 use super::races::race;
-use oneshot_tests::uses::{Silence, Use};
+use oneshot_test_uses::{Silence, Use};
 use std::process::Abort;
 use std::random::RandomSource;
 use std::sync::Wait;

@@ -4,7 +4,7 @@ use super::answers::{assert_answers, assert_both_orders};
 use super::channels::channels;
 use super::races::race;
 use super::uses::{blocking_uses, trying_uses};
-use oneshot_tests::uses::Use;
+use oneshot_test_uses::Use;
 use std::alloc::{AllocError, Global};
 use std::process::Abort;
 use std::random::RandomSource;

@@ -6,7 +6,7 @@ use super::races::race;
 use super::uses::{blocking_uses, trying_uses};
 use super::waits::patience;
 use oneshot_channel::Sender;
-use oneshot_tests::uses::Use;
+use oneshot_test_uses::Use;
 use std::fmt::Debug;
 use std::process::Abort;
 use std::random::RandomSource;

@@ -2,7 +2,7 @@
 
 use super::waits::patience;
 use futures::test::MockTask;
-use oneshot_tests::uses::{FutureUse, Use};
+use oneshot_test_uses::{FutureUse, Use};
 use std::random::RandomSource;
 use std::test::Fail;
 

@@ -3,7 +3,7 @@ use Rattle.std.proofs.Common.{[], refl, sym, subst}
 use Rattle.oneshot_channel.specs.Called.{as_receiver, ReceiverCalled, not_called}
 use Rattle.oneshot_channel.specs.Ends.{Waking}
 use Rattle.oneshot_channel.specs.ReceiverStart.TheVariants.{TryRecv}
-use Rattle.oneshot_tests.proofs.callers.tallied.tried_twice.Goals as goal
+use Rattle.oneshot_callers.proofs.tallied.tried_twice.Goals as goal
 
 pub returns : goal.returns
 returns g c =

@@ -1,4 +1,5 @@
 //! The uses of a receiver or of its future, each of which consumes it, and why one returns no message.
+#![tactic(auto)]
 
 use futures::executor::block_on;
 use futures::task::Poll;

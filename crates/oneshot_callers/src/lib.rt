@@ -1,0 +1,30 @@
+//! Callers that docs/CALLING.md shows or names, each proved by the contracts of the channel, and tested; tests of the
+//! errors of the receives.
+#![tactic(auto)]
+
+#[cfg(test)]
+mod asserts;
+#[cfg(test)]
+mod awaited;
+#[cfg(test)]
+mod bare;
+#[cfg(test)]
+mod errors;
+#[cfg(test)]
+mod glanced;
+#[cfg(test)]
+mod inbox;
+#[cfg(test)]
+mod paired;
+#[cfg(test)]
+mod promised;
+#[cfg(test)]
+mod results;
+#[cfg(test)]
+mod taken;
+#[cfg(test)]
+mod tallied;
+#[cfg(test)]
+mod tickets;
+#[cfg(test)]
+mod woken;
