@@ -1,22 +1,22 @@
-"""The contracts that docs/CALLING.md and docs/MODEL.md quote: whether each is the source's, and whether each that users
-need is there.
+"""The contracts, traits and types that docs/CALLING.md and docs/MODEL.md print, and which of them users need.
 
 Users call what the exporting crates of a page export: a function by its own name, or those of a type that are public or
-that are of a trait and have a clause. CALLING quotes each exported trait whole, in any section. MODEL also quotes the
-laws of an exported module, and what an `EntryLine` shows as (its `ghost output`).
+that are of a trait and have a clause. CALLING prints each exported trait whole. MODEL also prints the laws of an
+exported module, what an `EntryLine` shows as (its `ghost output`), and the types of `oneshot_replay` whose variants or
+fields users name.
 """
 import collections
 import re
+import textwrap
 
-from parts.compare import Differs, none_of
-from parts.pages import blocks, fold, page_text
-from parts.sources import code_of, functions, place, sources
+from parts.compare import Differs
+from parts.pages import fold
+from parts.sources import code_of, functions, sources
 
-SECTION = "The contracts"
-Page = collections.namedtuple("Page", "name exporting beneath")
-CALLING = Page(
-    "docs/CALLING.md", ["oneshot_channel", "oneshot_reply"], ["oneshot_ends", "oneshot_errors", "oneshot_word"])
-MODEL = Page("docs/MODEL.md", ["oneshot_replay", "oneshot_text"], ["oneshot_world"])
+Page = collections.namedtuple("Page", "exporting beneath")
+Contract = collections.namedtuple("Contract", "name owner text")
+CALLING = Page(["oneshot_channel", "oneshot_reply"], ["oneshot_ends", "oneshot_errors", "oneshot_word"])
+MODEL = Page(["oneshot_replay", "oneshot_text"], ["oneshot_world"])
 
 
 def files(page):
@@ -47,71 +47,100 @@ def laws(names):
     return {law.name for file in modules(names) for law in functions(code_of(file))}
 
 
+def own(text):
+    """A text of a source file as it stands alone."""
+    return textwrap.dedent(text).rstrip()
+
+
 def written(page):
-    """Each function: the head of its impl, its text before the body, its file, and whose name users import for it."""
+    """Each function of the page's crates, and what an `EntryLine` shows as."""
+    impl = r"(?ms)^(impl \S+ for (EntryLine)) \{(?:(?!^\}).)*?(^ *ghost output .*?;)"
     for file in files(page):
         for name, owner, head, _ in functions(code_of(file)):
             if "trait " not in owner:
-                yield owner, fold(head), file, name.split("::")[0].split(" for ")[-1]
+                yield Contract(name.split(" for ")[-1], owner, own(head))
+        for owner, name, output in re.findall(impl, code_of(file)):
+            yield Contract(f"{name}::output", owner, own(output))
 
 
-def shown(page):
-    """What an `EntryLine` shows as, in the form of `written`."""
-    impl = r"(?ms)^(impl \S+ for (EntryLine)) \{(?:(?!^\}).)*?(ghost output .*?;)"
+def is_called(contract):
+    has_clause = re.search(r"\s(ensures|requires)\s", contract.text)
+    return contract.text.startswith(("pub fn ", "ghost ")) or (" for " in contract.owner and has_clause)
+
+
+def contracts(page):
+    """Prints these contracts as one block, each under the head of its impl."""
+    def of(*names):
+        known = {contract.name: contract for contract in written(page) if is_called(contract)}
+        pieces, owner = [], ""
+        for name in names:
+            if name not in known:
+                raise Differs(f"no source has a contract of {name}")
+            if known[name].owner not in ("", owner):
+                owner = known[name].owner
+                pieces.append(owner)
+            pieces.append(known[name].text)
+        return ["```rust", *"\n\n".join(pieces).split("\n"), "```"]
+    return of
+
+
+def traits(page):
     for file in files(page):
-        for head, name, output in re.findall(impl, code_of(file)):
-            yield head, fold(output), file, name
+        yield from re.findall(r"(?ms)^(pub trait (\w+).*?^\})", file.read_text())
 
 
-def quoted(page):
-    """Each function that the page quotes under a head, and the line where its block begins."""
-    for block in blocks(page.name):
-        if block.section == SECTION and block.language == "rust":
-            head = ""
-            for piece in map(fold, re.split(r"\n\s*\n", "\n".join(block.lines))):
-                if piece.startswith("impl"):
-                    head = piece
-                elif piece:
-                    yield head, piece, block.line
+def trait(name):
+    """Prints a trait of CALLING's crates."""
+    text = next((text for text, other in traits(CALLING) if other == name), None)
+    if text is None:
+        raise Differs(f"no source has the trait {name}")
+    return ["```rust", *text.split("\n"), "```"]
 
 
-def is_called(owner, head):
-    return head.startswith(("pub fn ", "ghost ")) or (" for " in owner and re.search(r" (ensures|requires) ", head))
+def items(body):
+    """What the braces of a type list: its variants, or its fields."""
+    depth, item = 0, ""
+    for letter in re.sub(r"(?m)^\s*#\[.*\]$", "", body):
+        depth += {"{": 1, "(": 1, "<": 1, "}": -1, ")": -1, ">": -1}.get(letter, 0)
+        if letter == "," and depth == 0:
+            yield fold(item)
+            item = ""
+        else:
+            item += letter
 
 
-def compare_quotes(page, names, texts):
-    """How many of these texts the page quotes, and what differs: each quote is one of them, and each that is of one of
-    these names is quoted."""
-    wrong, on_page = [], set()
-    known = {(owner, head) for owner, head, _, _ in texts}
-    for head, piece, line in quoted(page):
-        on_page.add((head, piece))
-        if (head, piece) not in known:
-            under = "".join(f"\nIt stands under: {owner or 'no impl'}" for owner, text, _, _ in texts if text == piece)
-            wrong.append(f"{page.name}:{line}: no source has this contract under {head or 'no impl'}:\n{piece}{under}")
-    for owner, head, file, name in texts:
-        if name in names and is_called(owner, head) and (owner, head) not in on_page:
-            wrong.append(f"{place(file)}: {page.name} does not quote this:\n{owner}\n{head}")
-    return len(on_page), wrong
+def declared():
+    """Each public enum, and each struct whose fields are all public, with its line."""
+    for file in sources("oneshot_machine", *MODEL.beneath, *MODEL.exporting):
+        types = re.findall(r"(?ms)^pub (enum|struct) (\w+)((?:<\w+>)?) \{\n(.*?)^\}", code_of(file))
+        for kind, name, generics, body in types:
+            listed = list(items(body))
+            if kind == "enum" or all(item.startswith("pub ") for item in listed):
+                parts = ", ".join(f"`{re.sub('^pub ', '', item).replace(', }', ' }')}`" for item in listed)
+                yield name, f"- `{name}{generics}`: {parts}"
 
 
-def compare_contracts():
+def types(*names):
+    """Prints a line for each of these types of the model."""
+    known = dict(declared())
+    lacking = [name for name in names if name not in known]
+    if lacking:
+        raise Differs(f"no source has the type {lacking[0]}")
+    return [known[name] for name in names]
+
+
+def needed(page, names):
+    """The contracts of these names."""
+    return [("contracts", contract.name) for contract in written(page)
+            if contract.name.split("::")[0] in names and is_called(contract)]
+
+
+def listed_in_calling():
     names = exported(CALLING.exporting)
-    count, wrong = compare_quotes(CALLING, names, list(written(CALLING)))
-    traits = 0
-    for file in files(CALLING):
-        for trait, name in re.findall(r"(?ms)^(pub trait (\w+).*?^\})", file.read_text()):
-            traits += name in names
-            if name in names and fold(trait) not in fold(page_text(CALLING.name)):
-                wrong.append(f"{place(file)}: {CALLING.name} does not quote the trait {name}")
-    none_of(wrong)
-    if not count or not traits:
-        raise Differs("no contract, or no trait")
-    return f"{count} contracts, {traits} traits"
+    return [*needed(CALLING, names), *(("trait", name) for _, name in traits(CALLING) if name in names)]
 
 
-def compare_model():
-    names = exported(MODEL.exporting) | laws(MODEL.exporting)
-    count, wrong = compare_quotes(MODEL, names, [*written(MODEL), *shown(MODEL)])
-    none_of(wrong if count else ["no contract"])
-    return f"{count} contracts of the model"
+def listed_in_model():
+    names = exported(MODEL.exporting)
+    return [*needed(MODEL, names | laws(MODEL.exporting)),
+            *(("types", name) for name, _ in declared() if name in exported(["oneshot_replay"]))]

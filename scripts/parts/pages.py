@@ -5,7 +5,8 @@ import pathlib
 from parts.compare import Differs
 
 TOP = pathlib.Path(__file__).resolve().parent.parent.parent
-Block = collections.namedtuple("Block", "line language section lines")
+BEGIN, END = "<!-- printed: ", "<!-- end -->"
+Block = collections.namedtuple("Block", "line language is_printed lines")
 
 
 def page_text(page):
@@ -17,17 +18,17 @@ def fold(text):
 
 
 def blocks(page):
-    """The blocks of a page, each with its first line and the section that it is in."""
-    section, block = "", None
+    """The blocks of a page, each with its first line, and whether it is between two marks."""
+    is_printed, block = False, None
     for number, line in enumerate(page_text(page).split("\n"), 1):
         if line.startswith("```"):
             if block:
                 yield block
-            block = None if block else Block(number, line[3:].strip(), section, [])
+            block = None if block else Block(number, line[3:].strip(), is_printed, [])
         elif block:
             block.lines.append(line)
-        elif line.startswith("## "):
-            section = line[3:]
+        elif line.startswith((BEGIN, END)):
+            is_printed = line.startswith(BEGIN)
     if block:
         raise Differs(f"{page}:{block.line}: a block has no end")
 

@@ -1,10 +1,9 @@
-"""The transition tables of oneshot_machine, as docs/PROTOCOL.md writes them."""
+"""The codes, the operations and the transition tables of oneshot_machine, as docs/PROTOCOL.md prints them."""
 import re
 
-from parts.compare import same_lines
-from parts.pages import TOP, fold, rows
+from parts.pages import TOP, fold
+from parts.printed import table
 
-PAGE = "docs/PROTOCOL.md"
 SPECS = TOP / "crates" / "oneshot_machine" / "specs"
 FAMILIES = ["Look", "TryRecv", "ByRef", "Timed", "Value", "Future", "AsyncDrop", "Drop"]
 
@@ -75,57 +74,47 @@ def one_of(words):
     return " or ".join([", ".join(words[:-1]), words[-1]] if len(words) > 1 else words)
 
 
-def written_rows(*names):
-    """"position | step | what it sees, and then", and "call begins at position"."""
-    steps, written = {}, []
-    for name in names:
-        for definition, left, right in equations(SPECS / f"{name}.antt"):
-            # What only sends a position to its family has no rows of its own.
-            if definition in ("receiver_step", "receiver_rows"):
-                continue
-            at = position(left)
-            if definition.endswith("_step"):
-                steps[at.partition("(")[0]] = operation(right)
-            elif definition.endswith("_rows"):
-                written.append(f"{at} | {steps.get(at.partition('(')[0])} | {outcomes(right)}")
-            elif definition.endswith("_start"):
-                written.append(f"{position(left.replace('RS.', ''))} begins at {position(right)}")
-    return written
+def positions(name):
+    """The table of the positions of a family, or of the sender."""
+    steps, rows = {}, []
+    for definition, left, right in equations(SPECS / f"{name}.antt"):
+        at = position(left)
+        if definition.endswith("_step"):
+            steps[at.partition("(")[0]] = operation(right)
+        elif definition.endswith("_rows"):
+            rows.append((f"`{at}`", f"`{steps[at.partition('(')[0]]}`", outcomes(right)))
+    return table(["Position", "Step", "Then"], rows)
 
 
-def in_code(cell):
-    """What a cell has between its first two back quotes."""
-    return cell.split("`")[1] if "`" in cell else cell
+def starts(name):
+    """The table of the position at which each call begins."""
+    return table(["Call", "Begins at"], [
+        (f"`{position(left.replace('RS.', ''))}`", f"`{position(right)}`")
+        for definition, left, right in equations(SPECS / f"{name}.antt") if definition.endswith("_start")])
 
 
-def compare_rows():
-    told = []
-    for heads, cells in rows(PAGE):
-        if heads[0] == "Position":
-            told.append(f"{in_code(cells[0])} | {in_code(cells[1])} | {cells[2]}")
-        elif heads[0] == "Call":
-            told.append(f"{in_code(cells[0])} begins at {in_code(cells[1])}")
-    written = written_rows("Sender") + written_rows(*FAMILIES) + written_rows("Receiver")
-    return same_lines("rows and starts", PAGE, written, told)
-
-
-def compare_codes():
+def codes():
     code = (TOP / "crates/oneshot_machine/src/states.rt").read_text()
-    written = [f"{number} | {name}" for name, number in re.findall(r"(?m)^pub const ([A-Z]*): u8 = ([0-9]*);$", code)]
-    told = [f"{number} | {name.replace('`', '')}" for heads, (number, name, *_) in rows(PAGE) if heads[0] == "Code"]
-    return same_lines("codes", PAGE, sorted(written), sorted(told))
+    told = re.findall(r"(?m)^/// (.*)\.\npub const ([A-Z]*): u8 = ([0-9]*);$", code)
+    return table(["Code", "Name", "Meaning"], [(number, f"`{name}`", meaning) for meaning, name, number in told])
 
 
-def compare_operations():
-    written = []
+def operations():
+    rows = {}
     for definition, left, form in equations(SPECS / "States.antt"):
         if definition == "word_after":
             name = re.sub(r"[()]| word$", "", left)
             name = name.replace(" expected new", "(a, b)").replace(" new", "(x)")
             words, after = FORMS.get(form, (f"no words for {form}", lambda word: ""))
-            written.append(" | ".join([name, words, *(str(after(word)) for word in range(5))]))
-    told = []
-    for heads, (names, *cells) in rows(PAGE):
-        if heads[0] == "Operation":
-            told += [" | ".join([name.replace("`", ""), *cells[:6]]) for name in names.split("`, `")]
-    return same_lines("operations", PAGE, written, told)
+            rows.setdefault((words, *(str(after(word)) for word in range(5))), []).append(f"`{name}`")
+    return table(["Operation", "The word afterwards", *map(str, range(5))],
+                 [(", ".join(names), *cells) for cells, names in rows.items()])
+
+
+PRINTERS = {"codes": codes, "operations": operations, "starts": starts, "positions": positions}
+
+
+def listed():
+    """What the page has to print."""
+    return [("codes", ""), ("operations", ""), ("starts", "Sender"), ("starts", "Receiver"), ("positions", "Sender"),
+            *(("positions", family) for family in FAMILIES)]
