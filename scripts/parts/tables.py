@@ -57,7 +57,7 @@ def outcome(text):
 
 
 def sight(text):
-    return text[5:] if text.startswith("Word ") else SIGHTS.get(text, f"no word for {text}")
+    return f"`{text[5:]}`" if text.startswith("Word ") else SIGHTS.get(text, f"no word for {text}")
 
 
 def outcomes(right):

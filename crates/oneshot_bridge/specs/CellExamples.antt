@@ -2,6 +2,7 @@
 use Rattle.std.specs.Prelude.{◌≡◌, ℕ, true, List, [], ◌∷◌, ◌++◌, map, Option, Some, None, IsTrue, IsFalse}
 use Rattle.oneshot_machine.specs.declared.machine.Seen.TheVariants.{Word}
 use Rattle.oneshot_machine.specs.declared.states.Op.TheVariants.{Load, Swap, Add, Xor}
+use Rattle.oneshot_machine.specs.declared.states.TheConstants.{RECEIVING, DISCONNECTED, EMPTY}
 use Rattle.oneshot_machine.specs.Noted.{Noted}
 use Rattle.oneshot_machine.specs.Phases.{sender_at, none, filled}
 use Rattle.oneshot_world.specs.Scripts.{calls_of}
@@ -30,7 +31,7 @@ use Rattle.oneshot_bridge.specs.Woken.{waits, WakesNext, found_it_gone}
 
 -- a receiver that has stored its waker: the log of a call that blocks, and the script of a poll
 abbrev pub stored : List Noted
-stored = (Load, Word 3) ∷ (Swap 0, Word 3) ∷ []
+stored = (Load, Word EMPTY) ∷ (Swap RECEIVING, Word EMPTY) ∷ []
 
 abbrev pub polls : ReceiverScript
 polls = record { calls = []; last = RL.IntoFuture (record { calls = AC.Poll 7 ∷ []; last = AL.Stop }) }
@@ -79,15 +80,15 @@ module _ {T : Type 0} (m : T) where
     pub task_waits : IsTrue (waits (sends m) polls (entries_by polls in_task) (world_by polls in_task))
     pub task_woken : WakesNext (sends m) polls (entries_by polls in_task) 10 (world_by polls in_task)
     -- a sender that found the receiver gone, and the one of this run
-    pub finds_gone : IsTrue (found_it_gone (sender_at ((Add, Word 2) ∷ [])))
+    pub finds_gone : IsTrue (found_it_gone (sender_at ((Add, Word DISCONNECTED) ∷ [])))
     pub finds_here : IsFalse (found_it_gone (sender_at sent))
     -- an end's slot: with this log its cell is empty first, and then full
-    pub has_slot : waker_of_logs [] ((Load, Word 3) ∷ []) ≡ none
+    pub has_slot : waker_of_logs [] ((Load, Word EMPTY) ∷ []) ≡ none
     pub before : RunsSo (sends m) receives (r ∷ []) (entries_by receives (r ∷ []))
-        (scene_at (world_by receives (r ∷ [])) 1) [] ((Load, Word 3) ∷ []) 3
+        (scene_at (world_by receives (r ∷ [])) 1) [] ((Load, Word EMPTY) ∷ []) EMPTY
     pub is_empty : (world_by receives (r ∷ [])).state.wakers.cell ≡ None
     pub after : RunsSo (sends m) receives (r ∷ r ∷ []) (entries_by receives (r ∷ r ∷ []))
-        (scene_at (world_by receives (r ∷ r ∷ [])) 2) [] ((Load, Word 3) ∷ []) 3
+        (scene_at (world_by receives (r ∷ r ∷ [])) 2) [] ((Load, Word EMPTY) ∷ []) EMPTY
     pub is_full : (world_by receives (r ∷ r ∷ [])).state.wakers.cell ≡ Some Parker
 
   -- the same state with other cells, or with a freed block
@@ -101,7 +102,7 @@ module _ {T : Type 0} (m : T) where
     -- the message at home was already taken
     pub takes_early : CellsAreSo sent stored (record w.state { message = Some Delivered }) → ⊥
     -- a sender that was dropped left a message
-    pub sends_and_drops : CellsAreSo ((Xor, Word 3) ∷ []) [] (record w.state { message = Some InCell }) → ⊥
+    pub sends_and_drops : CellsAreSo ((Xor, Word EMPTY) ∷ []) [] (record w.state { message = Some InCell }) → ⊥
     -- the waker that a receiver stored is missing
     pub stores_nothing : CellsAreSo [] stored (with_cell None) → ⊥
     -- the sender is done and left the waker in its cell

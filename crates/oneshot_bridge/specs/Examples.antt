@@ -2,6 +2,7 @@
 use Rattle.std.specs.Prelude.{◌≡◌, ℕ, ◌+◌, false, List, [], ◌∷◌, map, Some, None}
 use Rattle.oneshot_machine.specs.declared.machine.Seen.TheVariants.{Word}
 use Rattle.oneshot_machine.specs.declared.states.Op.TheVariants.{Load, Swap, Add}
+use Rattle.oneshot_machine.specs.declared.states.TheConstants.{RECEIVING, UNPARKING, EMPTY, MESSAGE}
 use Rattle.oneshot_machine.specs.Noted.{Noted}
 use Rattle.oneshot_machine.specs.Orders.{Reaches}
 use Rattle.oneshot_world.specs.World.{World, opening, turn}
@@ -27,10 +28,10 @@ receives = record { calls = []; last = RL.Recv }
 
 -- both logs
 abbrev pub sent : List Noted
-sent = (Add, Word 0) ∷ (Swap 4, Word 1) ∷ []
+sent = (Add, Word RECEIVING) ∷ (Swap MESSAGE, Word UNPARKING) ∷ []
 
 abbrev pub received : List Noted
-received = (Load, Word 3) ∷ (Swap 0, Word 3) ∷ (Load, Word 1) ∷ (Load, Word 4) ∷ []
+received = (Load, Word EMPTY) ∷ (Swap RECEIVING, Word EMPTY) ∷ (Load, Word UNPARKING) ∷ (Load, Word MESSAGE) ∷ []
 
 -- the schedule: the receiver stores its waker; the sender adds; the receiver wakes too early and parks again;
 -- the sender finishes; the receiver takes the message
@@ -63,23 +64,25 @@ module _ {T : Type 0} (m : T) where
   pub record WorkedRun : Type 0 where
     pub sender : (s : SenderStand) × SenderWalk (sends m) sent s
     pub receiver : (s : ReceiverStand) × ReceiverWalk receives received s
-    pub order : Reaches sent received 4
-    pub run : RunsSo (sends m) receives schedule entries last sent received 4
+    pub order : Reaches sent received MESSAGE
+    pub run : RunsSo (sends m) receives schedule entries last sent received MESSAGE
 
   pub record WrongRuns : Type 0 where
     -- a receive that does not load first
-    pub skips_its_load : (s : ReceiverStand) → ReceiverWalk receives ((Swap 0, Word 3) ∷ []) s → ⊥
+    pub skips_its_load : (s : ReceiverStand) → ReceiverWalk receives ((Swap RECEIVING, Word EMPTY) ∷ []) s → ⊥
     -- a receive that finds a waker that it did not store
-    pub finds_a_waker : (s : ReceiverStand) → ReceiverWalk receives ((Load, Word 0) ∷ []) s → ⊥
+    pub finds_a_waker : (s : ReceiverStand) → ReceiverWalk receives ((Load, Word RECEIVING) ∷ []) s → ⊥
     -- a log with other words than the run found: its add found 0, and its second load 1
     pub adds_to_another_word : (now : Scene T) (ys : List Noted) (word : ℕ)
-        → RunsSo (sends m) receives schedule entries now ((Add, Word 3) ∷ (Swap 4, Word 1) ∷ []) ys word → ⊥
+        → RunsSo (sends m) receives schedule entries now
+          ((Add, Word EMPTY) ∷ (Swap MESSAGE, Word UNPARKING) ∷ []) ys word → ⊥
     pub wakes_before_the_add : (now : Scene T) (xs : List Noted) (word : ℕ)
         → RunsSo (sends m) receives schedule entries now xs
-        ((Load, Word 3) ∷ (Swap 0, Word 3) ∷ (Load, Word 0) ∷ (Load, Word 4) ∷ []) word → ⊥
+        ((Load, Word EMPTY) ∷ (Swap RECEIVING, Word EMPTY) ∷ (Load, Word RECEIVING) ∷ (Load, Word MESSAGE) ∷ []) word
+        → ⊥
     -- a log that lacks an operation
     pub skips_the_swap : (now : Scene T) (ys : List Noted) (word : ℕ)
-        → RunsSo (sends m) receives schedule entries now ((Add, Word 0) ∷ []) ys word → ⊥
+        → RunsSo (sends m) receives schedule entries now ((Add, Word RECEIVING) ∷ []) ys word → ⊥
     -- the run leaves no other word than 4
     pub leaves_another_word : (word : ℕ) → RunsSo (sends m) receives schedule entries last sent received word
         → word ≡ 4

@@ -15,6 +15,7 @@ use Rattle.oneshot_word.specs.Rule.{Home, bare, has_message, has_waker, Tied}
 use Rattle.oneshot_word.specs.Seats.{view}
 use Rattle.oneshot_bridge.specs.CallsRun.{RunsCalls}
 use Rattle.oneshot_bridge.specs.Scripted.{IsOfARun}
+use Rattle.oneshot_machine.specs.declared.states.TheConstants.{EMPTY}
 
 -- The slots at home, the message's and the waker's, and the cells where a run has come to. A slot that
 -- an end has taken is left open.
@@ -35,8 +36,8 @@ pub data Passed {T : Type 0} (m : T) : Option T → Type 0 where
 pub data OfARun {T H K P : Type 0} (W : Type 0) (q : P)
     : List ℕ → List (Home T H K) → List (View T H K P) → Type 0 where
   -- before there are ends
-  maker_before : {homes : List (Home T H K)} → OfARun W q (3 ∷ []) homes (view q Maker [] None None ∷ [])
-  dealer_before : {homes : List (Home T H K)} → OfARun W q (3 ∷ []) homes (view q Dealer [] None None ∷ [])
+  maker_before : {homes : List (Home T H K)} → OfARun W q (EMPTY ∷ []) homes (view q Maker [] None None ∷ [])
+  dealer_before : {homes : List (Home T H K)} → OfARun W q (EMPTY ∷ []) homes (view q Dealer [] None None ∷ [])
   -- From then on: both views have the operations of a run, which has this word and these slots. Between
   -- two calls of the receiver there is also such a run that has made its own calls, with the same
   -- replies. The message of the run is the one that the sender gave, if it gave one, and that the

@@ -10,6 +10,7 @@ use Rattle.oneshot_machine.specs.declared.machine.sender.SenderCall.{SenderCall}
 use Rattle.oneshot_machine.specs.declared.machine.sender.SenderCall.TheVariants as SC
 use Rattle.oneshot_machine.specs.declared.machine.sender.SenderPos.TheVariants.{SendAdd}
 use Rattle.oneshot_machine.specs.declared.states.Op.TheVariants.{Load, Store, Swap, Add}
+use Rattle.oneshot_machine.specs.declared.states.TheConstants.{RECEIVING, DISCONNECTED, EMPTY, MESSAGE}
 use Rattle.oneshot_machine.specs.Noted.{Noted}
 use Rattle.oneshot_machine.specs.Orders.{InOrder}
 use Rattle.oneshot_world.specs.Calls as C
@@ -49,10 +50,10 @@ in_turn = Sender ∷ Sender ∷ r ∷ r ∷ r ∷ []
 
 -- both logs, both ends' calls, and where both ends are then
 abbrev pub sent_log : List Noted
-sent_log = (Add, Word 3) ∷ []
+sent_log = (Add, Word EMPTY) ∷ []
 
 abbrev pub tried_log : List Noted
-tried_log = (Load, Word 4) ∷ (Store 2, Done) ∷ []
+tried_log = (Load, Word MESSAGE) ∷ (Store DISCONNECTED, Done) ∷ []
 
 abbrev pub sent_call : List (SenderCall × Reply)
 sent_call = (SC.Send, R.Sent) ∷ []
@@ -90,26 +91,26 @@ module _ {T : Type 0} (m : T) where
         ≡ sender_answered sent_call
     pub not_yet : answered_by End.Receiver (marks (calls_of (sends m) tries) (take 4 told)) ≡ []
     pub answered : answered_by End.Receiver (marks (calls_of (sends m) tries) told) ≡ receiver_answered tried_call
-    pub come : HaveCome InOrder (sends m) tries sent_log tried_log 2
+    pub come : HaveCome InOrder (sends m) tries sent_log tried_log DISCONNECTED
         (sender_stands (sender_answered sent_call)) (receiver_stands (receiver_answered tried_call))
-    pub run : RunsTo (sends m) tries sent_log tried_log 2
+    pub run : RunsTo (sends m) tries sent_log tried_log DISCONNECTED
         (sender_stands (sender_answered sent_call)) (receiver_stands (receiver_answered tried_call))
     pub sends_it : SendsOnly m (sends m)
     pub sends_none : (other : T) → SendsOnly other stops
-    pub state : IsOfARun m sent_log tried_log 2
-    pub calls : RunsCalls m tried_call sent_log tried_log 2
-    pub both : RunsBoth m sent_call tried_call sent_log tried_log 2
+    pub state : IsOfARun m sent_log tried_log DISCONNECTED
+    pub calls : RunsCalls m tried_call sent_log tried_log DISCONNECTED
+    pub both : RunsBoth m sent_call tried_call sent_log tried_log DISCONNECTED
     pub have_an_order : WhereverTheyCome T InOrder (λ a b xs ys word s r. InOrder xs ys word)
     -- of a table without ends
-    pub no_ends : OfARun {T = T} {H = ⊤} {K = ⊤} {P = ⊤} ⊤ tt (3 ∷ []) [] (view tt Role.Maker [] None None ∷ [])
+    pub no_ends : OfARun {T = T} {H = ⊤} {K = ⊤} {P = ⊤} ⊤ tt (EMPTY ∷ []) [] (view tt Role.Maker [] None None ∷ [])
 
   pub record RunsThatAreNot : Type 0 where
     -- logs that have no order, or are of no walk of their script
-    pub have_no_order : (s : SenderStand) (r : ReceiverStand) → HaveCome InOrder (sends m) tries [] [] 0 s r → ⊥
+    pub have_no_order : (s : SenderStand) (r : ReceiverStand) → HaveCome InOrder (sends m) tries [] [] RECEIVING s r → ⊥
     pub sends_unasked : (s : SenderStand) (r : ReceiverStand)
-        → HaveCome InOrder (stops {T = T}) tries sent_log [] 4 s r → ⊥
+        → HaveCome InOrder (stops {T = T}) tries sent_log [] MESSAGE s r → ⊥
     pub skips_its_load : (s : SenderStand) (r : ReceiverStand)
-        → HaveCome InOrder (sends m) receives [] ((Swap 0, Word 3) ∷ []) 0 s r → ⊥
+        → HaveCome InOrder (sends m) receives [] ((Swap RECEIVING, Word EMPTY) ∷ []) RECEIVING s r → ⊥
     -- a run with these entries and another log, or with an end that has made no call
     pub has_sent_nothing : {ys : List Noted} {word : ℕ} {s : SenderStand} {r : ReceiverStand}
         (run : RunsTo (sends m) tries [] ys word s r) → run.entries ≡ told → ⊥

@@ -9,6 +9,7 @@ use Rattle.oneshot_machine.specs.declared.machine.Reply.{Reply}
 use Rattle.oneshot_machine.specs.declared.machine.Reply.TheVariants.{Sent, Refused, Message, Empty, Timeout, Disconnected}
 use Rattle.oneshot_machine.specs.declared.machine.Step.TheVariants.{TakeWaker, Wake}
 use Rattle.oneshot_machine.specs.declared.states.Op.TheVariants.{Swap}
+use Rattle.oneshot_machine.specs.declared.states.TheConstants.{UNPARKING, DISCONNECTED, EMPTY}
 use Rattle.oneshot_machine.specs.Logs.{Event, Log, Grows, sender_of, handed, worded}
 use Rattle.oneshot_machine.specs.Phases.{By, SenderAt, fresh, finished, late, overtaken, Closing, closed_itself, Open, looked, between, Swapping, Got, ReceiverAt, first, here, waits, claimed, full, unclosed, disconnected, resolved, gone, ended}
 use Rattle.oneshot_machine.specs.Slots.{Held, away, vacant, held, SenderMay}
@@ -48,9 +49,9 @@ finishing last found k = handed TakeWaker k ∷ worded (Swap last) found ∷ han
 
 -- its last operation finds the receiver waiting, past its deadline, or gone
 pub data LastFinds : ℕ → Bool → Type 0 where
-  finds_waiting : LastFinds 1 true
-  finds_overdue : LastFinds 3 true
-  finds_gone : LastFinds 2 false
+  finds_waiting : LastFinds UNPARKING true
+  finds_overdue : LastFinds EMPTY true
+  finds_gone : LastFinds DISCONNECTED false
 
 -- how that operation leaves the sender: at its end, or overtaken by a receiver that left
 pub data LastLeaves (by : By) : Bool → SenderAt → Type 0 where

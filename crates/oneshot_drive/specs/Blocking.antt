@@ -12,6 +12,7 @@ use Rattle.oneshot_machine.specs.declared.machine.timed.TimedPos.TheVariants.{Cl
 use Rattle.oneshot_machine.specs.declared.machine.value.ValuePos.TheVariants.{RecvLoad, RecvWrite, RecvPark, RecvTake, RecvFreeGone}
 use Rattle.oneshot_machine.specs.declared.machine.Seen.TheVariants.{Done}
 use Rattle.oneshot_machine.specs.declared.states.Op.TheVariants.{Store}
+use Rattle.oneshot_machine.specs.declared.states.TheConstants.{DISCONNECTED}
 use Rattle.oneshot_machine.specs.Logs.{Event, Log, Grows, messages_given, messages_got}
 use Rattle.oneshot_machine.specs.Phases.{Closing, closed_itself, Got, Swapping, Waiting, between, ReceiverAt, here, waits, overdue, full, unclosed, disconnected, receiver_next}
 use Rattle.oneshot_machine.specs.Receiver.{receiver_step, receiver_row}
@@ -80,7 +81,7 @@ end_of by_value = value_end
 -- the receiver's state then: only a deadline ends a receive with nothing found
 abbrev pub EndsAt : {T W : Type 0} → Bool → Found → GroundState T W → Type 0
 EndsAt timed F.Message s =
-    (g : Got) × (receiver_next (full g) (Store 2) Done ≡ disconnected closed_itself) × Stands (full g) s
+    (g : Got) × (receiver_next (full g) (Store DISCONNECTED) Done ≡ disconnected closed_itself) × Stands (full g) s
 EndsAt timed F.Closed s = (c : Closing) × Stands (disconnected c) s
 EndsAt timed F.Unclosed s = (by : Swapping) × Stands (unclosed by) s
 EndsAt timed F.Nothing s = (timed ≡ true) × Stands (here between) s

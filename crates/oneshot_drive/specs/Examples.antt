@@ -8,6 +8,7 @@ use Rattle.oneshot_machine.specs.declared.machine.Reply.TheVariants as R
 use Rattle.oneshot_machine.specs.declared.machine.Step.TheVariants.{WriteWaker, Withdraw, Wake, WakeOwn}
 use Rattle.oneshot_machine.specs.declared.machine.sender.SenderCall.TheVariants.{Send}
 use Rattle.oneshot_machine.specs.declared.states.Op.TheVariants.{Load, Swap, Exchange, Add}
+use Rattle.oneshot_machine.specs.declared.states.TheConstants.{RECEIVING, UNPARKING, DISCONNECTED, EMPTY, MESSAGE}
 use Rattle.oneshot_machine.specs.Examples.{waking}
 use Rattle.oneshot_machine.specs.Logs.{Event, Log, did, handed, copied, worded}
 use Rattle.oneshot_machine.specs.Phases.{By, sending, dropping, fresh, owes, finished, late, overtaken, Closing, closed_itself, found_closed, Got, Open, looked, between, Swapping, polled, again, blocked, Waiting, first, here, waits, claimed, withdrew, overdue, full, unclosed, disconnected, resolved, gone, ended}
@@ -191,35 +192,37 @@ ground list message waker = record { log = log_of list; message = message; waker
 
 -- a future whose poll stored the copy 5
 abbrev pub registering : List (Event ℕ ℕ)
-registering = worded Load 3 ∷ copied (Some 5) ∷ handed WriteWaker 5 ∷ worded (Exchange 3 0) 3 ∷ []
+registering = worded Load EMPTY ∷ copied (Some 5) ∷ handed WriteWaker 5 ∷ worded (Exchange EMPTY RECEIVING) EMPTY ∷ []
 
 pub record GroundsThatAre : Type 0 where
   pub fresh_sender : IsFresh (ground [] vacant away)
-  pub refused : IsError (held 7) (ground (worded Add 2 ∷ []) (held 7) vacant)
+  pub refused : IsError (held 7) (ground (worded Add DISCONNECTED ∷ []) (held 7) vacant)
   pub new_receiver : AtRest (ground [] away away)
-  pub has_looked : AtRest (ground (worded Load 3 ∷ []) away vacant)
-  pub found_closed_word : AtRest (ground (worded Load 2 ∷ []) vacant vacant)
+  pub has_looked : AtRest (ground (worded Load EMPTY ∷ []) away vacant)
+  pub found_closed_word : AtRest (ground (worded Load DISCONNECTED ∷ []) vacant vacant)
   pub has_registered : IsPolled (ground registering away away)
   -- which operations they may perform, and what these find
   pub asks_to_add : SenderAsks Add (ground [] (held 7) away)
-  pub adds : SenderMakes Add 3 (ground [] (held 7) away) (ground (worded Add 3 ∷ []) away away)
+  pub adds : SenderMakes Add EMPTY (ground [] (held 7) away) (ground (worded Add EMPTY ∷ []) away away)
   pub asks_to_look : ReceiverAsks Load (ground [] away away)
-  pub finds_it : ReceiverMakes Load 4 (ground [] away away) (ground (worded Load 4 ∷ []) (held 7) vacant)
+  pub finds_it : ReceiverMakes Load MESSAGE (ground [] away away) (ground (worded Load MESSAGE ∷ []) (held 7) vacant)
   pub parks_until : Parks true (waits blocked)
   pub parks_on : Parks false overdue
 
 pub record GroundsThatAreNot : Type 0 where
-  pub has_sent : IsFresh (ground (worded Add 3 ∷ []) away away) → ⊥
+  pub has_sent : IsFresh (ground (worded Add EMPTY ∷ []) away away) → ⊥
   pub holds_a_message : IsFresh (ground [] (held 7) away) → ⊥
-  pub lost_its_message : IsError (held 7) (ground (worded Add 2 ∷ []) vacant vacant) → ⊥
-  pub another_message : IsError (held 7) (ground (worded Add 2 ∷ []) (held 8) vacant) → ⊥
-  pub has_the_message : AtRest (ground (worded Load 4 ∷ []) (held 7) vacant) → ⊥
-  pub lost_its_slot : AtRest (ground (worded Load 3 ∷ []) away away) → ⊥
+  pub lost_its_message : IsError (held 7) (ground (worded Add DISCONNECTED ∷ []) vacant vacant) → ⊥
+  pub another_message : IsError (held 7) (ground (worded Add DISCONNECTED ∷ []) (held 8) vacant) → ⊥
+  pub has_the_message : AtRest (ground (worded Load MESSAGE ∷ []) (held 7) vacant) → ⊥
+  pub lost_its_slot : AtRest (ground (worded Load EMPTY ∷ []) away away) → ⊥
   pub blocks_in_a_poll : AtRest (ground registering away away) → ⊥
   pub adds_without_a_message : SenderAsks Add (ground [] vacant away) → ⊥
-  pub adds_and_keeps_it : SenderMakes Add 3 (ground [] (held 7) away) (ground (worded Add 3 ∷ []) (held 7) away) → ⊥
-  pub waits_without_a_waker : ReceiverAsks (Swap 0) (ground (worded Load 3 ∷ []) away vacant) → ⊥
-  pub finds_none_in_4 : ReceiverMakes Load 4 (ground [] away away) (ground (worded Load 4 ∷ []) vacant vacant) → ⊥
+  pub adds_and_keeps_it :
+      SenderMakes Add EMPTY (ground [] (held 7) away) (ground (worded Add EMPTY ∷ []) (held 7) away) → ⊥
+  pub waits_without_a_waker : ReceiverAsks (Swap RECEIVING) (ground (worded Load EMPTY ∷ []) away vacant) → ⊥
+  pub finds_none_in_4 :
+      ReceiverMakes Load MESSAGE (ground [] away away) (ground (worded Load MESSAGE ∷ []) vacant vacant) → ⊥
   pub parks_open : (o : Open) → Parks false (here o) → ⊥
   pub parks_until_what_is_over : Parks true overdue → ⊥
 
@@ -228,7 +231,7 @@ abbrev pub real : List (Event ℕ ℕ) → Log ℕ ℕ
 real list = record { whole = false; channel = []; list = list }
 
 abbrev pub met_it : List (Event ℕ ℕ)
-met_it = worded Add 0 ∷ worded (Swap 4) 1 ∷ []
+met_it = worded Add RECEIVING ∷ worded (Swap MESSAGE) UNPARKING ∷ []
 
 -- WAKERS, by whole logs, and by a real one
 pub record WakersThatAre : Type 0 where
@@ -239,8 +242,8 @@ pub record WakersThatAre : Type 0 where
   -- a `send` uses the waker that it took, and so wakes its receiver
   pub wakes : SenderWoke (λ waker. waker ≡ 1) Send (log_of []) (log_of waking) R.Sent (7 ∷ []) []
   pub wakes_for_real : SenderWoke (λ waker. waker ≡ 1) Send (real []) (real met_it) R.Sent (7 ∷ []) []
-  pub wakes_nobody : Wakes {T = ℕ} {W = ℕ} (λ waker. ⊥) (worded Add 3 ∷ [])
-  pub looks_alone : HandsNoWaker (log_of []) (log_of (worded Load 3 ∷ []))
+  pub wakes_nobody : Wakes {T = ℕ} {W = ℕ} (λ waker. ⊥) (worded Add EMPTY ∷ [])
+  pub looks_alone : HandsNoWaker (log_of []) (log_of (worded Load EMPTY ∷ []))
 
 pub record WakersThatAreNot : Type 0 where
   pub another_copy : WritesItsCopy (log_of []) (log_of (copied (Some 5) ∷ handed WriteWaker 6 ∷ [])) → ⊥

@@ -17,6 +17,7 @@ use Rattle.oneshot_machine.specs.Phases.{Closing, closed_itself, Got, looked, po
 use Rattle.oneshot_machine.specs.declared.machine.Step.{Step}
 use Rattle.oneshot_machine.specs.declared.machine.Step.TheVariants.{WriteWaker, Copy}
 use Rattle.oneshot_machine.specs.declared.states.Op.TheVariants.{Exchange}
+use Rattle.oneshot_machine.specs.declared.states.TheConstants.{RECEIVING, EMPTY, MESSAGE}
 use Rattle.oneshot_machine.specs.Logs.{Event, Log, Grows, receiver_of}
 use Rattle.oneshot_machine.specs.TableRows.{Outcome, Goes, Answers}
 use Rattle.oneshot_machine.specs.Slots.{vacant, held, ReceiverMay}
@@ -88,7 +89,7 @@ poll_end _ = Answers R.Disconnected
 
 -- the receiver's state then
 abbrev pub EndsPoll : {T W : Type 0} → Found → GroundState T W → Type 0
-EndsPoll F.Message s = (g : Got) × (word_of g ≡ 4) × Stands (full g) s
+EndsPoll F.Message s = (g : Got) × (word_of g ≡ MESSAGE) × Stands (full g) s
 EndsPoll F.Closed s = StandsIn IsClosedAt s
 EndsPoll F.Unclosed s = ⊥
 EndsPoll {T} F.Nothing s = StandsIn (LeavesPolled {T = T} Pending) s
@@ -96,7 +97,7 @@ EndsPoll {T} F.Nothing s = StandsIn (LeavesPolled {T = T} Pending) s
 -- the waker's slot is empty, and with a copy in it the receiver may exchange 3 for 0
 pub record MayLeave {T W : Type 0} (s : GroundState T W) : Type 0 where
   pub room : s.waker ≡ vacant
-  pub asks : (copy : W) → ReceiverMay (receiver_of s.log) (Exchange 3 0) s.message (held copy)
+  pub asks : (copy : W) → ReceiverMay (receiver_of s.log) (Exchange EMPTY RECEIVING) s.message (held copy)
 
 -- the disconnected error
 pub data IsDisconnected {T : Type 0} : Poll (Result T RecvError) → Type 0 where

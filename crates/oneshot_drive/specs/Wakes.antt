@@ -10,11 +10,12 @@ use Rattle.oneshot_machine.specs.Logs.{Event, Log, words}
 use Rattle.oneshot_machine.specs.Noted.{Noted}
 use Rattle.oneshot_machine.specs.Runs.{SenderRan}
 use Rattle.oneshot_machine.specs.TableRows.{is_same_seen}
+use Rattle.oneshot_machine.specs.declared.states.TheConstants.{RECEIVING}
 
 -- whether one of these operations found the receiver waiting
 abbrev pub finds_waiting : List Noted → Bool
 finds_waiting [] = false
-finds_waiting (x ∷ xs) = is_same_seen x.1 (Word 0) || finds_waiting xs
+finds_waiting (x ∷ xs) = is_same_seen x.1 (Word RECEIVING) || finds_waiting xs
 
 abbrev pub when_taken : {W : Type 0} → Step → Option W → Option W
 when_taken TakeWaker waker = waker

@@ -14,6 +14,7 @@ use Rattle.oneshot_machine.specs.declared.machine.Seen.TheVariants.{Done, Word}
 use Rattle.oneshot_machine.specs.declared.machine.receiver.ReceiverStart.TheVariants.{TryRecv}
 use Rattle.oneshot_machine.specs.declared.machine.sender.SenderCall.TheVariants.{Send}
 use Rattle.oneshot_machine.specs.declared.states.Op.TheVariants.{Load, Store, Swap, Exchange, Add}
+use Rattle.oneshot_machine.specs.declared.states.TheConstants.{RECEIVING, DISCONNECTED, EMPTY, MESSAGE}
 use Rattle.oneshot_machine.specs.Called.{as_receiver, as_future}
 use Rattle.oneshot_machine.specs.Logs.{worded}
 use Rattle.oneshot_machine.specs.Noted.{Noted}
@@ -31,13 +32,13 @@ use Rattle.oneshot_ends.specs.Polling.{token_of, polled_state}
 
 -- LOGS: of a receive whose deadline was over, of one that took the message, and of a poll that stored its copy
 abbrev pub ran_out : List Noted
-ran_out = (Load, Word 3) ∷ (Swap 0, Word 3) ∷ (Swap 3, Word 0) ∷ []
+ran_out = (Load, Word EMPTY) ∷ (Swap RECEIVING, Word EMPTY) ∷ (Swap EMPTY, Word RECEIVING) ∷ []
 
 abbrev pub received : List Noted
-received = (Load, Word 4) ∷ (Store 2, Done) ∷ []
+received = (Load, Word MESSAGE) ∷ (Store DISCONNECTED, Done) ∷ []
 
 abbrev pub polled : List Noted
-polled = (Load, Word 3) ∷ (Exchange 3 0, Word 3) ∷ []
+polled = (Load, Word EMPTY) ∷ (Exchange EMPTY RECEIVING, Word EMPTY) ∷ []
 
 -- OPEN AND CLOSED
 module _ (table : TableId) where
@@ -55,35 +56,35 @@ module _ (table : TableId) where
 
   pub record EndsThatAre : Type 0 where
     pub new_is_open : IsOpen (end_with [])
-    pub looked_is_open : IsOpen (end_with ((Load, Word 3) ∷ []))
+    pub looked_is_open : IsOpen (end_with ((Load, Word EMPTY) ∷ []))
     pub ran_out_is_open : IsOpen (end_with ran_out)
     pub received_is_closed : IsClosed (end_with received)
-    pub found_closed_is_closed : IsClosed (end_with ((Load, Word 2) ∷ []))
+    pub found_closed_is_closed : IsClosed (end_with ((Load, Word DISCONNECTED) ∷ []))
     pub new_is_unfinished : IsUnfinished (future_with [])
     pub polled_is_unfinished : IsUnfinished (future_with polled)
     pub received_is_done : IsDone (future_with (polled ++ received))
-    pub sender_is_gone : IsDone (future_with (polled ++ (Load, Word 2) ∷ []))
-    pub error_was_refused : WasRefused ℕ (error_with ((Add, Word 2) ∷ [])).log
+    pub sender_is_gone : IsDone (future_with (polled ++ (Load, Word DISCONNECTED) ∷ []))
+    pub error_was_refused : WasRefused ℕ (error_with ((Add, Word DISCONNECTED) ∷ [])).log
 
   pub record EndsThatAreNot : Type 0 where
     pub new_is_closed : IsClosed (end_with []) → ⊥
     pub ran_out_is_closed : IsClosed (end_with ran_out) → ⊥
     pub received_is_open : IsOpen (end_with received) → ⊥
-    pub found_closed_is_open : IsOpen (end_with ((Load, Word 2) ∷ [])) → ⊥
-    pub takes_and_is_open : IsOpen (end_with ((Load, Word 4) ∷ [])) → ⊥
+    pub found_closed_is_open : IsOpen (end_with ((Load, Word DISCONNECTED) ∷ [])) → ⊥
+    pub takes_and_is_open : IsOpen (end_with ((Load, Word MESSAGE) ∷ [])) → ⊥
     pub polled_is_done : IsDone (future_with polled) → ⊥
     pub received_is_unfinished : IsUnfinished (future_with (polled ++ received)) → ⊥
-    pub sender_is_gone_and_it_waits : IsUnfinished (future_with (polled ++ (Load, Word 2) ∷ [])) → ⊥
+    pub sender_is_gone_and_it_waits : IsUnfinished (future_with (polled ++ (Load, Word DISCONNECTED) ∷ [])) → ⊥
 
 -- THE LOG OF A CALL
 module _ (T : Type 0) where
   pub record CallsThatGrow : Type 0 where
-    pub sends : SenderGrew T Send [] ((Add, Word 3) ∷ []) Sent
-    pub is_refused : SenderGrew T Send [] ((Add, Word 2) ∷ []) Refused
-    pub was_refused : WasRefused T ((Add, Word 2) ∷ [])
-    pub tries : ReceiverGrew T TryRecv ((Load, Word 3) ∷ []) ((Load, Word 3) ∷ (Load, Word 3) ∷ []) Empty
+    pub sends : SenderGrew T Send [] ((Add, Word EMPTY) ∷ []) Sent
+    pub is_refused : SenderGrew T Send [] ((Add, Word DISCONNECTED) ∷ []) Refused
+    pub was_refused : WasRefused T ((Add, Word DISCONNECTED) ∷ [])
+    pub tries : ReceiverGrew T TryRecv ((Load, Word EMPTY) ∷ []) ((Load, Word EMPTY) ∷ (Load, Word EMPTY) ∷ []) Empty
     pub takes : ReceiverGrew T TryRecv [] received Message
-    pub has_tried : HasCalls T as_receiver ((Load, Word 3) ∷ [])
+    pub has_tried : HasCalls T as_receiver ((Load, Word EMPTY) ∷ [])
     pub has_not_polled : HasCalls T as_future []
     -- a timeout whose clock failed, and one whose end an instant can hold
     pub runs_out_at_once : (timeout : Duration) → TimeoutGrew T timeout [] ran_out Timeout
@@ -91,12 +92,12 @@ module _ (T : Type 0) where
         → FitsClock (instant_nanos now + as_nanos timeout) → TimeoutRan T timeout (Some now) [] ran_out Timeout
 
   pub record CallsThatDoNot : Type 0 where
-    pub says_that_it_sent : SenderGrew T Send [] ((Add, Word 2) ∷ []) Sent → ⊥
-    pub says_that_it_was_refused : SenderGrew T Send [] ((Add, Word 3) ∷ []) Refused → ⊥
-    pub was_not_refused : WasRefused T ((Add, Word 3) ∷ []) → ⊥
-    pub forgets_its_add : SenderGrew T Send ((Add, Word 3) ∷ []) [] Sent → ⊥
-    pub finds_the_message_in_3 : ReceiverGrew T TryRecv [] ((Load, Word 3) ∷ []) Message → ⊥
-    pub forgets_its_load : ReceiverGrew T TryRecv ((Load, Word 3) ∷ []) [] Empty → ⊥
+    pub says_that_it_sent : SenderGrew T Send [] ((Add, Word DISCONNECTED) ∷ []) Sent → ⊥
+    pub says_that_it_was_refused : SenderGrew T Send [] ((Add, Word EMPTY) ∷ []) Refused → ⊥
+    pub was_not_refused : WasRefused T ((Add, Word EMPTY) ∷ []) → ⊥
+    pub forgets_its_add : SenderGrew T Send ((Add, Word EMPTY) ∷ []) [] Sent → ⊥
+    pub finds_the_message_in_3 : ReceiverGrew T TryRecv [] ((Load, Word EMPTY) ∷ []) Message → ⊥
+    pub forgets_its_load : ReceiverGrew T TryRecv ((Load, Word EMPTY) ∷ []) [] Empty → ⊥
     pub looks_at_nothing : ReceiverGrew T TryRecv [] [] Empty → ⊥
     -- no instant can hold the sum
     pub runs_out_of_no_end : (timeout : Duration) (now : Instant) (log : List Noted)
@@ -104,11 +105,11 @@ module _ (T : Type 0) where
 
 -- LOGS THAT HAVE AN ORDER with some log of the other end
 pub record OrdersThatAre : Type 0 where
-  pub sent : SenderIsOrdered ((Add, Word 3) ∷ [])
-  pub looked : ReceiverIsOrdered ((Load, Word 3) ∷ [])
+  pub sent : SenderIsOrdered ((Add, Word EMPTY) ∷ [])
+  pub looked : ReceiverIsOrdered ((Load, Word EMPTY) ∷ [])
 
 pub record OrdersThatAreNot : Type 0 where
-  pub sent_over_a_message : SenderIsOrdered ((Add, Word 4) ∷ []) → ⊥
+  pub sent_over_a_message : SenderIsOrdered ((Add, Word MESSAGE) ∷ []) → ⊥
 
 -- DEADLINES
 pub record DeadlinesThatAre : Type 0 where
@@ -178,7 +179,7 @@ module _ (table : TableId) where
     pub no_copy : token_of {W = ℕ} vacant ≡ vacant
     -- its state: the operations of its log alone, with the names of its table and of what was lent
     pub shows_operations :
-        (state_of (side_with received)).log.list ≡ worded Load 4 ∷ worded (Store 2) 4 ∷ []
+        (state_of (side_with received)).log.list ≡ worded Load MESSAGE ∷ worded (Store DISCONNECTED) MESSAGE ∷ []
     pub is_not_whole : (state_of (side_with [])).log.whole ≡ false
     pub names_its_table : (state_of (side_with [])).log.channel ≡ channel_of table
     pub names_what_was_lent : (lent (9 ∷ []) (side_with [])).log.channel ≡ 9 ∷ channel_of table
@@ -192,4 +193,5 @@ module _ (table : TableId) where
     pub frees_once_gone : MayBeFreed true gone → ⊥
     pub new_with_a_message : IsNewSender (side_with []) → ⊥
     pub new_with_its_waker : IsNewReceiver (side_with []) → ⊥
-    pub new_with_a_log : IsNewSender (record (side_with ((Add, Word 3) ∷ [])) { message = vacant; waker = away }) → ⊥
+    pub new_with_a_log :
+        IsNewSender (record (side_with ((Add, Word EMPTY) ∷ [])) { message = vacant; waker = away }) → ⊥

@@ -4,6 +4,7 @@ use Rattle.atomic_table.specs.Seated.{TableId}
 use Rattle.crossbeam_utils.specs.Token.{IsSamePass}
 use Rattle.oneshot_machine.specs.declared.machine.Seen.TheVariants.{Word}
 use Rattle.oneshot_machine.specs.declared.states.Op.TheVariants.{Load, Add, Xor}
+use Rattle.oneshot_machine.specs.declared.states.TheConstants.{RECEIVING, UNPARKING, EMPTY}
 use Rattle.oneshot_machine.specs.Noted.{Noted}
 use Rattle.oneshot_machine.specs.Phases.{sending, receiver_at}
 use Rattle.oneshot_machine.specs.Slots.{away, held}
@@ -35,7 +36,7 @@ side_with log k =
 
 -- a `send` that found the receiver waiting
 abbrev pub sent_to_it : List Noted
-sent_to_it = sent_over 1
+sent_to_it = sent_over UNPARKING
 
 -- the sender that has given its message by it, and used this half
 abbrev pub sender_of_it : WakingHalf → Given → Sending ⊤ RealWaker ⊤
@@ -47,15 +48,15 @@ sender_of_it half given =
 pub record UsesThatAre : Type 0 where
   pub woke_it : (s : Sending ⊤ (AnyWaker WakingHalf ℕ) ⊤) (half : WakingHalf) (given : Given)
       → s.side.handed ≡ Some (Thread half) → s.given ≡ Some given → IsSamePass half.pass given.pass → HasWoken s
-  pub nobody_waits : (s : Sending ⊤ (AnyWaker WakingHalf ℕ) ⊤) → s.side.log ≡ (Add, Word 3) ∷ [] → HasWoken s
+  pub nobody_waits : (s : Sending ⊤ (AnyWaker WakingHalf ℕ) ⊤) → s.side.log ≡ (Add, Word EMPTY) ∷ [] → HasWoken s
   pub of_its_parker : (p : ParkingView) (half : WakingHalf) → half.pass.table_id ≡ p.parker
       → IsHalfOf {K = ℕ} p.parker (Thread half)
   pub of_nobody : (k : RealWaker) → k ≡ Nobody → IsNoThread k
   pub its_own : (half : WakingHalf) → IsHalfOf {K = ℕ} half.pass.table_id (Thread half)
   pub waits : is_waiting (receiver_at blocks) ≡ true
-  pub is_overdue : is_waiting (receiver_at (stopped_over 1)) ≡ true
-  pub found_the_sender : is_waiting (receiver_at (polled ++ (Load, Word 1) ∷ [])) ≡ true
-  pub stopped_in_time : is_waiting (receiver_at (stopped_over 0)) ≡ false
+  pub is_overdue : is_waiting (receiver_at (stopped_over UNPARKING)) ≡ true
+  pub found_the_sender : is_waiting (receiver_at (polled ++ (Load, Word UNPARKING) ∷ [])) ≡ true
+  pub stopped_in_time : is_waiting (receiver_at (stopped_over RECEIVING)) ≡ false
   pub is_new : is_waiting (receiver_at []) ≡ false
   pub gives_its_own : (s : Side ⊤ (AnyWaker WakingHalf ℕ) ⊤) (half : WakingHalf) → s.log ≡ blocks → s.waker ≡ away
       → s.handed ≡ Some (Thread half) → WaitsByHalvesOf half.pass.table_id s
@@ -96,7 +97,7 @@ pub record UsesThatAreNot : Type 0 where
   pub is_fresh : (s : Sending ⊤ (AnyWaker WakingHalf ℕ) ⊤) → s.side.log ≡ [] → HasEnded sending s → ⊥
   pub ended_unwoken : (s : Sending ⊤ (AnyWaker WakingHalf ℕ) ⊤) (half : WakingHalf) → s.side.log ≡ sent_to_it
       → s.side.handed ≡ Some (Thread half) → s.given ≡ None → HasEnded sending s → ⊥
-  pub dropped_instead : (s : Sending ⊤ (AnyWaker WakingHalf ℕ) ⊤) → s.side.log ≡ (Xor, Word 3) ∷ []
+  pub dropped_instead : (s : Sending ⊤ (AnyWaker WakingHalf ℕ) ⊤) → s.side.log ≡ (Xor, Word EMPTY) ∷ []
       → HasEnded sending s → ⊥
   pub took_another : (k other : RealWaker) → k ≢ other
       → AtOneMoment {P = ⊤} (λ about message. ⊤) (side_with claims other) (side_with blocks k) → ⊥

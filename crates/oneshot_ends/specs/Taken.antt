@@ -11,6 +11,7 @@ use Rattle.oneshot_machine.specs.TableRows.{is_same_seen}
 use Rattle.oneshot_word.specs.declared.any_waker.AnyWaker.{AnyWaker}
 use Rattle.oneshot_word.specs.Received.{both_views}
 use Rattle.oneshot_word.specs.Rule.{Home, Tied}
+use Rattle.oneshot_machine.specs.declared.states.TheConstants.{MESSAGE}
 
 -- a message that was taken is still the one
 abbrev pub StaysTaken : {T : Type 0} → Option T → Option T → Type 0
@@ -18,7 +19,7 @@ StaysTaken {T} before after = (x : T) → before ≡ Some x → after ≡ Some x
 
 -- whether one of these operations found the message
 abbrev pub has_found : List Noted → Bool
-has_found = list_any (λ x. is_same_seen x.1 (Word 4))
+has_found = list_any (λ x. is_same_seen x.1 (Word MESSAGE))
 
 -- a receiver has taken a message exactly if its log has an operation that found one
 abbrev pub TookAsFound : {T : Type 0} → Option T → List Noted → Type 0

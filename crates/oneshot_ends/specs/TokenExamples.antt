@@ -6,6 +6,7 @@ use Rattle.std.specs.declared.time.Instant.{Instant}
 use Rattle.std.specs.Time.{instant_nanos}
 use Rattle.oneshot_machine.specs.declared.machine.Step.TheVariants.{TakeWaker, Wake}
 use Rattle.oneshot_machine.specs.declared.states.Op.TheVariants.{Add, Swap}
+use Rattle.oneshot_machine.specs.declared.states.TheConstants.{RECEIVING, UNPARKING, EMPTY, MESSAGE}
 use Rattle.oneshot_machine.specs.Logs.{Event, handed, worded}
 use Rattle.oneshot_drive.specs.Wakes.{Wakes}
 use Rattle.oneshot_word.specs.declared.any_waker.AnyWaker.TheVariants.{Thread, Task}
@@ -44,7 +45,7 @@ pub record LivesThatAreNot : Type 0 where
 
 -- a `send` that found a receiver waiting, up to the use of its waker, named 1
 abbrev pub up_to_its_wake : List (Event ⊤ ℕ) → List (Event ⊤ ℕ)
-up_to_its_wake rest = worded Add 0 ∷ handed TakeWaker 1 ∷ worded (Swap 4) 1 ∷ rest
+up_to_its_wake rest = worded Add RECEIVING ∷ handed TakeWaker 1 ∷ worded (Swap MESSAGE) UNPARKING ∷ rest
 
 abbrev pub any_wakes : ℕ → Type 0
 any_wakes waker = ⊤
@@ -54,7 +55,7 @@ none_wakes waker = ⊥
 
 pub record StepsThatWake : Type 0 where
   pub by_its_waker : Wakes any_wakes (up_to_its_wake (handed Wake 1 ∷ []))
-  pub nobody_waits : Wakes {T = ⊤} none_wakes (worded Add 3 ∷ [])
+  pub nobody_waits : Wakes {T = ⊤} none_wakes (worded Add EMPTY ∷ [])
 
 pub record StepsThatDoNot : Type 0 where
   pub leaves_it_out : Wakes any_wakes (up_to_its_wake []) → ⊥

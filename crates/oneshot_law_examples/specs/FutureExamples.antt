@@ -5,6 +5,7 @@ use Rattle.oneshot_machine.specs.declared.machine.End.TheVariants.{Sender, Recei
 use Rattle.oneshot_machine.specs.declared.machine.Reply.TheVariants as R
 use Rattle.oneshot_machine.specs.declared.machine.Step.TheVariants as T
 use Rattle.oneshot_machine.specs.declared.states.Op.TheVariants as O
+use Rattle.oneshot_machine.specs.declared.states.TheConstants.{DISCONNECTED, MESSAGE}
 use Rattle.oneshot_machine.specs.declared.machine.receiver.ReceiverStart.TheVariants as RC
 use Rattle.oneshot_world.specs.Calls as C
 use Rattle.oneshot_world.specs.declared.trace.Entry.TheVariants as E
@@ -187,10 +188,10 @@ freed_over_the_sender =
     record dropped_while_finishing {
       entries =
           take 8 dropped_while_finishing.entries
-          ++ E.Made (receiver (T.Word (O.Swap 2)) 1 2)
+          ++ E.Made (receiver (T.Word (O.Swap DISCONNECTED)) 1 2)
           ∷ E.Made (replying R.Done (frees Receiver 2))
           ∷ E.Made (carrying (Copy 1 3) W.Cell W.SenderHand (without_block Sender T.TakeWaker))
-          ∷ E.Made (without_block Sender (T.Word (O.Swap 4)))
+          ∷ E.Made (without_block Sender (T.Word (O.Swap MESSAGE)))
           ∷ E.Made (replying R.Sent (carrying (Copy 1 3) W.SenderHand W.Used (without_block Sender T.Wake)))
           ∷ [];
     }

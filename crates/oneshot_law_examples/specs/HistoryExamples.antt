@@ -5,6 +5,7 @@ use Rattle.oneshot_machine.specs.declared.machine.End.TheVariants.{Sender, Recei
 use Rattle.oneshot_machine.specs.declared.machine.Reply.TheVariants as R
 use Rattle.oneshot_machine.specs.declared.machine.Step.TheVariants as T
 use Rattle.oneshot_machine.specs.declared.states.Op.TheVariants as O
+use Rattle.oneshot_machine.specs.declared.states.TheConstants.{EMPTY}
 use Rattle.oneshot_world.specs.declared.trace.Entry.TheVariants as E
 use Rattle.oneshot_laws.specs.Object.{Action, Send, Sender_gone, Take, Take_and_go, Look_receiver_gone, Receiver_gone, Answer, Accepted, Returned, Message, Gone, Nothing_yet, Yes, Finished, Object, new_object, object_after, answer_of}
 use Rattle.oneshot_laws.specs.Marks.{marks}
@@ -85,7 +86,7 @@ IllegalTraces =
     ∷ answered_by 6 R.Done taken_from_the_error
     ∷ answered_by 5 R.Message dropped_with_the_error
     -- the receiver's drop leaves the channel open
-    ∷ operating_at 1 (O.Swap 3) 3 3 both_dropped
+    ∷ operating_at 1 (O.Swap EMPTY) 3 3 both_dropped
     -- a step of no call
     ∷ record nothing_to_do { entries = E.Made (sender T.WriteMessage 3 3) ∷ [] }
     ∷ []

@@ -4,6 +4,7 @@ use Rattle.std.specs.List.{list_all}
 use Rattle.oneshot_machine.specs.declared.machine.Reply.TheVariants as R
 use Rattle.oneshot_machine.specs.declared.machine.Step.TheVariants as T
 use Rattle.oneshot_machine.specs.declared.states.Op.TheVariants as O
+use Rattle.oneshot_machine.specs.declared.states.TheConstants.{RECEIVING, EMPTY, MESSAGE}
 use Rattle.oneshot_world.specs.declared.trace.Entry.TheVariants as E
 use Rattle.oneshot_world.specs.declared.trace.Place.TheVariants as P
 use Rattle.oneshot_world.specs.declared.trace.WakerName.TheVariants.{Copy}
@@ -23,7 +24,7 @@ wakes_the_first_task =
           ++ E.Made (moving P.NotSent P.InCell (sender T.WriteMessage 0 0))
           ∷ E.Made (sender (T.Word O.Add) 0 1)
           ∷ E.Made (carrying (Copy 1 3) W.Cell W.SenderHand (sender T.TakeWaker 1 1))
-          ∷ E.Made (sender (T.Word (O.Swap 4)) 1 4)
+          ∷ E.Made (sender (T.Word (O.Swap MESSAGE)) 1 4)
           ∷ E.Made (replying R.Sent (carrying (Copy 1 3) W.SenderHand W.Used (sender T.Wake 4 4)))
           ∷ [];
     }
@@ -51,7 +52,7 @@ withdrawn_by_a_try =
       entries =
           take 5 tried_while_pending.entries
           ++ E.Made (receiver (T.Word O.Load) 0 0)
-          ∷ E.Made (receiver (T.Word (O.Exchange 0 3)) 0 3)
+          ∷ E.Made (receiver (T.Word (O.Exchange RECEIVING EMPTY)) 0 3)
           ∷ E.Made (replying R.Empty (carrying (Copy 1 3) W.Cell W.Dropped (receiver T.Withdraw 3 3)))
           ∷ E.Made (moving P.NotSent P.InCell (sender T.WriteMessage 3 3))
           ∷ E.Made (replying R.Sent (sender (T.Word O.Add) 3 4))

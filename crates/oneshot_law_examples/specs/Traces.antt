@@ -4,6 +4,7 @@ use Rattle.oneshot_machine.specs.declared.machine.End.TheVariants.{Sender, Recei
 use Rattle.oneshot_machine.specs.declared.machine.Reply.TheVariants as R
 use Rattle.oneshot_machine.specs.declared.machine.Step.TheVariants as T
 use Rattle.oneshot_machine.specs.declared.states.Op.TheVariants as O
+use Rattle.oneshot_machine.specs.declared.states.TheConstants.{RECEIVING, DISCONNECTED, EMPTY, MESSAGE}
 use Rattle.oneshot_machine.specs.declared.machine.receiver.ReceiverStart.TheVariants as RC
 use Rattle.oneshot_machine.specs.declared.machine.sender.SenderCall.TheVariants as SC
 use Rattle.oneshot_world.specs.Calls as C
@@ -28,9 +29,9 @@ sent_then_taken =
           E.Made (moving P.NotSent P.InCell (sender T.WriteMessage 3 3))
           ∷ E.Made (replying R.Sent (sender (T.Word O.Add) 3 4))
           ∷ E.Made (receiver (T.Word O.Load) 4 4)
-          ∷ E.Made (receiver (T.Word (O.Store 2)) 4 2)
+          ∷ E.Made (receiver (T.Word (O.Store DISCONNECTED)) 4 2)
           ∷ E.Made (replying R.Message (moving P.InCell P.Delivered (receiver T.TakeMessage 2 2)))
-          ∷ E.Made (receiver (T.Word (O.Swap 2)) 2 2)
+          ∷ E.Made (receiver (T.Word (O.Swap DISCONNECTED)) 2 2)
           ∷ E.Made (replying R.Done (frees Receiver 2))
           ∷ [];
     }
@@ -59,7 +60,7 @@ sent_to_nobody =
     record {
       calls = record { sender = C.Of_sender SC.Send ∷ []; error = []; receiver = C.Of_receiver RC.Drop ∷ [] };
       entries =
-          E.Made (replying R.Done (receiver (T.Word (O.Swap 2)) 3 2))
+          E.Made (replying R.Done (receiver (T.Word (O.Swap DISCONNECTED)) 3 2))
           ∷ E.Made (moving P.NotSent P.InCell (sender T.WriteMessage 2 2))
           ∷ E.Made (replying R.Refused (moving P.InCell P.InError (sender (T.Word O.Add) 2 3)))
           ∷ [];
@@ -73,7 +74,7 @@ both_dropped =
     record {
       calls = record { sender = C.Of_sender SC.Drop ∷ []; error = []; receiver = C.Of_receiver RC.Drop ∷ [] };
       entries =
-          E.Made (replying R.Done (receiver (T.Word (O.Swap 2)) 3 2))
+          E.Made (replying R.Done (receiver (T.Word (O.Swap DISCONNECTED)) 3 2))
           ∷ E.Made (sender (T.Word O.Xor) 2 3)
           ∷ E.Made (replying R.Done (frees Sender 3))
           ∷ [];
@@ -93,7 +94,7 @@ dropped_then_tried =
       entries =
           E.Made (replying R.Done (sender (T.Word O.Xor) 3 2))
           ∷ E.Made (replying R.Disconnected (receiver (T.Word O.Load) 2 2))
-          ∷ E.Made (receiver (T.Word (O.Swap 2)) 2 2)
+          ∷ E.Made (receiver (T.Word (O.Swap DISCONNECTED)) 2 2)
           ∷ E.Made (replying R.Done (frees Receiver 2))
           ∷ [];
     }
@@ -119,7 +120,7 @@ looked_at_both_ends =
           ∷ E.Made (replying R.Sent (sender (T.Word O.Add) 3 4))
           ∷ E.Made (replying R.Yes (receiver (T.Word O.Load) 4 4))
           ∷ E.Made (receiver (T.Word O.Load) 4 4)
-          ∷ E.Made (receiver (T.Word (O.Store 2)) 4 2)
+          ∷ E.Made (receiver (T.Word (O.Store DISCONNECTED)) 4 2)
           ∷ E.Made (replying R.Message (moving P.InCell P.Delivered (receiver T.TakeMessage 2 2)))
           ∷ E.Made (replying R.Yes (receiver (T.Word O.Load) 2 2))
           ∷ [];
@@ -139,7 +140,7 @@ taken_from_the_error =
             receiver = C.Of_receiver RC.Drop ∷ [];
           };
       entries =
-          E.Made (replying R.Done (receiver (T.Word (O.Swap 2)) 3 2))
+          E.Made (replying R.Done (receiver (T.Word (O.Swap DISCONNECTED)) 3 2))
           ∷ E.Made (moving P.NotSent P.InCell (sender T.WriteMessage 2 2))
           ∷ E.Made (replying R.Refused (moving P.InCell P.InError (sender (T.Word O.Add) 2 3)))
           ∷ E.Made (replying R.Message (sender T.Plain 3 3))
@@ -162,7 +163,7 @@ dropped_with_the_error =
         receiver = C.Of_receiver RC.Drop ∷ [];
       };
       entries =
-          E.Made (replying R.Done (receiver (T.Word (O.Swap 2)) 3 2))
+          E.Made (replying R.Done (receiver (T.Word (O.Swap DISCONNECTED)) 3 2))
           ∷ E.Made (moving P.NotSent P.InCell (sender T.WriteMessage 2 2))
           ∷ E.Made (replying R.Refused (moving P.InCell P.InError (sender (T.Word O.Add) 2 3)))
           ∷ E.Made (moving P.InError P.Dropped (sender T.DropMessage 3 3))
@@ -180,7 +181,7 @@ dropped_unread =
       entries =
           E.Made (moving P.NotSent P.InCell (sender T.WriteMessage 3 3))
           ∷ E.Made (replying R.Sent (sender (T.Word O.Add) 3 4))
-          ∷ E.Made (receiver (T.Word (O.Swap 2)) 4 2)
+          ∷ E.Made (receiver (T.Word (O.Swap DISCONNECTED)) 4 2)
           ∷ E.Made (moving P.InCell P.Dropped (receiver T.DropMessage 2 2))
           ∷ E.Made (replying R.Done (frees Receiver 2))
           ∷ [];
@@ -201,7 +202,7 @@ tried_again =
           E.Made (moving P.NotSent P.InCell (sender T.WriteMessage 3 3))
           ∷ E.Made (replying R.Sent (sender (T.Word O.Add) 3 4))
           ∷ E.Made (receiver (T.Word O.Load) 4 4)
-          ∷ E.Made (receiver (T.Word (O.Store 2)) 4 2)
+          ∷ E.Made (receiver (T.Word (O.Store DISCONNECTED)) 4 2)
           ∷ E.Made (replying R.Message (moving P.InCell P.Delivered (receiver T.TakeMessage 2 2)))
           ∷ E.Made (replying R.Disconnected (receiver (T.Word O.Load) 2 2))
           ∷ [];
@@ -241,7 +242,7 @@ sent_though_closed =
             receiver = C.Of_receiver RC.Drop ∷ [];
           };
       entries =
-          E.Made (replying R.Done (receiver (T.Word (O.Swap 2)) 3 2))
+          E.Made (replying R.Done (receiver (T.Word (O.Swap DISCONNECTED)) 3 2))
           ∷ E.Made (replying R.Yes (sender (T.Word O.Load) 2 2))
           ∷ E.Made (moving P.NotSent P.InCell (sender T.WriteMessage 2 2))
           ∷ E.Made (replying R.Refused (moving P.InCell P.InError (sender (T.Word O.Add) 2 3)))
@@ -275,13 +276,13 @@ waited_for_message =
       entries =
           E.Made (receiver (T.Word O.Load) 3 3)
           ∷ E.Made (carrying Parker W.Hand W.Cell (receiver T.WriteWaker 3 3))
-          ∷ E.Made (receiver (T.Word (O.Swap 0)) 3 0)
+          ∷ E.Made (receiver (T.Word (O.Swap RECEIVING)) 3 0)
           ∷ E.Made (moving P.NotSent P.InCell (sender T.WriteMessage 0 0))
           ∷ E.Made (sender (T.Word O.Add) 0 1)
           ∷ E.Made (carrying Parker W.Cell W.SenderHand (sender T.TakeWaker 1 1))
           ∷ E.Made (parked false 1)
           ∷ E.Made (receiver (T.Word O.Load) 1 1)
-          ∷ E.Made (sender (T.Word (O.Swap 4)) 1 4)
+          ∷ E.Made (sender (T.Word (O.Swap MESSAGE)) 1 4)
           ∷ E.Made (parked false 4)
           ∷ E.Made (receiver (T.Word O.Load) 4 4)
           ∷ E.Made (moving P.InCell P.Delivered (receiver T.TakeMessage 4 4))
@@ -302,9 +303,9 @@ sent_before_waiting =
           ∷ E.Made (carrying Parker W.Hand W.Cell (receiver T.WriteWaker 3 3))
           ∷ E.Made (moving P.NotSent P.InCell (sender T.WriteMessage 3 3))
           ∷ E.Made (replying R.Sent (sender (T.Word O.Add) 3 4))
-          ∷ E.Made (receiver (T.Word (O.Swap 0)) 4 0)
+          ∷ E.Made (receiver (T.Word (O.Swap RECEIVING)) 4 0)
           ∷ E.Made (carrying Parker W.Cell W.Hand (receiver T.Withdraw 0 0))
-          ∷ E.Made (receiver (T.Word (O.Store 2)) 0 2)
+          ∷ E.Made (receiver (T.Word (O.Store DISCONNECTED)) 0 2)
           ∷ E.Made (replying R.Message (moving P.InCell P.Delivered (receiver T.TakeMessage 2 2)))
           ∷ [];
     }
@@ -320,7 +321,7 @@ dropped_before_waiting =
           E.Made (receiver (T.Word O.Load) 3 3)
           ∷ E.Made (carrying Parker W.Hand W.Cell (receiver T.WriteWaker 3 3))
           ∷ E.Made (replying R.Done (sender (T.Word O.Xor) 3 2))
-          ∷ E.Made (receiver (T.Word (O.Swap 0)) 2 0)
+          ∷ E.Made (receiver (T.Word (O.Swap RECEIVING)) 2 0)
           ∷ E.Made (carrying Parker W.Cell W.Hand (receiver T.Withdraw 0 0))
           ∷ E.Made (replying R.Disconnected (frees Receiver 0))
           ∷ [];
@@ -340,14 +341,14 @@ woken_by_drop =
       entries =
           E.Made (receiver (T.Word O.Load) 3 3)
           ∷ E.Made (carrying Parker W.Hand W.Cell (receiver T.WriteWaker 3 3))
-          ∷ E.Made (receiver (T.Word (O.Swap 0)) 3 0)
+          ∷ E.Made (receiver (T.Word (O.Swap RECEIVING)) 3 0)
           ∷ E.Made (sender (T.Word O.Xor) 0 1)
           ∷ E.Made (carrying Parker W.Cell W.SenderHand (sender T.TakeWaker 1 1))
-          ∷ E.Made (sender (T.Word (O.Swap 2)) 1 2)
+          ∷ E.Made (sender (T.Word (O.Swap DISCONNECTED)) 1 2)
           ∷ E.Made (replying R.Done (setting_token (carrying Parker W.SenderHand W.Used (sender T.Wake 2 2))))
           ∷ E.Made (parked true 2)
           ∷ E.Made (replying R.Disconnected (receiver (T.Word O.Load) 2 2))
-          ∷ E.Made (receiver (T.Word (O.Swap 2)) 2 2)
+          ∷ E.Made (receiver (T.Word (O.Swap DISCONNECTED)) 2 2)
           ∷ E.Made (replying R.Done (frees Receiver 2))
           ∷ [];
     }
@@ -362,7 +363,7 @@ still_waiting =
       entries =
           E.Made (receiver (T.Word O.Load) 3 3)
           ∷ E.Made (carrying Parker W.Hand W.Cell (receiver T.WriteWaker 3 3))
-          ∷ E.Made (receiver (T.Word (O.Swap 0)) 3 0)
+          ∷ E.Made (receiver (T.Word (O.Swap RECEIVING)) 3 0)
           ∷ [];
     }
 
@@ -377,19 +378,19 @@ waited_past_its_deadline =
       entries =
           E.Made (receiver (T.Word O.Load) 3 3)
           ∷ E.Made (carrying Parker W.Hand W.Cell (receiver T.WriteWaker 3 3))
-          ∷ E.Made (receiver (T.Word (O.Swap 0)) 3 0)
+          ∷ E.Made (receiver (T.Word (O.Swap RECEIVING)) 3 0)
           ∷ E.Made (clocked true 0)
           ∷ E.Made (moving P.NotSent P.InCell (sender T.WriteMessage 0 0))
           ∷ E.Made (sender (T.Word O.Add) 0 1)
-          ∷ E.Made (receiver (T.Word (O.Swap 3)) 1 3)
+          ∷ E.Made (receiver (T.Word (O.Swap EMPTY)) 1 3)
           ∷ E.Made (parked false 3)
           ∷ E.Made (receiver (T.Word O.Load) 3 3)
           ∷ E.Made (carrying Parker W.Cell W.SenderHand (sender T.TakeWaker 3 3))
-          ∷ E.Made (sender (T.Word (O.Swap 4)) 3 4)
+          ∷ E.Made (sender (T.Word (O.Swap MESSAGE)) 3 4)
           ∷ E.Made (replying R.Sent (setting_token (carrying Parker W.SenderHand W.Used (sender T.Wake 4 4))))
           ∷ E.Made (parked true 4)
           ∷ E.Made (receiver (T.Word O.Load) 4 4)
-          ∷ E.Made (receiver (T.Word (O.Store 2)) 4 2)
+          ∷ E.Made (receiver (T.Word (O.Store DISCONNECTED)) 4 2)
           ∷ E.Made (replying R.Message (moving P.InCell P.Delivered (receiver T.TakeMessage 2 2)))
           ∷ [];
     }
@@ -404,15 +405,15 @@ sent_at_its_deadline =
       entries =
           E.Made (receiver (T.Word O.Load) 3 3)
           ∷ E.Made (carrying Parker W.Hand W.Cell (receiver T.WriteWaker 3 3))
-          ∷ E.Made (receiver (T.Word (O.Swap 0)) 3 0)
+          ∷ E.Made (receiver (T.Word (O.Swap RECEIVING)) 3 0)
           ∷ E.Made (clocked true 0)
           ∷ E.Made (moving P.NotSent P.InCell (sender T.WriteMessage 0 0))
           ∷ E.Made (sender (T.Word O.Add) 0 1)
           ∷ E.Made (carrying Parker W.Cell W.SenderHand (sender T.TakeWaker 1 1))
-          ∷ E.Made (sender (T.Word (O.Swap 4)) 1 4)
+          ∷ E.Made (sender (T.Word (O.Swap MESSAGE)) 1 4)
           ∷ E.Made (replying R.Sent (setting_token (carrying Parker W.SenderHand W.Used (sender T.Wake 4 4))))
-          ∷ E.Made (receiver (T.Word (O.Swap 3)) 4 3)
-          ∷ E.Made (receiver (T.Word (O.Store 2)) 3 2)
+          ∷ E.Made (receiver (T.Word (O.Swap EMPTY)) 4 3)
+          ∷ E.Made (receiver (T.Word (O.Store DISCONNECTED)) 3 2)
           ∷ E.Made (replying R.Message (moving P.InCell P.Delivered (receiver T.TakeMessage 2 2)))
           ∷ [];
     }
@@ -433,17 +434,17 @@ ran_out_then_taken =
           E.Made (clocked false 3)
           ∷ E.Made (receiver (T.Word O.Load) 3 3)
           ∷ E.Made (carrying Parker W.Hand W.Cell (receiver T.WriteWaker 3 3))
-          ∷ E.Made (receiver (T.Word (O.Swap 0)) 3 0)
+          ∷ E.Made (receiver (T.Word (O.Swap RECEIVING)) 3 0)
           ∷ E.Made (clocked false 0)
           ∷ E.Made (parked false 0)
           ∷ E.Made (receiver (T.Word O.Load) 0 0)
           ∷ E.Made (clocked true 0)
-          ∷ E.Made (receiver (T.Word (O.Swap 3)) 0 3)
+          ∷ E.Made (receiver (T.Word (O.Swap EMPTY)) 0 3)
           ∷ E.Made (replying R.Timeout (carrying Parker W.Cell W.Hand (receiver T.Withdraw 3 3)))
           ∷ E.Made (moving P.NotSent P.InCell (sender T.WriteMessage 3 3))
           ∷ E.Made (replying R.Sent (sender (T.Word O.Add) 3 4))
           ∷ E.Made (receiver (T.Word O.Load) 4 4)
-          ∷ E.Made (receiver (T.Word (O.Store 2)) 4 2)
+          ∷ E.Made (receiver (T.Word (O.Store DISCONNECTED)) 4 2)
           ∷ E.Made (replying R.Message (moving P.InCell P.Delivered (receiver T.TakeMessage 2 2)))
           ∷ [];
     }
@@ -465,12 +466,12 @@ never_ran_out =
           E.Made (clocked true 3)
           ∷ E.Made (receiver (T.Word O.Load) 3 3)
           ∷ E.Made (carrying Parker W.Hand W.Cell (receiver T.WriteWaker 3 3))
-          ∷ E.Made (receiver (T.Word (O.Swap 0)) 3 0)
+          ∷ E.Made (receiver (T.Word (O.Swap RECEIVING)) 3 0)
           ∷ E.Made (parked false 0)
           ∷ E.Made (receiver (T.Word O.Load) 0 0)
           ∷ E.Made (sender (T.Word O.Xor) 0 1)
           ∷ E.Made (carrying Parker W.Cell W.SenderHand (sender T.TakeWaker 1 1))
-          ∷ E.Made (sender (T.Word (O.Swap 2)) 1 2)
+          ∷ E.Made (sender (T.Word (O.Swap DISCONNECTED)) 1 2)
           ∷ E.Made (parked false 2)
           ∷ E.Made (replying R.Disconnected (receiver (T.Word O.Load) 2 2))
           ∷ [];
@@ -490,11 +491,11 @@ ran_out_then_dropped =
       entries =
           E.Made (receiver (T.Word O.Load) 3 3)
           ∷ E.Made (carrying Parker W.Hand W.Cell (receiver T.WriteWaker 3 3))
-          ∷ E.Made (receiver (T.Word (O.Swap 0)) 3 0)
+          ∷ E.Made (receiver (T.Word (O.Swap RECEIVING)) 3 0)
           ∷ E.Made (clocked true 0)
-          ∷ E.Made (receiver (T.Word (O.Swap 3)) 0 3)
+          ∷ E.Made (receiver (T.Word (O.Swap EMPTY)) 0 3)
           ∷ E.Made (replying R.Timeout (carrying Parker W.Cell W.Hand (receiver T.Withdraw 3 3)))
-          ∷ E.Made (replying R.Done (receiver (T.Word (O.Swap 2)) 3 2))
+          ∷ E.Made (replying R.Done (receiver (T.Word (O.Swap DISCONNECTED)) 3 2))
           ∷ E.Made (sender (T.Word O.Xor) 2 3)
           ∷ E.Made (replying R.Done (frees Sender 3))
           ∷ [];
@@ -511,7 +512,7 @@ sent_before_its_deadline =
           E.Made (moving P.NotSent P.InCell (sender T.WriteMessage 3 3))
           ∷ E.Made (replying R.Sent (sender (T.Word O.Add) 3 4))
           ∷ E.Made (receiver (T.Word O.Load) 4 4)
-          ∷ E.Made (receiver (T.Word (O.Store 2)) 4 2)
+          ∷ E.Made (receiver (T.Word (O.Store DISCONNECTED)) 4 2)
           ∷ E.Made (replying R.Message (moving P.InCell P.Delivered (receiver T.TakeMessage 2 2)))
           ∷ [];
     }
@@ -526,14 +527,14 @@ dropped_at_its_deadline =
       entries =
           E.Made (receiver (T.Word O.Load) 3 3)
           ∷ E.Made (carrying Parker W.Hand W.Cell (receiver T.WriteWaker 3 3))
-          ∷ E.Made (receiver (T.Word (O.Swap 0)) 3 0)
+          ∷ E.Made (receiver (T.Word (O.Swap RECEIVING)) 3 0)
           ∷ E.Made (clocked true 0)
           ∷ E.Made (sender (T.Word O.Xor) 0 1)
           ∷ E.Made (carrying Parker W.Cell W.SenderHand (sender T.TakeWaker 1 1))
-          ∷ E.Made (sender (T.Word (O.Swap 2)) 1 2)
+          ∷ E.Made (sender (T.Word (O.Swap DISCONNECTED)) 1 2)
           ∷ E.Made (replying R.Done (setting_token (carrying Parker W.SenderHand W.Used (sender T.Wake 2 2))))
-          ∷ E.Made (receiver (T.Word (O.Swap 3)) 2 3)
-          ∷ E.Made (replying R.Disconnected (receiver (T.Word (O.Store 2)) 3 2))
+          ∷ E.Made (receiver (T.Word (O.Swap EMPTY)) 2 3)
+          ∷ E.Made (replying R.Disconnected (receiver (T.Word (O.Store DISCONNECTED)) 3 2))
           ∷ [];
     }
 

@@ -3,6 +3,7 @@ use Rattle.std.specs.Prelude.{◌≡◌, ℕ, ◌+◌, Bool, true, false, not, �
 use Rattle.oneshot_machine.specs.declared.machine.Reply.TheVariants as R
 use Rattle.oneshot_machine.specs.declared.machine.Step.TheVariants as T
 use Rattle.oneshot_machine.specs.declared.states.Op.TheVariants as O
+use Rattle.oneshot_machine.specs.declared.states.TheConstants.{MESSAGE}
 use Rattle.oneshot_world.specs.World.{World, opening_with, turn}
 use Rattle.oneshot_world.specs.declared.trace.Entry.TheVariants as E
 use Rattle.oneshot_world.specs.declared.trace.Entry.{Entry}
@@ -71,7 +72,7 @@ woken_too_soon =
           ++ E.Made (setting_token (carrying Parker W.SenderHand W.Used (sender T.Wake 1 1)))
           ∷ E.Made (parked true 1)
           ∷ E.Made (receiver (T.Word O.Load) 1 1)
-          ∷ E.Made (replying R.Sent (sender (T.Word (O.Swap 4)) 1 4))
+          ∷ E.Made (replying R.Sent (sender (T.Word (O.Swap MESSAGE)) 1 4))
           ∷ take 4 (drop 9 waited_for_message.entries);
     }
 

@@ -11,6 +11,7 @@ use Rattle.oneshot_world.specs.declared.trace.Made.{Made}
 use Rattle.oneshot_laws.specs.Entries.{is_same_end, is_nothing_yet, is_word, is_load, is_add_or_xor, is_swap, is_swap_of, found}
 use Rattle.oneshot_laws.specs.Object.{Action, Send, Sender_gone, Take, Take_and_go, Look_full, Look_closed, Look_receiver_gone, Receiver_gone, Object, new_object}
 use Rattle.oneshot_laws.specs.Actions.{action_of, stepped}
+use Rattle.oneshot_machine.specs.declared.states.TheConstants.{DISCONNECTED, EMPTY, MESSAGE}
 
 -- The acting entry of a call is the first, or the last, of its entries that pass a test; a call that is no
 -- step of the object has none.
@@ -24,16 +25,16 @@ loads e = is_load e.step
 
 -- an add or a flip that found 3 or 2, or else the final swap: a call has only one
 abbrev pub finishes : Made → Bool
-finishes e = is_add_or_xor e.step && (found 3 e.before || found 2 e.before) || is_swap e.step
+finishes e = is_add_or_xor e.step && (found EMPTY e.before || found DISCONNECTED e.before) || is_swap e.step
 
 abbrev pub works_on_word : Made → Bool
 works_on_word e = is_word e.step
 
 abbrev pub finds_full_or_closed : Made → Bool
-finds_full_or_closed e = is_word e.step && (found 4 e.before || found 2 e.before)
+finds_full_or_closed e = is_word e.step && (found MESSAGE e.before || found DISCONNECTED e.before)
 
 abbrev pub swaps_closed_in : Made → Bool
-swaps_closed_in e = is_swap_of 2 e.step
+swaps_closed_in e = is_swap_of DISCONNECTED e.step
 
 -- A receive that replies "nothing yet" acts at its last operation on the word. Any other receive, also one
 -- that has not replied, acts where it first finds 4 or 2.

@@ -10,34 +10,35 @@ use Rattle.oneshot_machine.specs.declared.machine.Seen.TheVariants.{Done, Word}
 use Rattle.oneshot_machine.specs.declared.machine.Step.{Step}
 use Rattle.oneshot_machine.specs.declared.machine.Step.TheVariants as T
 use Rattle.oneshot_machine.specs.declared.states.Op.TheVariants as O
+use Rattle.oneshot_machine.specs.declared.states.TheConstants.{RECEIVING, UNPARKING, DISCONNECTED, EMPTY, MESSAGE}
 use Rattle.oneshot_machine.specs.TableRows.{Goes, Answers, Rows}
 
 abbrev pub async_drop_step : AsyncDropPos → Step
 async_drop_step AsyncLoad = T.Word O.Load
-async_drop_step AsyncExchange = T.Word (O.Exchange 0 3)
+async_drop_step AsyncExchange = T.Word (O.Exchange RECEIVING EMPTY)
 async_drop_step AsyncBack = T.Withdraw
-async_drop_step AsyncSwap = T.Word (O.Swap 2)
+async_drop_step AsyncSwap = T.Word (O.Swap DISCONNECTED)
 
 abbrev pub async_drop_rows : AsyncDropPos → Rows ReceiverPos
 async_drop_rows AsyncLoad =
-    (Word 0, Goes (AsyncDrop AsyncExchange))
-    ∷ (Word 1, Goes (AsyncDrop AsyncSwap))
-    ∷ (Word 2, Goes (AsyncDrop AsyncSwap))
-    ∷ (Word 3, Goes (AsyncDrop AsyncSwap))
-    ∷ (Word 4, Goes (AsyncDrop AsyncSwap))
+    (Word RECEIVING, Goes (AsyncDrop AsyncExchange))
+    ∷ (Word UNPARKING, Goes (AsyncDrop AsyncSwap))
+    ∷ (Word DISCONNECTED, Goes (AsyncDrop AsyncSwap))
+    ∷ (Word EMPTY, Goes (AsyncDrop AsyncSwap))
+    ∷ (Word MESSAGE, Goes (AsyncDrop AsyncSwap))
     ∷ []
 async_drop_rows AsyncExchange =
-    (Word 0, Goes (AsyncDrop AsyncBack))
-    ∷ (Word 1, Goes (AsyncDrop AsyncSwap))
-    ∷ (Word 2, Goes (AsyncDrop AsyncSwap))
-    ∷ (Word 4, Goes (AsyncDrop AsyncSwap))
+    (Word RECEIVING, Goes (AsyncDrop AsyncBack))
+    ∷ (Word UNPARKING, Goes (AsyncDrop AsyncSwap))
+    ∷ (Word DISCONNECTED, Goes (AsyncDrop AsyncSwap))
+    ∷ (Word MESSAGE, Goes (AsyncDrop AsyncSwap))
     ∷ []
 async_drop_rows AsyncBack = (Done, Goes (AsyncDrop AsyncSwap)) ∷ []
 async_drop_rows AsyncSwap =
-    (Word 3, Answers R.Done)
-    ∷ (Word 1, Answers R.Done)
-    ∷ (Word 4, Goes (Drop DropMessage))
-    ∷ (Word 2, Goes (Drop DropFree))
+    (Word EMPTY, Answers R.Done)
+    ∷ (Word UNPARKING, Answers R.Done)
+    ∷ (Word MESSAGE, Goes (Drop DropMessage))
+    ∷ (Word DISCONNECTED, Goes (Drop DropFree))
     ∷ []
 
 -- the positions, and the number of each in their list

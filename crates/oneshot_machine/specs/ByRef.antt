@@ -11,12 +11,13 @@ use Rattle.oneshot_machine.specs.declared.machine.Seen.TheVariants.{Done, Word, 
 use Rattle.oneshot_machine.specs.declared.machine.Step.{Step}
 use Rattle.oneshot_machine.specs.declared.machine.Step.TheVariants as T
 use Rattle.oneshot_machine.specs.declared.states.Op.TheVariants as O
+use Rattle.oneshot_machine.specs.declared.states.TheConstants.{RECEIVING, UNPARKING, DISCONNECTED, EMPTY, MESSAGE}
 use Rattle.oneshot_machine.specs.TableRows.{Goes, Answers, Rows}
 
 abbrev pub ref_step : RefPos → Step
 ref_step (StartLoad timed) = T.Word O.Load
 ref_step (StartWrite timed) = T.WriteWaker
-ref_step (StartSwap timed) = T.Word (O.Swap 0)
+ref_step (StartSwap timed) = T.Word (O.Swap RECEIVING)
 ref_step BackFull = T.Withdraw
 ref_step BackClosed = T.Withdraw
 ref_step Park = T.Park
@@ -24,18 +25,30 @@ ref_step ParkLoad = T.Word O.Load
 
 abbrev pub ref_rows : RefPos → Rows ReceiverPos
 ref_rows (StartLoad timed) =
-    (Word 4, Goes (Try Close)) ∷ (Word 2, Answers R.Disconnected) ∷ (Word 3, Goes (Ref (StartWrite timed))) ∷ []
+    (Word MESSAGE, Goes (Try Close))
+    ∷ (Word DISCONNECTED, Answers R.Disconnected)
+    ∷ (Word EMPTY, Goes (Ref (StartWrite timed)))
+    ∷ []
 ref_rows (StartWrite timed) = (Done, Goes (Ref (StartSwap timed))) ∷ []
 ref_rows (StartSwap false) =
-    (Word 3, Goes (Ref Park)) ∷ (Word 4, Goes (Ref BackFull)) ∷ (Word 2, Goes (Ref BackClosed)) ∷ []
+    (Word EMPTY, Goes (Ref Park))
+    ∷ (Word MESSAGE, Goes (Ref BackFull))
+    ∷ (Word DISCONNECTED, Goes (Ref BackClosed))
+    ∷ []
 ref_rows (StartSwap true) =
-    (Word 3, Goes (Timed Clock)) ∷ (Word 4, Goes (Ref BackFull)) ∷ (Word 2, Goes (Ref BackClosed)) ∷ []
+    (Word EMPTY, Goes (Timed Clock))
+    ∷ (Word MESSAGE, Goes (Ref BackFull))
+    ∷ (Word DISCONNECTED, Goes (Ref BackClosed))
+    ∷ []
 ref_rows BackFull = (Done, Goes (Try Close)) ∷ []
 ref_rows BackClosed = (Done, Goes (Try CloseOnly)) ∷ []
 ref_rows Park = (Token true, Goes (Ref ParkLoad)) ∷ (Token false, Goes (Ref ParkLoad)) ∷ []
 ref_rows ParkLoad =
-    (Word 4, Goes (Try Close)) ∷ (Word 2, Answers R.Disconnected) ∷ (Word 0, Goes (Ref Park))
-    ∷ (Word 1, Goes (Ref Park)) ∷ []
+    (Word MESSAGE, Goes (Try Close))
+    ∷ (Word DISCONNECTED, Answers R.Disconnected)
+    ∷ (Word RECEIVING, Goes (Ref Park))
+    ∷ (Word UNPARKING, Goes (Ref Park))
+    ∷ []
 
 -- the positions, and the number of each in their list
 abbrev pub ref_positions : List RefPos

@@ -9,16 +9,20 @@ use Rattle.oneshot_machine.specs.declared.machine.Seen.TheVariants.{Done, Word}
 use Rattle.oneshot_machine.specs.declared.machine.Step.{Step}
 use Rattle.oneshot_machine.specs.declared.machine.Step.TheVariants as T
 use Rattle.oneshot_machine.specs.declared.states.Op.TheVariants as O
+use Rattle.oneshot_machine.specs.declared.states.TheConstants.{DISCONNECTED, EMPTY, MESSAGE}
 use Rattle.oneshot_machine.specs.TableRows.{Goes, Answers, Rows}
 
 abbrev pub drop_step : DropPos → Step
-drop_step DropSwap = T.Word (O.Swap 2)
+drop_step DropSwap = T.Word (O.Swap DISCONNECTED)
 drop_step DropMessage = T.DropMessage
 drop_step DropFree = T.Free
 
 abbrev pub drop_rows : DropPos → Rows ReceiverPos
 drop_rows DropSwap =
-    (Word 3, Answers R.Done) ∷ (Word 4, Goes (Drop DropMessage)) ∷ (Word 2, Goes (Drop DropFree)) ∷ []
+    (Word EMPTY, Answers R.Done)
+    ∷ (Word MESSAGE, Goes (Drop DropMessage))
+    ∷ (Word DISCONNECTED, Goes (Drop DropFree))
+    ∷ []
 drop_rows DropMessage = (Done, Goes (Drop DropFree)) ∷ []
 drop_rows DropFree = (Done, Answers R.Done) ∷ []
 

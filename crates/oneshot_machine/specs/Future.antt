@@ -10,6 +10,7 @@ use Rattle.oneshot_machine.specs.declared.machine.Seen.TheVariants.{Done, Word, 
 use Rattle.oneshot_machine.specs.declared.machine.Step.{Step}
 use Rattle.oneshot_machine.specs.declared.machine.Step.TheVariants as T
 use Rattle.oneshot_machine.specs.declared.states.Op.TheVariants as O
+use Rattle.oneshot_machine.specs.declared.states.TheConstants.{RECEIVING, UNPARKING, DISCONNECTED, EMPTY, MESSAGE}
 use Rattle.oneshot_machine.specs.TableRows.{Goes, Answers, Rows}
 
 abbrev pub future_step : FuturePos → Step
@@ -17,11 +18,11 @@ future_step IntoFuture = T.Plain
 future_step PollLoad = T.Word O.Load
 future_step PollCopy = T.Copy
 future_step PollWrite = T.WriteWaker
-future_step PollExchange = T.Word (O.Exchange 3 0)
+future_step PollExchange = T.Word (O.Exchange EMPTY RECEIVING)
 future_step PollBackFull = T.Withdraw
 future_step PollBackClosed = T.Withdraw
 future_step AgainCopy = T.Copy
-future_step AgainExchange = T.Word (O.Exchange 0 3)
+future_step AgainExchange = T.Word (O.Exchange RECEIVING EMPTY)
 future_step AgainBack = T.Withdraw
 future_step PollOwn = T.WakeOwn
 future_step AsyncTryLoad = T.Word O.Load
@@ -29,25 +30,39 @@ future_step AsyncTryLoad = T.Word O.Load
 abbrev pub future_rows : FuturePos → Rows ReceiverPos
 future_rows IntoFuture = (Done, Answers R.Future) ∷ []
 future_rows PollLoad =
-    (Word 3, Goes (Future PollCopy)) ∷ (Word 0, Goes (Future AgainCopy)) ∷ (Word 4, Goes (Try Close))
-    ∷ (Word 2, Answers R.Disconnected) ∷ (Word 1, Goes (Future PollOwn)) ∷ []
+    (Word EMPTY, Goes (Future PollCopy))
+    ∷ (Word RECEIVING, Goes (Future AgainCopy))
+    ∷ (Word MESSAGE, Goes (Try Close))
+    ∷ (Word DISCONNECTED, Answers R.Disconnected)
+    ∷ (Word UNPARKING, Goes (Future PollOwn))
+    ∷ []
 future_rows PollCopy =
     (Refused false, Goes (Future PollWrite)) ∷ (Refused true, Goes (Future PollOwn)) ∷ []
 future_rows PollWrite = (Done, Goes (Future PollExchange)) ∷ []
 future_rows PollExchange =
-    (Word 3, Answers R.Pending) ∷ (Word 4, Goes (Future PollBackFull)) ∷ (Word 2, Goes (Future PollBackClosed)) ∷ []
+    (Word EMPTY, Answers R.Pending)
+    ∷ (Word MESSAGE, Goes (Future PollBackFull))
+    ∷ (Word DISCONNECTED, Goes (Future PollBackClosed))
+    ∷ []
 future_rows PollBackFull = (Done, Goes (Try Close)) ∷ []
 future_rows PollBackClosed = (Done, Answers R.Disconnected) ∷ []
 future_rows AgainCopy =
     (Refused false, Goes (Future AgainExchange)) ∷ (Refused true, Goes (Future PollOwn)) ∷ []
 future_rows AgainExchange =
-    (Word 0, Goes (Future AgainBack)) ∷ (Word 4, Goes (Try Close)) ∷ (Word 2, Answers R.Disconnected)
-    ∷ (Word 1, Goes (Future PollOwn)) ∷ []
+    (Word RECEIVING, Goes (Future AgainBack))
+    ∷ (Word MESSAGE, Goes (Try Close))
+    ∷ (Word DISCONNECTED, Answers R.Disconnected)
+    ∷ (Word UNPARKING, Goes (Future PollOwn))
+    ∷ []
 future_rows AgainBack = (Done, Goes (Future PollWrite)) ∷ []
 future_rows PollOwn = (Done, Answers R.Pending) ∷ []
 future_rows AsyncTryLoad =
-    (Word 4, Goes (Try Close)) ∷ (Word 2, Answers R.Disconnected) ∷ (Word 3, Answers R.Empty)
-    ∷ (Word 0, Answers R.Empty) ∷ (Word 1, Answers R.Empty) ∷ []
+    (Word MESSAGE, Goes (Try Close))
+    ∷ (Word DISCONNECTED, Answers R.Disconnected)
+    ∷ (Word EMPTY, Answers R.Empty)
+    ∷ (Word RECEIVING, Answers R.Empty)
+    ∷ (Word UNPARKING, Answers R.Empty)
+    ∷ []
 
 -- the positions, and the number of each in their list
 abbrev pub future_positions : List FuturePos

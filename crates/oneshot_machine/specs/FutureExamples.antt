@@ -8,6 +8,7 @@ use Rattle.oneshot_machine.specs.declared.machine.receiver.ReceiverPos.TheVarian
 use Rattle.oneshot_machine.specs.declared.machine.future.FuturePos.TheVariants.{IntoFuture, PollLoad, AsyncTryLoad}
 use Rattle.oneshot_machine.specs.declared.machine.async_drop.AsyncDropPos.TheVariants.{AsyncLoad}
 use Rattle.oneshot_machine.specs.declared.states.Op.TheVariants.{Load, Store, Swap, Exchange}
+use Rattle.oneshot_machine.specs.declared.states.TheConstants.{RECEIVING, UNPARKING, DISCONNECTED, EMPTY, MESSAGE}
 use Rattle.oneshot_machine.specs.Noted.{Noted}
 use Rattle.oneshot_machine.specs.Phases.{waits, polled, again, claimed, withdrew, full, by_future, by_poll, disconnected, resolved, found_closed, closed_itself, gone, ended, no_receiver, receiver_at}
 use Rattle.oneshot_machine.specs.Logs.{Event, did, took, handed, copied, worded}
@@ -15,105 +16,122 @@ use Rattle.oneshot_machine.specs.Examples.{ReceiverRun}
 
 -- a poll that stored its copy
 abbrev pub once_polled : List Noted
-once_polled = (Load, Word 3) ∷ (Exchange 3 0, Word 3) ∷ []
+once_polled = (Load, Word EMPTY) ∷ (Exchange EMPTY RECEIVING, Word EMPTY) ∷ []
 
 -- the phases of a future, by its logs
 pub record LogsOfFuture : Type 0 where
   pub polls : receiver_at once_polled ≡ waits polled
-  pub polls_again : receiver_at (once_polled ++ (Load, Word 0) ∷ []) ≡ waits again
+  pub polls_again : receiver_at (once_polled ++ (Load, Word RECEIVING) ∷ []) ≡ waits again
   pub takes_its_copy_back :
-      receiver_at (once_polled ++ (Load, Word 0) ∷ (Exchange 0 3, Word 0) ∷ []) ≡ withdrew
+      receiver_at (once_polled ++ (Load, Word RECEIVING) ∷ (Exchange RECEIVING EMPTY, Word RECEIVING) ∷ []) ≡ withdrew
   pub stores_another_copy :
-      receiver_at (once_polled ++ (Load, Word 0) ∷ (Exchange 0 3, Word 0) ∷ (Exchange 3 0, Word 3) ∷ [])
+      receiver_at (once_polled ++ (Load, Word RECEIVING) ∷ (Exchange RECEIVING EMPTY, Word RECEIVING)
+        ∷ (Exchange EMPTY RECEIVING, Word EMPTY) ∷ [])
       ≡ waits polled
-  pub sees_the_sender_finish : receiver_at (once_polled ++ (Load, Word 1) ∷ []) ≡ claimed
+  pub sees_the_sender_finish : receiver_at (once_polled ++ (Load, Word UNPARKING) ∷ []) ≡ claimed
   pub exchanges_too_late :
-      receiver_at (once_polled ++ (Load, Word 0) ∷ (Exchange 0 3, Word 1) ∷ (Load, Word 1) ∷ []) ≡ claimed
-  pub finds_it_by_its_load : receiver_at (once_polled ++ (Load, Word 4) ∷ []) ≡ full by_future
-  pub finds_it_by_its_exchange : receiver_at ((Load, Word 3) ∷ (Exchange 3 0, Word 4) ∷ []) ≡ full by_poll
+      receiver_at (once_polled ++ (Load, Word RECEIVING) ∷ (Exchange RECEIVING EMPTY, Word UNPARKING)
+        ∷ (Load, Word UNPARKING) ∷ []) ≡ claimed
+  pub finds_it_by_its_load : receiver_at (once_polled ++ (Load, Word MESSAGE) ∷ []) ≡ full by_future
+  pub finds_it_by_its_exchange :
+      receiver_at ((Load, Word EMPTY) ∷ (Exchange EMPTY RECEIVING, Word MESSAGE) ∷ []) ≡ full by_poll
   pub receives :
-      receiver_at (once_polled ++ (Load, Word 4) ∷ (Store 2, Done) ∷ []) ≡ resolved closed_itself
+      receiver_at (once_polled ++ (Load, Word MESSAGE) ∷ (Store DISCONNECTED, Done) ∷ []) ≡ resolved closed_itself
   pub finds_nobody_by_its_exchange :
-      receiver_at ((Load, Word 3) ∷ (Exchange 3 0, Word 2) ∷ []) ≡ resolved found_closed
+      receiver_at ((Load, Word EMPTY) ∷ (Exchange EMPTY RECEIVING, Word DISCONNECTED) ∷ []) ≡ resolved found_closed
   pub polls_after_the_end :
-      receiver_at (once_polled ++ (Load, Word 4) ∷ (Store 2, Done) ∷ (Load, Word 2) ∷ []) ≡ disconnected closed_itself
+      receiver_at (once_polled ++ (Load, Word MESSAGE) ∷ (Store DISCONNECTED, Done) ∷ (Load, Word DISCONNECTED) ∷ [])
+      ≡ disconnected closed_itself
   pub is_dropped_with_its_copy :
-      receiver_at (once_polled ++ (Load, Word 0) ∷ (Exchange 0 3, Word 0) ∷ (Swap 2, Word 3) ∷ []) ≡ gone
-  pub is_dropped_over_a_message : receiver_at ((Load, Word 4) ∷ (Swap 2, Word 4) ∷ []) ≡ ended
-  pub tries_over_its_copy : receiver_at (once_polled ++ (Load, Word 0) ∷ (Load, Word 1) ∷ []) ≡ claimed
+      receiver_at (once_polled ++ (Load, Word RECEIVING) ∷ (Exchange RECEIVING EMPTY, Word RECEIVING)
+        ∷ (Swap DISCONNECTED, Word EMPTY) ∷ []) ≡ gone
+  pub is_dropped_over_a_message : receiver_at ((Load, Word MESSAGE) ∷ (Swap DISCONNECTED, Word MESSAGE) ∷ []) ≡ ended
+  pub tries_over_its_copy : receiver_at (once_polled ++ (Load, Word RECEIVING) ∷ (Load, Word UNPARKING) ∷ []) ≡ claimed
   pub is_dropped_over_a_sender_that_finishes :
-      receiver_at (once_polled ++ (Load, Word 1) ∷ (Swap 2, Word 1) ∷ []) ≡ gone
+      receiver_at (once_polled ++ (Load, Word UNPARKING) ∷ (Swap DISCONNECTED, Word UNPARKING) ∷ []) ≡ gone
   pub is_dropped_when_it_has_finished :
-      receiver_at (once_polled ++ (Load, Word 1) ∷ (Swap 2, Word 4) ∷ []) ≡ ended
+      receiver_at (once_polled ++ (Load, Word UNPARKING) ∷ (Swap DISCONNECTED, Word MESSAGE) ∷ []) ≡ ended
   -- and logs that no future has
-  pub stores_without_a_look : receiver_at ((Exchange 3 0, Word 3) ∷ []) ≡ no_receiver
-  pub takes_back_without_a_look : receiver_at (once_polled ++ (Exchange 0 3, Word 0) ∷ []) ≡ no_receiver
-  pub blocks : receiver_at (once_polled ++ (Swap 0, Word 0) ∷ []) ≡ no_receiver
-  pub stops_by_a_swap : receiver_at (once_polled ++ (Load, Word 0) ∷ (Swap 3, Word 0) ∷ []) ≡ no_receiver
+  pub stores_without_a_look : receiver_at ((Exchange EMPTY RECEIVING, Word EMPTY) ∷ []) ≡ no_receiver
+  pub takes_back_without_a_look :
+      receiver_at (once_polled ++ (Exchange RECEIVING EMPTY, Word RECEIVING) ∷ []) ≡ no_receiver
+  pub blocks : receiver_at (once_polled ++ (Swap RECEIVING, Word RECEIVING) ∷ []) ≡ no_receiver
+  pub stops_by_a_swap :
+      receiver_at (once_polled ++ (Load, Word RECEIVING) ∷ (Swap EMPTY, Word RECEIVING) ∷ []) ≡ no_receiver
   pub is_dropped_over_its_copy :
-      receiver_at (once_polled ++ (Load, Word 0) ∷ (Swap 2, Word 0) ∷ []) ≡ no_receiver
+      receiver_at (once_polled ++ (Load, Word RECEIVING) ∷ (Swap DISCONNECTED, Word RECEIVING) ∷ []) ≡ no_receiver
   pub is_dropped_twice :
-      receiver_at (once_polled ++ (Load, Word 1) ∷ (Swap 2, Word 1) ∷ (Swap 2, Word 2) ∷ []) ≡ no_receiver
+      receiver_at (once_polled ++ (Load, Word UNPARKING) ∷ (Swap DISCONNECTED, Word UNPARKING)
+        ∷ (Swap DISCONNECTED, Word DISCONNECTED) ∷ []) ≡ no_receiver
   pub is_dropped_in_its_poll :
-      receiver_at ((Load, Word 3) ∷ (Exchange 3 0, Word 4) ∷ (Swap 2, Word 4) ∷ []) ≡ no_receiver
+      receiver_at ((Load, Word EMPTY) ∷ (Exchange EMPTY RECEIVING, Word MESSAGE) ∷ (Swap DISCONNECTED, Word MESSAGE)
+        ∷ []) ≡ no_receiver
   pub is_dropped_without_a_look :
-      receiver_at ((Load, Word 3) ∷ (Exchange 3 0, Word 2) ∷ (Swap 2, Word 2) ∷ []) ≡ no_receiver
+      receiver_at ((Load, Word EMPTY) ∷ (Exchange EMPTY RECEIVING, Word DISCONNECTED)
+        ∷ (Swap DISCONNECTED, Word DISCONNECTED) ∷ []) ≡ no_receiver
 
 -- a poll that copied its waker, up to its exchange, which finds this word
 abbrev pub polling : ℕ → List (Event ℕ ℕ)
 polling word =
-    worded Load 3 ∷ copied (Some 1) ∷ handed WriteWaker 1 ∷ worded (Exchange 3 0) word ∷ []
+    worded Load EMPTY ∷ copied (Some 1) ∷ handed WriteWaker 1 ∷ worded (Exchange EMPTY RECEIVING) word ∷ []
 
 -- a later poll, up to the exchange before it takes the stored copy back, which finds this word
 abbrev pub polling_again : ℕ → List (Event ℕ ℕ)
-polling_again word = worded Load 0 ∷ copied (Some 2) ∷ worded (Exchange 0 3) word ∷ []
+polling_again word = worded Load RECEIVING ∷ copied (Some 2) ∷ worded (Exchange RECEIVING EMPTY) word ∷ []
 
 -- steps that are a run of the future's call, with this reply
 pub record FutureRuns : Type 0 where
   pub becomes_a_future : ReceiverRun (Future IntoFuture) (did Plain ∷ []) R.Future
-  pub waits_by_a_poll : ReceiverRun (Future PollLoad) (polling 3) Pending
+  pub waits_by_a_poll : ReceiverRun (Future PollLoad) (polling EMPTY) Pending
   pub finds_no_memory_for_a_copy :
-      ReceiverRun (Future PollLoad) (worded Load 3 ∷ copied None ∷ did WakeOwn ∷ []) Pending
+      ReceiverRun (Future PollLoad) (worded Load EMPTY ∷ copied None ∷ did WakeOwn ∷ []) Pending
   pub finds_the_message_by_its_exchange :
       ReceiverRun
       (Future PollLoad)
-      (polling 4 ++ handed Withdraw 1 ∷ worded (Store 2) 4 ∷ took 7 ∷ [])
+      (polling MESSAGE ++ handed Withdraw 1 ∷ worded (Store DISCONNECTED) MESSAGE ∷ took 7 ∷ [])
       Message
   pub finds_no_sender_by_its_exchange :
-      ReceiverRun (Future PollLoad) (polling 2 ++ handed Withdraw 1 ∷ []) Disconnected
+      ReceiverRun (Future PollLoad) (polling DISCONNECTED ++ handed Withdraw 1 ∷ []) Disconnected
   pub replaces_its_copy :
       ReceiverRun
       (Future PollLoad)
-      (polling_again 0 ++ handed Withdraw 1 ∷ handed WriteWaker 2 ∷ worded (Exchange 3 0) 3 ∷ [])
+      (polling_again RECEIVING ++ handed Withdraw 1 ∷ handed WriteWaker 2 ∷ worded (Exchange EMPTY RECEIVING) EMPTY
+        ∷ [])
       Pending
-  pub polls_too_late : ReceiverRun (Future PollLoad) (polling_again 1 ++ did WakeOwn ∷ []) Pending
-  pub polls_while_the_sender_finishes : ReceiverRun (Future PollLoad) (worded Load 1 ∷ did WakeOwn ∷ []) Pending
-  pub tries_in_vain : ReceiverRun (Future AsyncTryLoad) (worded Load 0 ∷ []) R.Empty
-  pub tries_while_the_sender_finishes : ReceiverRun (Future AsyncTryLoad) (worded Load 1 ∷ []) R.Empty
+  pub polls_too_late : ReceiverRun (Future PollLoad) (polling_again UNPARKING ++ did WakeOwn ∷ []) Pending
+  pub polls_while_the_sender_finishes : ReceiverRun (Future PollLoad) (worded Load UNPARKING ∷ did WakeOwn ∷ []) Pending
+  pub tries_in_vain : ReceiverRun (Future AsyncTryLoad) (worded Load RECEIVING ∷ []) R.Empty
+  pub tries_while_the_sender_finishes : ReceiverRun (Future AsyncTryLoad) (worded Load UNPARKING ∷ []) R.Empty
   pub receives_by_a_try :
-      ReceiverRun (Future AsyncTryLoad) (worded Load 4 ∷ worded (Store 2) 4 ∷ took 7 ∷ []) Message
+      ReceiverRun (Future AsyncTryLoad)
+        (worded Load MESSAGE ∷ worded (Store DISCONNECTED) MESSAGE ∷ took 7 ∷ []) Message
   pub drops_its_copy :
       ReceiverRun
       (AsyncDrop AsyncLoad)
-      (worded Load 0 ∷ worded (Exchange 0 3) 0 ∷ handed Withdraw 1 ∷ worded (Swap 2) 3 ∷ [])
+      (worded Load RECEIVING ∷ worded (Exchange RECEIVING EMPTY) RECEIVING ∷ handed Withdraw 1
+        ∷ worded (Swap DISCONNECTED) EMPTY ∷ [])
       R.Done
   pub leaves_its_copy_with_the_sender :
-      ReceiverRun (AsyncDrop AsyncLoad) (worded Load 0 ∷ worded (Exchange 0 3) 1 ∷ worded (Swap 2) 1 ∷ []) R.Done
+      ReceiverRun (AsyncDrop AsyncLoad) (worded Load RECEIVING ∷ worded (Exchange RECEIVING EMPTY) UNPARKING
+        ∷ worded (Swap DISCONNECTED) UNPARKING ∷ []) R.Done
   pub frees_where_the_sender_has_finished :
-      ReceiverRun (AsyncDrop AsyncLoad) (worded Load 1 ∷ worded (Swap 2) 2 ∷ did Free ∷ []) R.Done
+      ReceiverRun (AsyncDrop AsyncLoad)
+        (worded Load UNPARKING ∷ worded (Swap DISCONNECTED) DISCONNECTED ∷ did Free ∷ []) R.Done
 
 -- and steps that are no run
 pub record FutureRunsThatAreNot : Type 0 where
   pub keeps_the_old_copy :
-      ReceiverRun (Future PollLoad) (worded Load 0 ∷ copied (Some 2) ∷ []) Pending → ⊥
-  pub waits_for_nothing : ReceiverRun (Future PollLoad) (worded Load 3 ∷ copied None ∷ []) Pending → ⊥
+      ReceiverRun (Future PollLoad) (worded Load RECEIVING ∷ copied (Some 2) ∷ []) Pending → ⊥
+  pub waits_for_nothing : ReceiverRun (Future PollLoad) (worded Load EMPTY ∷ copied None ∷ []) Pending → ⊥
   pub forgets_its_copy :
-      ReceiverRun (Future PollLoad) (polling 4 ++ worded (Store 2) 4 ∷ took 7 ∷ []) Message → ⊥
-  pub waits_in_its_poll : ReceiverRun (Future PollLoad) (worded Load 1 ∷ worded Load 4 ∷ []) Pending → ⊥
-  pub sleeps_unwoken : ReceiverRun (Future PollLoad) (worded Load 1 ∷ []) Pending → ⊥
+      ReceiverRun (Future PollLoad) (polling MESSAGE ++ worded (Store DISCONNECTED) MESSAGE ∷ took 7 ∷ []) Message → ⊥
+  pub waits_in_its_poll : ReceiverRun (Future PollLoad) (worded Load UNPARKING ∷ worded Load MESSAGE ∷ []) Pending → ⊥
+  pub sleeps_unwoken : ReceiverRun (Future PollLoad) (worded Load UNPARKING ∷ []) Pending → ⊥
   pub tries_and_takes_its_copy_back :
-      ReceiverRun (Future AsyncTryLoad) (worded Load 0 ∷ handed Withdraw 1 ∷ []) R.Empty → ⊥
+      ReceiverRun (Future AsyncTryLoad) (worded Load RECEIVING ∷ handed Withdraw 1 ∷ []) R.Empty → ⊥
   pub frees_before_the_sender :
-      ReceiverRun (AsyncDrop AsyncLoad) (worded Load 1 ∷ worded (Swap 2) 1 ∷ did Free ∷ []) R.Done → ⊥
+      ReceiverRun (AsyncDrop AsyncLoad)
+        (worded Load UNPARKING ∷ worded (Swap DISCONNECTED) UNPARKING ∷ did Free ∷ []) R.Done → ⊥
   pub drops_its_copy_too_early :
-      ReceiverRun (AsyncDrop AsyncLoad) (worded Load 0 ∷ handed Withdraw 1 ∷ worded (Swap 2) 0 ∷ []) R.Done → ⊥
+      ReceiverRun (AsyncDrop AsyncLoad)
+        (worded Load RECEIVING ∷ handed Withdraw 1 ∷ worded (Swap DISCONNECTED) RECEIVING ∷ []) R.Done → ⊥

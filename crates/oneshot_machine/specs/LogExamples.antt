@@ -5,6 +5,7 @@ use Rattle.oneshot_machine.specs.declared.machine.Reply.TheVariants as R
 use Rattle.oneshot_machine.specs.declared.machine.receiver.ReceiverStart.TheVariants as RC
 use Rattle.oneshot_machine.specs.declared.machine.sender.SenderCall.TheVariants as SC
 use Rattle.oneshot_machine.specs.declared.states.Op.TheVariants.{Load, Swap, Add}
+use Rattle.oneshot_machine.specs.declared.states.TheConstants.{RECEIVING, UNPARKING, DISCONNECTED, EMPTY, MESSAGE}
 use Rattle.oneshot_machine.specs.Counts.{sender_bound, receiver_bound, GrewWithin, MakesWithin}
 use Rattle.oneshot_machine.specs.Examples.{sending_7, receiving_7, waking}
 use Rattle.oneshot_machine.specs.Logs.{Event, worded, words, Log, Grows, sender_of, receiver_of}
@@ -20,31 +21,33 @@ elsewhere list = record { whole = true; channel = 6 ∷ []; list = list }
 
 -- the operations of a `send` to a receiver that waits, and of one to a receiver that does not
 abbrev pub waking_words : List (Event ℕ ℕ)
-waking_words = worded Add 0 ∷ worded (Swap 4) 1 ∷ []
+waking_words = worded Add RECEIVING ∷ worded (Swap MESSAGE) UNPARKING ∷ []
 
 abbrev pub sending_words : List (Event ℕ ℕ)
-sending_words = worded Add 3 ∷ []
+sending_words = worded Add EMPTY ∷ []
 
 -- three loads
 abbrev pub looking : List (Event ℕ ℕ)
-looking = worded Load 3 ∷ worded Load 3 ∷ worded Load 3 ∷ []
+looking = worded Load EMPTY ∷ worded Load EMPTY ∷ worded Load EMPTY ∷ []
 
 pub record LogsThatGrow : Type 0 where
   pub keeps_all : Grows (logged true []) (logged true sending_7) sending_7
   pub keeps_its_operations : Grows (logged false []) (logged false waking_words) waking
-  pub goes_on : Grows (logged true receiving_7) (logged true (receiving_7 ++ worded Load 2 ∷ [])) (worded Load 2 ∷ [])
+  pub goes_on :
+      Grows (logged true receiving_7) (logged true (receiving_7 ++ worded Load DISCONNECTED ∷ []))
+        (worded Load DISCONNECTED ∷ [])
   pub stands_still : Grows (logged true sending_7) (logged true sending_7) []
   -- the phase of its end
   pub new_sender : sender_of (logged true []) ≡ fresh
   pub has_sent : sender_of (logged true sending_7) ≡ finished sending
-  pub owes_its_swap : sender_of (logged false (worded Add 0 ∷ [])) ≡ owes sending
+  pub owes_its_swap : sender_of (logged false (worded Add RECEIVING ∷ [])) ≡ owes sending
   pub new_receiver : receiver_of (logged true []) ≡ first
   pub has_received : receiver_of (logged true receiving_7) ≡ disconnected closed_itself
   -- one run, with what it was handed and what it handed out
   pub sends : SenderRan SC.Send (logged true []) (logged true sending_7) Sent (7 ∷ []) []
   pub sends_by_its_operation : SenderRan SC.Send (logged false []) (logged false sending_words) Sent (7 ∷ []) []
   pub receives : ReceiverRan RC.TryRecv (logged true []) (logged true receiving_7) Message [] (7 ∷ [])
-  pub receives_nothing : ReceiverRan RC.TryRecv (logged true looking) (logged true (looking ++ worded Load 3 ∷ []))
+  pub receives_nothing : ReceiverRan RC.TryRecv (logged true looking) (logged true (looking ++ worded Load EMPTY ∷ []))
       R.Empty [] []
   -- operations within a bound, or without one
   pub sends_by_two : MakesWithin (sender_bound SC.Send) (logged true []) (logged true waking)

@@ -8,6 +8,7 @@ use Rattle.oneshot_machine.specs.declared.machine.Seen.TheVariants.{Word}
 use Rattle.oneshot_machine.specs.declared.machine.Step.{Step}
 use Rattle.oneshot_machine.specs.declared.machine.Step.TheVariants as T
 use Rattle.oneshot_machine.specs.declared.states.Op.TheVariants as O
+use Rattle.oneshot_machine.specs.declared.states.TheConstants.{RECEIVING, UNPARKING, DISCONNECTED, EMPTY, MESSAGE}
 use Rattle.oneshot_machine.specs.TableRows.{Answers, Rows}
 
 abbrev pub look_step : LookPos → Step
@@ -16,11 +17,19 @@ look_step LookClosed = T.Word O.Load
 
 abbrev pub look_rows : LookPos → Rows ReceiverPos
 look_rows LookFull =
-    (Word 4, Answers R.Yes) ∷ (Word 0, Answers R.No) ∷ (Word 1, Answers R.No) ∷ (Word 2, Answers R.No)
-    ∷ (Word 3, Answers R.No) ∷ []
+    (Word MESSAGE, Answers R.Yes)
+    ∷ (Word RECEIVING, Answers R.No)
+    ∷ (Word UNPARKING, Answers R.No)
+    ∷ (Word DISCONNECTED, Answers R.No)
+    ∷ (Word EMPTY, Answers R.No)
+    ∷ []
 look_rows LookClosed =
-    (Word 2, Answers R.Yes) ∷ (Word 0, Answers R.No) ∷ (Word 1, Answers R.No) ∷ (Word 3, Answers R.No)
-    ∷ (Word 4, Answers R.No) ∷ []
+    (Word DISCONNECTED, Answers R.Yes)
+    ∷ (Word RECEIVING, Answers R.No)
+    ∷ (Word UNPARKING, Answers R.No)
+    ∷ (Word EMPTY, Answers R.No)
+    ∷ (Word MESSAGE, Answers R.No)
+    ∷ []
 
 -- the positions, and the number of each in their list
 abbrev pub look_positions : List LookPos

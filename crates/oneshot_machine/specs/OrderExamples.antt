@@ -2,37 +2,42 @@
 use Rattle.std.specs.Prelude.{ℕ, List, [], ◌∷◌, ◌++◌}
 use Rattle.oneshot_machine.specs.declared.machine.Seen.TheVariants.{Done, Word}
 use Rattle.oneshot_machine.specs.declared.states.Op.TheVariants.{Load, Store, Swap, Exchange, Add, Xor}
+use Rattle.oneshot_machine.specs.declared.states.TheConstants.{RECEIVING, UNPARKING, DISCONNECTED, EMPTY, MESSAGE}
 use Rattle.oneshot_machine.specs.Noted.{Noted}
 use Rattle.oneshot_machine.specs.Orders.{InOrder, Reaches}
 
 -- a receiver that waits in a call that blocks
 abbrev pub waits : List Noted
-waits = (Load, Word 3) ∷ (Swap 0, Word 3) ∷ []
+waits = (Load, Word EMPTY) ∷ (Swap RECEIVING, Word EMPTY) ∷ []
 
 -- a sender that found it waiting, and whose final swap found this word
 abbrev pub sent_over : ℕ → List Noted
-sent_over word = (Add, Word 0) ∷ (Swap 4, Word word) ∷ []
+sent_over word = (Add, Word RECEIVING) ∷ (Swap MESSAGE, Word word) ∷ []
 
 -- the sender's log, the receiver's, and the word, in an order by both phases' tables
 pub record OrdersThatAre : Type 0 where
-  pub new : Reaches [] [] 3
-  pub received : Reaches ((Add, Word 3) ∷ []) ((Load, Word 4) ∷ (Store 2, Done) ∷ []) 2
-  pub waited_for_it : Reaches (sent_over 1) (waits ++ (Load, Word 1) ∷ (Load, Word 4) ∷ []) 4
-  pub stopped_too_late : Reaches (sent_over 3) (waits ++ (Swap 3, Word 1) ∷ (Load, Word 3) ∷ []) 4
-  pub polled : Reaches ((Xor, Word 3) ∷ []) ((Load, Word 3) ∷ (Exchange 3 0, Word 2) ∷ []) 2
-  pub sent_too_late : Reaches ((Add, Word 2) ∷ []) ((Swap 2, Word 3) ∷ []) 3
+  pub new : Reaches [] [] EMPTY
+  pub received : Reaches ((Add, Word EMPTY) ∷ []) ((Load, Word MESSAGE) ∷ (Store DISCONNECTED, Done) ∷ []) DISCONNECTED
+  pub waited_for_it :
+      Reaches (sent_over UNPARKING) (waits ++ (Load, Word UNPARKING) ∷ (Load, Word MESSAGE) ∷ []) MESSAGE
+  pub stopped_too_late :
+      Reaches (sent_over EMPTY) (waits ++ (Swap EMPTY, Word UNPARKING) ∷ (Load, Word EMPTY) ∷ []) MESSAGE
+  pub polled :
+      Reaches ((Xor, Word EMPTY) ∷ [])
+        ((Load, Word EMPTY) ∷ (Exchange EMPTY RECEIVING, Word DISCONNECTED) ∷ []) DISCONNECTED
+  pub sent_too_late : Reaches ((Add, Word DISCONNECTED) ∷ []) ((Swap DISCONNECTED, Word EMPTY) ∷ []) EMPTY
 
 -- logs that have no order, whatever the phases are
 pub record OrdersThatAreNot : Type 0 where
   -- a new channel has the word 3
-  pub begins_at_another_word : InOrder [] [] 0 → ⊥
+  pub begins_at_another_word : InOrder [] [] RECEIVING → ⊥
   -- an operation finds a word that nobody left
-  pub finds_what_nobody_left : {word : ℕ} → InOrder [] ((Load, Word 4) ∷ []) word → ⊥
-  pub finds_no_waker : {word : ℕ} → InOrder ((Add, Word 0) ∷ []) ((Load, Word 3) ∷ []) word → ⊥
+  pub finds_what_nobody_left : {word : ℕ} → InOrder [] ((Load, Word MESSAGE) ∷ []) word → ⊥
+  pub finds_no_waker : {word : ℕ} → InOrder ((Add, Word RECEIVING) ∷ []) ((Load, Word EMPTY) ∷ []) word → ⊥
   -- the last operation is skipped
-  pub skips_the_last : InOrder ((Add, Word 3) ∷ []) ((Load, Word 3) ∷ []) 3 → ⊥
+  pub skips_the_last : InOrder ((Add, Word EMPTY) ∷ []) ((Load, Word EMPTY) ∷ []) EMPTY → ⊥
   -- Each log is possible for its end, and so are both phases together. But whichever of the add and the swap
   -- comes last skips the other.
-  pub skips_a_swap : {word : ℕ} → InOrder ((Add, Word 3) ∷ []) waits word → ⊥
+  pub skips_a_swap : {word : ℕ} → InOrder ((Add, Word EMPTY) ∷ []) waits word → ⊥
   -- the final swap finds a receiver that stopped, and this receiver never did
-  pub skips_a_stop : {word : ℕ} → InOrder (sent_over 3) (waits ++ (Load, Word 4) ∷ []) word → ⊥
+  pub skips_a_stop : {word : ℕ} → InOrder (sent_over EMPTY) (waits ++ (Load, Word MESSAGE) ∷ []) word → ⊥

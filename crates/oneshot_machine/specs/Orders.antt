@@ -5,11 +5,12 @@ use Rattle.oneshot_machine.specs.Noted.{Noted, saw}
 use Rattle.oneshot_machine.specs.Phases.{sender_at, sender_moves, receiver_at, receiver_moves, Slots, Row}
 use Rattle.oneshot_machine.specs.Slots.{In}
 use Rattle.oneshot_machine.specs.States.{word_after}
+use Rattle.oneshot_machine.specs.declared.states.TheConstants.{EMPTY}
 
 -- The operations of the sender's log and of the receiver's have an order, which leaves this word.
 pub data InOrder : List Noted → List Noted → ℕ → Type 0 where
   -- a new channel has the word 3
-  none_made : InOrder [] [] 3
+  none_made : InOrder [] [] EMPTY
   -- one end performs one more operation, which finds this word
   by_sender : {xs ys : List Noted} {word : ℕ} (op : Op)
       → InOrder xs ys word → InOrder (xs ++ (op, saw op word) ∷ []) ys (word_after op word)
@@ -24,7 +25,7 @@ pub data HasRow {At : Type 0} (rows : List (Row At)) (op : Op) (word : ℕ) : Ty
 -- Such an order in which each operation, with the word that it finds, has a row in its end's phase.
 pub data Reaches : List Noted → List Noted → ℕ → Type 0 where
   -- a new channel has the word 3
-  nothing_made : Reaches [] [] 3
+  nothing_made : Reaches [] [] EMPTY
   -- one end performs one more operation, which has a row in its phase
   sender_makes : {xs ys : List Noted} {word : ℕ} (op : Op)
       → Reaches xs ys word → HasRow (sender_moves (sender_at xs)) op word

@@ -3,6 +3,7 @@ use Rattle.std.specs.Prelude.{ℕ, Bool, true, false, List, [], ◌∷◌, ◌&&
 use Rattle.oneshot_machine.specs.declared.machine.Seen.{Seen}
 use Rattle.oneshot_machine.specs.declared.states.Op.{Op}
 use Rattle.oneshot_machine.specs.declared.states.Op.TheVariants.{Load, Store, Swap, Exchange, Add, Xor}
+use Rattle.oneshot_machine.specs.declared.states.TheConstants.{RECEIVING, UNPARKING, DISCONNECTED, EMPTY, MESSAGE}
 use Rattle.oneshot_machine.specs.TableRows.{is_same_seen}
 use Rattle.oneshot_machine.specs.Noted.{Noted, saw, is_same_op}
 
@@ -95,13 +96,13 @@ pub data ReceiverAt : Type 0 where
 
 -- the word that a swap of a receiver leaves
 abbrev pub swapped_in : Swapping → ℕ
-swapped_in storing = 0
-swapped_in stopping = 3
+swapped_in storing = RECEIVING
+swapped_in stopping = EMPTY
 
 -- the word once a receiver found the message
 abbrev pub word_of : Got → ℕ
 word_of (swapped by) = swapped_in by
-word_of _ = 4
+word_of _ = MESSAGE
 
 -- an end's share of a slot: none, or the slot is the end's, and is empty or filled
 pub data Share : Type 0 where
@@ -121,22 +122,22 @@ Row At = Op × Slots × ℕ × At × Slots
 -- the sender's table
 abbrev pub sender_moves : SenderAt → List (Row SenderAt)
 sender_moves fresh =
-    (Add, (filled, none), 3, finished sending, (none, none))
-    ∷ (Add, (filled, none), 0, owes sending, (filled, filled))
-    ∷ (Add, (filled, none), 2, late sending, (filled, empty))
-    ∷ (Xor, (empty, none), 3, finished dropping, (none, none))
-    ∷ (Xor, (empty, none), 0, owes dropping, (empty, filled))
-    ∷ (Xor, (empty, none), 2, late dropping, (empty, empty))
+    (Add, (filled, none), EMPTY, finished sending, (none, none))
+    ∷ (Add, (filled, none), RECEIVING, owes sending, (filled, filled))
+    ∷ (Add, (filled, none), DISCONNECTED, late sending, (filled, empty))
+    ∷ (Xor, (empty, none), EMPTY, finished dropping, (none, none))
+    ∷ (Xor, (empty, none), RECEIVING, owes dropping, (empty, filled))
+    ∷ (Xor, (empty, none), DISCONNECTED, late dropping, (empty, empty))
     ∷ []
 sender_moves (owes sending) =
-    (Swap 4, (filled, empty), 1, finished sending, (none, none))
-    ∷ (Swap 4, (filled, empty), 3, finished sending, (none, none))
-    ∷ (Swap 4, (filled, empty), 2, overtaken sending, (filled, empty))
+    (Swap MESSAGE, (filled, empty), UNPARKING, finished sending, (none, none))
+    ∷ (Swap MESSAGE, (filled, empty), EMPTY, finished sending, (none, none))
+    ∷ (Swap MESSAGE, (filled, empty), DISCONNECTED, overtaken sending, (filled, empty))
     ∷ []
 sender_moves (owes dropping) =
-    (Swap 2, (empty, empty), 1, finished dropping, (none, none))
-    ∷ (Swap 2, (empty, empty), 3, finished dropping, (none, none))
-    ∷ (Swap 2, (empty, empty), 2, overtaken dropping, (empty, empty))
+    (Swap DISCONNECTED, (empty, empty), UNPARKING, finished dropping, (none, none))
+    ∷ (Swap DISCONNECTED, (empty, empty), EMPTY, finished dropping, (none, none))
+    ∷ (Swap DISCONNECTED, (empty, empty), DISCONNECTED, overtaken dropping, (empty, empty))
     ∷ []
 sender_moves (finished by) = []
 sender_moves (late by) = []
@@ -146,102 +147,104 @@ sender_moves no_sender = []
 -- the receiver's table
 abbrev pub receiver_moves : ReceiverAt → List (Row ReceiverAt)
 receiver_moves first =
-    (Load, (none, none), 3, here looked, (none, empty))
-    ∷ (Load, (none, none), 4, full at_once, (filled, empty))
-    ∷ (Load, (none, none), 2, disconnected found_closed, (empty, empty))
-    ∷ (Swap 2, (none, none), 3, gone, (none, none))
-    ∷ (Swap 2, (none, none), 4, ended, (filled, empty))
-    ∷ (Swap 2, (none, none), 2, ended, (empty, empty))
+    (Load, (none, none), EMPTY, here looked, (none, empty))
+    ∷ (Load, (none, none), MESSAGE, full at_once, (filled, empty))
+    ∷ (Load, (none, none), DISCONNECTED, disconnected found_closed, (empty, empty))
+    ∷ (Swap DISCONNECTED, (none, none), EMPTY, gone, (none, none))
+    ∷ (Swap DISCONNECTED, (none, none), MESSAGE, ended, (filled, empty))
+    ∷ (Swap DISCONNECTED, (none, none), DISCONNECTED, ended, (empty, empty))
     ∷ []
 receiver_moves (here looked) =
-    (Load, (none, empty), 3, here looked, (none, empty))
-    ∷ (Load, (none, empty), 4, full at_once, (filled, empty))
-    ∷ (Load, (none, empty), 2, disconnected found_closed, (empty, empty))
-    ∷ (Swap 0, (none, filled), 3, waits blocked, (none, none))
-    ∷ (Swap 0, (none, filled), 4, full (swapped storing), (filled, filled))
-    ∷ (Swap 0, (none, filled), 2, unclosed storing, (empty, filled))
-    ∷ (Exchange 3 0, (none, filled), 3, waits polled, (none, none))
-    ∷ (Exchange 3 0, (none, filled), 4, full by_poll, (filled, filled))
-    ∷ (Exchange 3 0, (none, filled), 2, resolved found_closed, (empty, filled))
-    ∷ (Swap 2, (none, empty), 3, gone, (none, none))
-    ∷ (Swap 2, (none, empty), 4, ended, (filled, empty))
-    ∷ (Swap 2, (none, empty), 2, ended, (empty, empty))
+    (Load, (none, empty), EMPTY, here looked, (none, empty))
+    ∷ (Load, (none, empty), MESSAGE, full at_once, (filled, empty))
+    ∷ (Load, (none, empty), DISCONNECTED, disconnected found_closed, (empty, empty))
+    ∷ (Swap RECEIVING, (none, filled), EMPTY, waits blocked, (none, none))
+    ∷ (Swap RECEIVING, (none, filled), MESSAGE, full (swapped storing), (filled, filled))
+    ∷ (Swap RECEIVING, (none, filled), DISCONNECTED, unclosed storing, (empty, filled))
+    ∷ (Exchange EMPTY RECEIVING, (none, filled), EMPTY, waits polled, (none, none))
+    ∷ (Exchange EMPTY RECEIVING, (none, filled), MESSAGE, full by_poll, (filled, filled))
+    ∷ (Exchange EMPTY RECEIVING, (none, filled), DISCONNECTED, resolved found_closed, (empty, filled))
+    ∷ (Swap DISCONNECTED, (none, empty), EMPTY, gone, (none, none))
+    ∷ (Swap DISCONNECTED, (none, empty), MESSAGE, ended, (filled, empty))
+    ∷ (Swap DISCONNECTED, (none, empty), DISCONNECTED, ended, (empty, empty))
     ∷ []
 receiver_moves (here between) =
-    (Load, (none, empty), 3, here looked, (none, empty))
-    ∷ (Load, (none, empty), 4, full at_once, (filled, empty))
-    ∷ (Load, (none, empty), 2, disconnected found_closed, (empty, empty))
-    ∷ (Swap 2, (none, empty), 3, gone, (none, none))
-    ∷ (Swap 2, (none, empty), 4, ended, (filled, empty))
-    ∷ (Swap 2, (none, empty), 2, ended, (empty, empty))
+    (Load, (none, empty), EMPTY, here looked, (none, empty))
+    ∷ (Load, (none, empty), MESSAGE, full at_once, (filled, empty))
+    ∷ (Load, (none, empty), DISCONNECTED, disconnected found_closed, (empty, empty))
+    ∷ (Swap DISCONNECTED, (none, empty), EMPTY, gone, (none, none))
+    ∷ (Swap DISCONNECTED, (none, empty), MESSAGE, ended, (filled, empty))
+    ∷ (Swap DISCONNECTED, (none, empty), DISCONNECTED, ended, (empty, empty))
     ∷ []
 receiver_moves (waits blocked) =
-    (Load, (none, none), 0, waits blocked, (none, none))
-    ∷ (Load, (none, none), 1, waits blocked, (none, none))
-    ∷ (Load, (none, none), 4, full waited, (filled, empty))
-    ∷ (Load, (none, none), 2, disconnected found_closed, (empty, empty))
-    ∷ (Swap 3, (none, none), 0, here between, (none, filled))
-    ∷ (Swap 3, (none, none), 1, overdue, (none, none))
-    ∷ (Swap 3, (none, none), 4, full (swapped stopping), (filled, empty))
-    ∷ (Swap 3, (none, none), 2, unclosed stopping, (empty, empty))
+    (Load, (none, none), RECEIVING, waits blocked, (none, none))
+    ∷ (Load, (none, none), UNPARKING, waits blocked, (none, none))
+    ∷ (Load, (none, none), MESSAGE, full waited, (filled, empty))
+    ∷ (Load, (none, none), DISCONNECTED, disconnected found_closed, (empty, empty))
+    ∷ (Swap EMPTY, (none, none), RECEIVING, here between, (none, filled))
+    ∷ (Swap EMPTY, (none, none), UNPARKING, overdue, (none, none))
+    ∷ (Swap EMPTY, (none, none), MESSAGE, full (swapped stopping), (filled, empty))
+    ∷ (Swap EMPTY, (none, none), DISCONNECTED, unclosed stopping, (empty, empty))
     ∷ []
 receiver_moves (waits polled) =
-    (Load, (none, none), 0, waits again, (none, none))
-    ∷ (Load, (none, none), 1, claimed, (none, none))
-    ∷ (Load, (none, none), 4, full by_future, (filled, empty))
-    ∷ (Load, (none, none), 2, disconnected found_closed, (empty, empty))
+    (Load, (none, none), RECEIVING, waits again, (none, none))
+    ∷ (Load, (none, none), UNPARKING, claimed, (none, none))
+    ∷ (Load, (none, none), MESSAGE, full by_future, (filled, empty))
+    ∷ (Load, (none, none), DISCONNECTED, disconnected found_closed, (empty, empty))
     ∷ []
 receiver_moves (waits again) =
-    (Load, (none, none), 0, waits again, (none, none))
-    ∷ (Load, (none, none), 1, claimed, (none, none))
-    ∷ (Load, (none, none), 4, full by_future, (filled, empty))
-    ∷ (Load, (none, none), 2, disconnected found_closed, (empty, empty))
-    ∷ (Exchange 0 3, (none, none), 0, withdrew, (none, filled))
-    ∷ (Exchange 0 3, (none, none), 1, claimed, (none, none))
-    ∷ (Exchange 0 3, (none, none), 4, full by_future, (filled, empty))
-    ∷ (Exchange 0 3, (none, none), 2, disconnected found_closed, (empty, empty))
+    (Load, (none, none), RECEIVING, waits again, (none, none))
+    ∷ (Load, (none, none), UNPARKING, claimed, (none, none))
+    ∷ (Load, (none, none), MESSAGE, full by_future, (filled, empty))
+    ∷ (Load, (none, none), DISCONNECTED, disconnected found_closed, (empty, empty))
+    ∷ (Exchange RECEIVING EMPTY, (none, none), RECEIVING, withdrew, (none, filled))
+    ∷ (Exchange RECEIVING EMPTY, (none, none), UNPARKING, claimed, (none, none))
+    ∷ (Exchange RECEIVING EMPTY, (none, none), MESSAGE, full by_future, (filled, empty))
+    ∷ (Exchange RECEIVING EMPTY, (none, none), DISCONNECTED, disconnected found_closed, (empty, empty))
     ∷ []
 receiver_moves claimed =
-    (Load, (none, none), 1, claimed, (none, none))
-    ∷ (Load, (none, none), 4, full by_future, (filled, empty))
-    ∷ (Load, (none, none), 2, disconnected found_closed, (empty, empty))
-    ∷ (Swap 2, (none, none), 1, gone, (none, none))
-    ∷ (Swap 2, (none, none), 4, ended, (filled, empty))
-    ∷ (Swap 2, (none, none), 2, ended, (empty, empty))
+    (Load, (none, none), UNPARKING, claimed, (none, none))
+    ∷ (Load, (none, none), MESSAGE, full by_future, (filled, empty))
+    ∷ (Load, (none, none), DISCONNECTED, disconnected found_closed, (empty, empty))
+    ∷ (Swap DISCONNECTED, (none, none), UNPARKING, gone, (none, none))
+    ∷ (Swap DISCONNECTED, (none, none), MESSAGE, ended, (filled, empty))
+    ∷ (Swap DISCONNECTED, (none, none), DISCONNECTED, ended, (empty, empty))
     ∷ []
 receiver_moves withdrew =
-    (Exchange 3 0, (none, filled), 3, waits polled, (none, none))
-    ∷ (Exchange 3 0, (none, filled), 4, full by_poll, (filled, filled))
-    ∷ (Exchange 3 0, (none, filled), 2, resolved found_closed, (empty, filled))
-    ∷ (Swap 2, (none, empty), 3, gone, (none, none))
-    ∷ (Swap 2, (none, empty), 4, ended, (filled, empty))
-    ∷ (Swap 2, (none, empty), 2, ended, (empty, empty))
+    (Exchange EMPTY RECEIVING, (none, filled), EMPTY, waits polled, (none, none))
+    ∷ (Exchange EMPTY RECEIVING, (none, filled), MESSAGE, full by_poll, (filled, filled))
+    ∷ (Exchange EMPTY RECEIVING, (none, filled), DISCONNECTED, resolved found_closed, (empty, filled))
+    ∷ (Swap DISCONNECTED, (none, empty), EMPTY, gone, (none, none))
+    ∷ (Swap DISCONNECTED, (none, empty), MESSAGE, ended, (filled, empty))
+    ∷ (Swap DISCONNECTED, (none, empty), DISCONNECTED, ended, (empty, empty))
     ∷ []
 receiver_moves overdue =
-    (Load, (none, none), 3, overdue, (none, none))
-    ∷ (Load, (none, none), 4, full waited, (filled, empty))
-    ∷ (Load, (none, none), 2, disconnected found_closed, (empty, empty))
+    (Load, (none, none), EMPTY, overdue, (none, none))
+    ∷ (Load, (none, none), MESSAGE, full waited, (filled, empty))
+    ∷ (Load, (none, none), DISCONNECTED, disconnected found_closed, (empty, empty))
     ∷ []
 receiver_moves (full at_once) =
-    (Store 2, (filled, empty), 4, disconnected closed_itself, (filled, empty))
-    ∷ (Swap 2, (filled, empty), 4, ended, (filled, empty))
+    (Store DISCONNECTED, (filled, empty), MESSAGE, disconnected closed_itself, (filled, empty))
+    ∷ (Swap DISCONNECTED, (filled, empty), MESSAGE, ended, (filled, empty))
     ∷ []
-receiver_moves (full waited) = (Store 2, (filled, empty), 4, disconnected closed_itself, (filled, empty)) ∷ []
+receiver_moves (full waited) =
+    (Store DISCONNECTED, (filled, empty), MESSAGE, disconnected closed_itself, (filled, empty))
+    ∷ []
 receiver_moves (full (swapped by)) =
-    (Store 2, (filled, empty), swapped_in by, disconnected closed_itself, (filled, empty)) ∷ []
+    (Store DISCONNECTED, (filled, empty), swapped_in by, disconnected closed_itself, (filled, empty)) ∷ []
 receiver_moves (full by_future) =
-    (Store 2, (filled, empty), 4, resolved closed_itself, (filled, empty))
-    ∷ (Swap 2, (filled, empty), 4, ended, (filled, empty))
+    (Store DISCONNECTED, (filled, empty), MESSAGE, resolved closed_itself, (filled, empty))
+    ∷ (Swap DISCONNECTED, (filled, empty), MESSAGE, ended, (filled, empty))
     ∷ []
 receiver_moves (full by_poll) =
-    (Store 2, (filled, empty), 4, resolved closed_itself, (filled, empty)) ∷ []
+    (Store DISCONNECTED, (filled, empty), MESSAGE, resolved closed_itself, (filled, empty)) ∷ []
 receiver_moves (unclosed by) =
-    (Store 2, (empty, empty), swapped_in by, disconnected closed_itself, (empty, empty)) ∷ []
+    (Store DISCONNECTED, (empty, empty), swapped_in by, disconnected closed_itself, (empty, empty)) ∷ []
 receiver_moves (disconnected closing) =
-    (Load, (empty, empty), 2, disconnected closing, (empty, empty))
-    ∷ (Swap 2, (empty, empty), 2, ended, (empty, empty))
+    (Load, (empty, empty), DISCONNECTED, disconnected closing, (empty, empty))
+    ∷ (Swap DISCONNECTED, (empty, empty), DISCONNECTED, ended, (empty, empty))
     ∷ []
-receiver_moves (resolved closing) = (Load, (empty, empty), 2, disconnected closing, (empty, empty)) ∷ []
+receiver_moves (resolved closing) = (Load, (empty, empty), DISCONNECTED, disconnected closing, (empty, empty)) ∷ []
 receiver_moves gone = []
 receiver_moves ended = []
 receiver_moves no_receiver = []

@@ -5,6 +5,7 @@ use Rattle.oneshot_machine.specs.declared.machine.RowEnd.TheVariants as Code
 use Rattle.oneshot_machine.specs.declared.machine.sender.SenderPos.{SenderPos}
 use Rattle.oneshot_machine.specs.declared.machine.sender.SenderPos.TheVariants.{SendAdd, SendWake}
 use Rattle.oneshot_machine.specs.declared.states.Op.TheVariants.{Load, Store, Swap, Exchange, Add, Xor}
+use Rattle.oneshot_machine.specs.declared.states.TheConstants.{RECEIVING, DISCONNECTED, EMPTY, MESSAGE}
 use Rattle.oneshot_machine.specs.Phases.{sending, dropping, fresh, owes, finished, late, no_sender, first, here, looked, waits, blocked, again, claimed, full, at_once, disconnected, found_closed, gone, no_receiver}
 use Rattle.oneshot_machine.specs.Slots.{Held, away, vacant, held, SenderMay, SenderFinds, SenderOwns, ReceiverMay, ReceiverFinds, ReceiverOwns}
 use Rattle.oneshot_machine.specs.TableRows.{Goes, Answers, outcome, leads}
@@ -31,20 +32,20 @@ pub record SlotsThatAre : Type 0 where
   -- the slots that an operation needs
   pub sends : SenderMay fresh Add (has 7) no_slot
   pub drops : SenderMay fresh Xor room no_slot
-  pub sends_at_last : SenderMay (owes sending) (Swap 4) (has 7) room
+  pub sends_at_last : SenderMay (owes sending) (Swap MESSAGE) (has 7) room
   pub looks : ReceiverMay first Load no_slot no_slot
-  pub stores : ReceiverMay (here looked) (Swap 0) no_slot (has 1)
-  pub leaves : ReceiverMay claimed (Swap 2) no_slot no_slot
+  pub stores : ReceiverMay (here looked) (Swap RECEIVING) no_slot (has 1)
+  pub leaves : ReceiverMay claimed (Swap DISCONNECTED) no_slot no_slot
   -- and the slots before and after it
-  pub gives_its_message : SenderFinds fresh Add 3 (has 7) no_slot away away
-  pub gets_a_waker : SenderFinds fresh Add 0 (has 7) away (has 7) (has 1)
-  pub keeps_its_message : SenderFinds fresh Add 2 (has 7) no_slot (has 7) vacant
-  pub gives_its_room : SenderFinds fresh Xor 3 room no_slot away away
-  pub keeps_its_room : SenderFinds (owes dropping) (Swap 2) 2 room room vacant vacant
-  pub gets_a_message : ReceiverFinds first Load 4 away no_slot (has 7) vacant
-  pub gets_its_room : ReceiverFinds first Load 2 no_slot no_slot vacant vacant
-  pub stores_its_waker : ReceiverFinds (here looked) (Swap 0) 3 no_slot (has 1) away away
-  pub takes_it_back : ReceiverFinds (waits blocked) (Swap 3) 0 no_slot away away (has 1)
+  pub gives_its_message : SenderFinds fresh Add EMPTY (has 7) no_slot away away
+  pub gets_a_waker : SenderFinds fresh Add RECEIVING (has 7) away (has 7) (has 1)
+  pub keeps_its_message : SenderFinds fresh Add DISCONNECTED (has 7) no_slot (has 7) vacant
+  pub gives_its_room : SenderFinds fresh Xor EMPTY room no_slot away away
+  pub keeps_its_room : SenderFinds (owes dropping) (Swap DISCONNECTED) DISCONNECTED room room vacant vacant
+  pub gets_a_message : ReceiverFinds first Load MESSAGE away no_slot (has 7) vacant
+  pub gets_its_room : ReceiverFinds first Load DISCONNECTED no_slot no_slot vacant vacant
+  pub stores_its_waker : ReceiverFinds (here looked) (Swap RECEIVING) EMPTY no_slot (has 1) away away
+  pub takes_it_back : ReceiverFinds (waits blocked) (Swap EMPTY) RECEIVING no_slot away away (has 1)
   -- and the slots that are the end's at a phase, empty or filled
   pub has_a_message : SenderOwns fresh (has 7) no_slot
   pub has_room : SenderOwns fresh room no_slot
@@ -59,25 +60,25 @@ pub record SlotsThatAreNot : Type 0 where
   pub sends_from_elsewhere : SenderMay fresh Add no_slot no_slot → ⊥
   pub sends_with_a_waker : SenderMay fresh Add (has 7) (has 1) → ⊥
   pub drops_a_message : SenderMay fresh Xor (has 7) no_slot → ⊥
-  pub swaps_at_once : SenderMay fresh (Swap 4) (has 7) no_slot → ⊥
+  pub swaps_at_once : SenderMay fresh (Swap MESSAGE) (has 7) no_slot → ⊥
   pub sends_twice : SenderMay (finished sending) Add (has 7) no_slot → ⊥
-  pub waits_without_a_waker : ReceiverMay (here looked) (Swap 0) no_slot room → ⊥
-  pub polls_as_it_blocks : ReceiverMay (waits blocked) (Exchange 0 3) no_slot no_slot → ⊥
+  pub waits_without_a_waker : ReceiverMay (here looked) (Swap RECEIVING) no_slot room → ⊥
+  pub polls_as_it_blocks : ReceiverMay (waits blocked) (Exchange RECEIVING EMPTY) no_slot no_slot → ⊥
   pub goes_on_when_gone : ReceiverMay gone Load no_slot no_slot → ⊥
   -- a word that it does not find there
-  pub finds_a_message : SenderFinds fresh Add 4 (has 7) no_slot away away → ⊥
-  pub finds_3_as_it_waits : ReceiverFinds (waits again) Load 3 no_slot no_slot away away → ⊥
+  pub finds_a_message : SenderFinds fresh Add MESSAGE (has 7) no_slot away away → ⊥
+  pub finds_3_as_it_waits : ReceiverFinds (waits again) Load EMPTY no_slot no_slot away away → ⊥
   -- other slots before or after
-  pub sends_and_keeps : SenderFinds fresh Add 3 (has 7) no_slot (has 7) away → ⊥
-  pub gets_another_back : SenderFinds fresh Add 2 (has 7) no_slot (has 8) vacant → ⊥
-  pub loses_it : SenderFinds fresh Add 2 (has 7) no_slot away vacant → ⊥
-  pub gets_no_waker : SenderFinds fresh Add 0 (has 7) no_slot (has 7) vacant → ⊥
-  pub sent_nothing : SenderFinds fresh Add 3 room no_slot away away → ⊥
-  pub gets_no_message : ReceiverFinds first Load 4 no_slot no_slot vacant vacant → ⊥
-  pub gets_one_from_nobody : ReceiverFinds first Load 2 away no_slot (has 7) vacant → ⊥
-  pub stores_and_keeps : ReceiverFinds (here looked) (Swap 0) 3 no_slot (has 1) away (has 1) → ⊥
-  pub closes_and_loses : ReceiverFinds (full at_once) (Store 2) 4 (has 7) room vacant vacant → ⊥
-  pub finds_room_filled : ReceiverFinds (disconnected found_closed) Load 2 room room (has 7)
+  pub sends_and_keeps : SenderFinds fresh Add EMPTY (has 7) no_slot (has 7) away → ⊥
+  pub gets_another_back : SenderFinds fresh Add DISCONNECTED (has 7) no_slot (has 8) vacant → ⊥
+  pub loses_it : SenderFinds fresh Add DISCONNECTED (has 7) no_slot away vacant → ⊥
+  pub gets_no_waker : SenderFinds fresh Add RECEIVING (has 7) no_slot (has 7) vacant → ⊥
+  pub sent_nothing : SenderFinds fresh Add EMPTY room no_slot away away → ⊥
+  pub gets_no_message : ReceiverFinds first Load MESSAGE no_slot no_slot vacant vacant → ⊥
+  pub gets_one_from_nobody : ReceiverFinds first Load DISCONNECTED away no_slot (has 7) vacant → ⊥
+  pub stores_and_keeps : ReceiverFinds (here looked) (Swap RECEIVING) EMPTY no_slot (has 1) away (has 1) → ⊥
+  pub closes_and_loses : ReceiverFinds (full at_once) (Store DISCONNECTED) MESSAGE (has 7) room vacant vacant → ⊥
+  pub finds_room_filled : ReceiverFinds (disconnected found_closed) Load DISCONNECTED room room (has 7)
       vacant → ⊥
   -- the end's slot, away; another's, here; and a log of no end
   pub lost_its_slot : SenderOwns fresh no_slot no_slot → ⊥

@@ -10,6 +10,7 @@ use Rattle.oneshot_machine.specs.declared.machine.Seen.TheVariants.{Done, Word}
 use Rattle.oneshot_machine.specs.declared.machine.Step.{Step}
 use Rattle.oneshot_machine.specs.declared.machine.Step.TheVariants as T
 use Rattle.oneshot_machine.specs.declared.states.Op.TheVariants as O
+use Rattle.oneshot_machine.specs.declared.states.TheConstants.{RECEIVING, UNPARKING, DISCONNECTED, EMPTY, MESSAGE}
 use Rattle.oneshot_machine.specs.TableRows.{Outcome, Goes, Answers, Rows, row_for}
 
 abbrev pub sender_start : SenderCall → SenderPos
@@ -25,12 +26,12 @@ sender_step LookClosed = T.Word O.Load
 sender_step SendWrite = T.WriteMessage
 sender_step SendAdd = T.Word O.Add
 sender_step SendTakeWaker = T.TakeWaker
-sender_step SendFinal = T.Word (O.Swap 4)
+sender_step SendFinal = T.Word (O.Swap MESSAGE)
 sender_step SendWake = T.Wake
 sender_step SendLateWake = T.Wake
 sender_step DropXor = T.Word O.Xor
 sender_step DropTakeWaker = T.TakeWaker
-sender_step DropFinal = T.Word (O.Swap 2)
+sender_step DropFinal = T.Word (O.Swap DISCONNECTED)
 sender_step DropWake = T.Wake
 sender_step DropLateWake = T.Wake
 sender_step DropFree = T.Free
@@ -41,18 +42,36 @@ sender_step ErrorDrop = T.DropMessage
 sender_step ErrorFree = T.Free
 
 abbrev pub sender_rows : SenderPos → Rows SenderPos
-sender_rows LookClosed = (Word 2, Answers R.Yes) ∷ (Word 0, Answers R.No) ∷ (Word 3, Answers R.No) ∷ []
+sender_rows LookClosed =
+    (Word DISCONNECTED, Answers R.Yes)
+    ∷ (Word RECEIVING, Answers R.No)
+    ∷ (Word EMPTY, Answers R.No)
+    ∷ []
 sender_rows SendWrite = (Done, Goes SendAdd) ∷ []
 sender_rows SendAdd =
-    (Word 3, Answers R.Sent) ∷ (Word 0, Goes SendTakeWaker) ∷ (Word 2, Answers R.Refused) ∷ []
+    (Word EMPTY, Answers R.Sent)
+    ∷ (Word RECEIVING, Goes SendTakeWaker)
+    ∷ (Word DISCONNECTED, Answers R.Refused)
+    ∷ []
 sender_rows SendTakeWaker = (Done, Goes SendFinal) ∷ []
-sender_rows SendFinal = (Word 1, Goes SendWake) ∷ (Word 3, Goes SendWake) ∷ (Word 2, Goes SendLateWake) ∷ []
+sender_rows SendFinal =
+    (Word UNPARKING, Goes SendWake)
+    ∷ (Word EMPTY, Goes SendWake)
+    ∷ (Word DISCONNECTED, Goes SendLateWake)
+    ∷ []
 sender_rows SendWake = (Done, Answers R.Sent) ∷ []
 sender_rows SendLateWake = (Done, Answers R.Refused) ∷ []
 sender_rows DropXor =
-    (Word 3, Answers R.Done) ∷ (Word 0, Goes DropTakeWaker) ∷ (Word 2, Goes DropFree) ∷ []
+    (Word EMPTY, Answers R.Done)
+    ∷ (Word RECEIVING, Goes DropTakeWaker)
+    ∷ (Word DISCONNECTED, Goes DropFree)
+    ∷ []
 sender_rows DropTakeWaker = (Done, Goes DropFinal) ∷ []
-sender_rows DropFinal = (Word 1, Goes DropWake) ∷ (Word 3, Goes DropWake) ∷ (Word 2, Goes DropLateWake) ∷ []
+sender_rows DropFinal =
+    (Word UNPARKING, Goes DropWake)
+    ∷ (Word EMPTY, Goes DropWake)
+    ∷ (Word DISCONNECTED, Goes DropLateWake)
+    ∷ []
 sender_rows DropWake = (Done, Answers R.Done) ∷ []
 sender_rows DropLateWake = (Done, Goes DropFree) ∷ []
 sender_rows DropFree = (Done, Answers R.Done) ∷ []

@@ -11,6 +11,7 @@ use Rattle.oneshot_machine.specs.declared.machine.Seen.TheVariants.{Done, Word, 
 use Rattle.oneshot_machine.specs.declared.machine.Step.{Step}
 use Rattle.oneshot_machine.specs.declared.machine.Step.TheVariants as T
 use Rattle.oneshot_machine.specs.declared.states.Op.TheVariants as O
+use Rattle.oneshot_machine.specs.declared.states.TheConstants.{RECEIVING, UNPARKING, DISCONNECTED, EMPTY, MESSAGE}
 use Rattle.oneshot_machine.specs.TableRows.{Goes, Answers, Rows}
 
 abbrev pub timed_step : TimedPos → Step
@@ -18,7 +19,7 @@ timed_step (SumClock representable) = T.Clock
 timed_step Clock = T.Clock
 timed_step TimedPark = T.Park
 timed_step TimedLoad = T.Word O.Load
-timed_step EndSwap = T.Word (O.Swap 3)
+timed_step EndSwap = T.Word (O.Swap EMPTY)
 timed_step EndBack = T.Withdraw
 timed_step LatePark = T.Park
 timed_step LateLoad = T.Word O.Load
@@ -30,16 +31,25 @@ timed_rows Clock = (Over false, Goes (Timed TimedPark)) ∷ (Over true, Goes (Ti
 timed_rows TimedPark =
     (Token true, Goes (Timed TimedLoad)) ∷ (Token false, Goes (Timed TimedLoad)) ∷ []
 timed_rows TimedLoad =
-    (Word 4, Goes (Try Close)) ∷ (Word 2, Answers R.Disconnected) ∷ (Word 0, Goes (Timed Clock))
-    ∷ (Word 1, Goes (Timed Clock)) ∷ []
+    (Word MESSAGE, Goes (Try Close))
+    ∷ (Word DISCONNECTED, Answers R.Disconnected)
+    ∷ (Word RECEIVING, Goes (Timed Clock))
+    ∷ (Word UNPARKING, Goes (Timed Clock))
+    ∷ []
 timed_rows EndSwap =
-    (Word 0, Goes (Timed EndBack)) ∷ (Word 4, Goes (Try Close)) ∷ (Word 2, Goes (Try CloseOnly))
-    ∷ (Word 1, Goes (Timed LatePark)) ∷ []
+    (Word RECEIVING, Goes (Timed EndBack))
+    ∷ (Word MESSAGE, Goes (Try Close))
+    ∷ (Word DISCONNECTED, Goes (Try CloseOnly))
+    ∷ (Word UNPARKING, Goes (Timed LatePark))
+    ∷ []
 timed_rows EndBack = (Done, Answers R.Timeout) ∷ []
 timed_rows LatePark =
     (Token true, Goes (Timed LateLoad)) ∷ (Token false, Goes (Timed LateLoad)) ∷ []
 timed_rows LateLoad =
-    (Word 4, Goes (Try Close)) ∷ (Word 2, Answers R.Disconnected) ∷ (Word 3, Goes (Timed LatePark)) ∷ []
+    (Word MESSAGE, Goes (Try Close))
+    ∷ (Word DISCONNECTED, Answers R.Disconnected)
+    ∷ (Word EMPTY, Goes (Timed LatePark))
+    ∷ []
 
 -- the positions, and the number of each in their list
 abbrev pub timed_positions : List TimedPos

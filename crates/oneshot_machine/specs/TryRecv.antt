@@ -9,17 +9,21 @@ use Rattle.oneshot_machine.specs.declared.machine.Seen.TheVariants.{Done, Word}
 use Rattle.oneshot_machine.specs.declared.machine.Step.{Step}
 use Rattle.oneshot_machine.specs.declared.machine.Step.TheVariants as T
 use Rattle.oneshot_machine.specs.declared.states.Op.TheVariants as O
+use Rattle.oneshot_machine.specs.declared.states.TheConstants.{DISCONNECTED, EMPTY, MESSAGE}
 use Rattle.oneshot_machine.specs.TableRows.{Goes, Answers, Rows}
 
 abbrev pub try_step : TryPos → Step
 try_step TryLoad = T.Word O.Load
-try_step Close = T.Word (O.Store 2)
+try_step Close = T.Word (O.Store DISCONNECTED)
 try_step Take = T.TakeMessage
-try_step CloseOnly = T.Word (O.Store 2)
+try_step CloseOnly = T.Word (O.Store DISCONNECTED)
 
 abbrev pub try_rows : TryPos → Rows ReceiverPos
 try_rows TryLoad =
-    (Word 4, Goes (Try Close)) ∷ (Word 3, Answers R.Empty) ∷ (Word 2, Answers R.Disconnected) ∷ []
+    (Word MESSAGE, Goes (Try Close))
+    ∷ (Word EMPTY, Answers R.Empty)
+    ∷ (Word DISCONNECTED, Answers R.Disconnected)
+    ∷ []
 try_rows Close = (Done, Goes (Try Take)) ∷ []
 try_rows Take = (Done, Answers R.Message) ∷ []
 try_rows CloseOnly = (Done, Answers R.Disconnected) ∷ []

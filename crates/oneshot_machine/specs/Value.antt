@@ -9,12 +9,13 @@ use Rattle.oneshot_machine.specs.declared.machine.Seen.TheVariants.{Done, Word, 
 use Rattle.oneshot_machine.specs.declared.machine.Step.{Step}
 use Rattle.oneshot_machine.specs.declared.machine.Step.TheVariants as T
 use Rattle.oneshot_machine.specs.declared.states.Op.TheVariants as O
+use Rattle.oneshot_machine.specs.declared.states.TheConstants.{RECEIVING, UNPARKING, DISCONNECTED, EMPTY, MESSAGE}
 use Rattle.oneshot_machine.specs.TableRows.{Goes, Answers, Rows}
 
 abbrev pub value_step : ValuePos → Step
 value_step RecvLoad = T.Word O.Load
 value_step RecvWrite = T.WriteWaker
-value_step RecvSwap = T.Word (O.Swap 0)
+value_step RecvSwap = T.Word (O.Swap RECEIVING)
 value_step RecvBackFull = T.Withdraw
 value_step RecvBackClosed = T.Withdraw
 value_step RecvPark = T.Park
@@ -25,17 +26,26 @@ value_step RecvFreeGone = T.Free
 
 abbrev pub value_rows : ValuePos → Rows ReceiverPos
 value_rows RecvLoad =
-    (Word 4, Goes (Value RecvTake)) ∷ (Word 2, Goes (Value RecvFreeGone)) ∷ (Word 3, Goes (Value RecvWrite)) ∷ []
+    (Word MESSAGE, Goes (Value RecvTake))
+    ∷ (Word DISCONNECTED, Goes (Value RecvFreeGone))
+    ∷ (Word EMPTY, Goes (Value RecvWrite))
+    ∷ []
 value_rows RecvWrite = (Done, Goes (Value RecvSwap)) ∷ []
 value_rows RecvSwap =
-    (Word 3, Goes (Value RecvPark)) ∷ (Word 4, Goes (Value RecvBackFull)) ∷ (Word 2, Goes (Value RecvBackClosed)) ∷ []
+    (Word EMPTY, Goes (Value RecvPark))
+    ∷ (Word MESSAGE, Goes (Value RecvBackFull))
+    ∷ (Word DISCONNECTED, Goes (Value RecvBackClosed))
+    ∷ []
 value_rows RecvBackFull = (Done, Goes (Value RecvTake)) ∷ []
 value_rows RecvBackClosed = (Done, Goes (Value RecvFreeGone)) ∷ []
 value_rows RecvPark =
     (Token true, Goes (Value RecvParkLoad)) ∷ (Token false, Goes (Value RecvParkLoad)) ∷ []
 value_rows RecvParkLoad =
-    (Word 4, Goes (Value RecvTake)) ∷ (Word 2, Goes (Value RecvFreeGone)) ∷ (Word 0, Goes (Value RecvPark))
-    ∷ (Word 1, Goes (Value RecvPark)) ∷ []
+    (Word MESSAGE, Goes (Value RecvTake))
+    ∷ (Word DISCONNECTED, Goes (Value RecvFreeGone))
+    ∷ (Word RECEIVING, Goes (Value RecvPark))
+    ∷ (Word UNPARKING, Goes (Value RecvPark))
+    ∷ []
 value_rows RecvTake = (Done, Goes (Value RecvFreeGot)) ∷ []
 value_rows RecvFreeGot = (Done, Answers R.Message) ∷ []
 value_rows RecvFreeGone = (Done, Answers R.Disconnected) ∷ []

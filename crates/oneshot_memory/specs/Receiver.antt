@@ -4,6 +4,7 @@ use Rattle.std.specs.List.{list_any}
 use Rattle.oneshot_machine.specs.declared.machine.Seen.TheVariants as S
 use Rattle.oneshot_machine.specs.declared.states.Op.{Op}
 use Rattle.oneshot_machine.specs.declared.states.Op.TheVariants.{Load, Store, Swap, Exchange}
+use Rattle.oneshot_machine.specs.declared.states.TheConstants.{RECEIVING, UNPARKING, DISCONNECTED, EMPTY, MESSAGE}
 use Rattle.oneshot_machine.specs.Phases.{ReceiverAt, receiver_moves, receiver_owns, Share, none, empty, filled, Row, is_row_for}
 use Rattle.oneshot_machine.specs.Slots.{Held, away}
 use Rattle.oneshot_drive.specs.Grounds.{GroundState}
@@ -52,7 +53,7 @@ receiver_has (Some (true, waker)) rows c =
 receiver_has (Some (false, waker)) rows c =
     owns_just false waker c
     && is_word 2 rows c.word
-    && is_same (c.word == 4) c.has_message
+    && is_same (c.word == MESSAGE) c.has_message
     && (waker || is_same (leaves_waker rows c.word) c.has_waker)
 
 abbrev pub receiver_matches : ReceiverAt → Memory → Bool
@@ -66,7 +67,7 @@ pub record ReceiverMatches {T W : Type 0} (q : ReceiverAt) (word : ℕ) (owns_me
 -- whether the receiver owns the message's slot after an operation that found this word
 abbrev pub keeps_message : Op → ℕ → Bool
 keeps_message (Store new) word = true
-keeps_message _ word = (word == 4) || (word == 2)
+keeps_message _ word = (word == MESSAGE) || (word == DISCONNECTED)
 
 -- the slot has the waker of a waiting receiver, and is not the receiver's
 abbrev pub lies : {W : Type 0} → Bool → Option W → Bool
@@ -74,14 +75,14 @@ lies owns_waker waker = not owns_waker && is_some waker
 
 -- whether the receiver owns the waker's slot after it; `lying`: the waker of a waiting receiver was in it
 abbrev pub keeps_waker : Op → ℕ → Bool → Bool
-keeps_waker (Swap new) word lying = not ((word == 3) || (word == 1))
-keeps_waker (Exchange expected new) word lying = not ((word == 3) || (word == 1))
+keeps_waker (Swap new) word lying = not ((word == EMPTY) || (word == UNPARKING))
+keeps_waker (Exchange expected new) word lying = not ((word == EMPTY) || (word == UNPARKING))
 keeps_waker Load word lying = not lying
 keeps_waker _ word lying = true
 
 -- whether with this operation a receiver leaves while the sender is about to finish
 abbrev pub overtakes : Op → ℕ → Bool
-overtakes (Swap new) word = (new == 2) && (word == 1)
+overtakes (Swap new) word = (new == DISCONNECTED) && (word == UNPARKING)
 overtakes _ word = false
 
 -- the waker in its slot after it: a sender that it overtakes has used it up
@@ -90,7 +91,7 @@ waker_after op word waker = if overtakes op word then None else waker
 
 -- the words while neither end has acted: nobody waits, or the receiver does
 abbrev pub is_quiet : ℕ → Bool
-is_quiet word = (word == 3) || (word == 0)
+is_quiet word = (word == EMPTY) || (word == RECEIVING)
 
 -- whether both ends are here, by the word and the message's slot
 abbrev pub both_here : {T : Type 0} → ℕ → Held T → Bool

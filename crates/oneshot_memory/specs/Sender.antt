@@ -8,6 +8,7 @@ use Rattle.oneshot_memory.specs.declared.sender.Meanwhile.{Meanwhile}
 use Rattle.oneshot_memory.specs.declared.sender.Meanwhile.TheVariants.{Waits, Stops, Leaves}
 use Rattle.oneshot_memory.specs.Memory.{Memory, memory_of, is_code, is_same, owns_just, is_word}
 use Rattle.oneshot_memory.specs.Events.{memory_state}
+use Rattle.oneshot_machine.specs.declared.states.TheConstants.{RECEIVING, UNPARKING, DISCONNECTED}
 
 -- its log, with both slots as the sender sees them, its word, and what a waiting receiver will do before the
 -- sender finishes
@@ -57,10 +58,10 @@ pub record SenderMatches {T W : Type 0} (p : SenderAt) (word : ℕ) (owns_messag
 
 -- whether the sender owns both slots after an operation that found this word
 abbrev pub keeps_both : ℕ → Bool
-keeps_both word = (word == 2) || (word == 0)
+keeps_both word = (word == DISCONNECTED) || (word == RECEIVING)
 
 -- the word after the sender took the waker of a waiting receiver, which then did this
 abbrev pub word_then : Meanwhile → ℕ → ℕ
 word_then Waits word = word
-word_then Stops word = if word == 1 then 3 else word
-word_then Leaves word = if word == 1 then 2 else word
+word_then Stops word = if word == UNPARKING then 3 else word
+word_then Leaves word = if word == UNPARKING then 2 else word

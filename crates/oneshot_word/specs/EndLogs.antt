@@ -4,29 +4,31 @@ use Rattle.oneshot_machine.specs.declared.machine.Seen.{Seen}
 use Rattle.oneshot_machine.specs.declared.machine.Seen.TheVariants.{Word}
 use Rattle.oneshot_machine.specs.declared.states.Op.{Op}
 use Rattle.oneshot_machine.specs.declared.states.Op.TheVariants.{Load, Store, Swap, Exchange, Add, Xor}
+use Rattle.oneshot_machine.specs.declared.states.TheConstants.{RECEIVING, UNPARKING, DISCONNECTED, EMPTY, MESSAGE}
 use Rattle.oneshot_machine.specs.Noted.{Noted}
 use Rattle.oneshot_machine.specs.Phases.{By, sending, dropping}
 
 -- The sender found 0, and its final swap is to come.
 pub data FoundZero : By → List Noted → Type 0 where
-  send_found : FoundZero sending ((Add, Word 0) ∷ [])
-  drop_found : FoundZero dropping ((Xor, Word 0) ∷ [])
+  send_found : FoundZero sending ((Add, Word RECEIVING) ∷ [])
+  drop_found : FoundZero dropping ((Xor, Word RECEIVING) ∷ [])
 
 -- The sender has performed its last operation, and the receiver was here.
 pub data MadeLast : By → List Noted → Type 0 where
-  sent : MadeLast sending ((Add, Word 3) ∷ [])
-  sent_to_it : MadeLast sending ((Add, Word 0) ∷ (Swap 4, Word 1) ∷ [])
-  sent_to_overdue : MadeLast sending ((Add, Word 0) ∷ (Swap 4, Word 3) ∷ [])
-  dropped : MadeLast dropping ((Xor, Word 3) ∷ [])
-  dropped_before_it : MadeLast dropping ((Xor, Word 0) ∷ (Swap 2, Word 1) ∷ [])
-  dropped_before_overdue : MadeLast dropping ((Xor, Word 0) ∷ (Swap 2, Word 3) ∷ [])
+  sent : MadeLast sending ((Add, Word EMPTY) ∷ [])
+  sent_to_it : MadeLast sending ((Add, Word RECEIVING) ∷ (Swap MESSAGE, Word UNPARKING) ∷ [])
+  sent_to_overdue : MadeLast sending ((Add, Word RECEIVING) ∷ (Swap MESSAGE, Word EMPTY) ∷ [])
+  dropped : MadeLast dropping ((Xor, Word EMPTY) ∷ [])
+  dropped_before_it : MadeLast dropping ((Xor, Word RECEIVING) ∷ (Swap DISCONNECTED, Word UNPARKING) ∷ [])
+  dropped_before_overdue : MadeLast dropping ((Xor, Word RECEIVING) ∷ (Swap DISCONNECTED, Word EMPTY) ∷ [])
 
 -- The sender has performed its last operation, which found the receiver gone and left this word.
 pub data MadeLate : By → ℕ → List Noted → Type 0 where
-  sent_late : MadeLate sending 3 ((Add, Word 2) ∷ [])
-  dropped_late : MadeLate dropping 3 ((Xor, Word 2) ∷ [])
-  sent_overtaken : MadeLate sending 4 ((Add, Word 0) ∷ (Swap 4, Word 2) ∷ [])
-  dropped_overtaken : MadeLate dropping 2 ((Xor, Word 0) ∷ (Swap 2, Word 2) ∷ [])
+  sent_late : MadeLate sending EMPTY ((Add, Word DISCONNECTED) ∷ [])
+  dropped_late : MadeLate dropping EMPTY ((Xor, Word DISCONNECTED) ∷ [])
+  sent_overtaken : MadeLate sending MESSAGE ((Add, Word RECEIVING) ∷ (Swap MESSAGE, Word DISCONNECTED) ∷ [])
+  dropped_overtaken :
+      MadeLate dropping DISCONNECTED ((Xor, Word RECEIVING) ∷ (Swap DISCONNECTED, Word DISCONNECTED) ∷ [])
 
 -- a fold over a log, from its first operation on
 abbrev pub along : {A : Type 0} → (A → Op → Seen → A) → A → List Noted → A
@@ -34,10 +36,10 @@ along next a [] = a
 along next a (x ∷ xs) = along next (next a x.0 x.1) xs
 
 abbrev pub stores_next : Bool → Op → Seen → Bool
-stores_next before Load (Word word) = before && (word == 0 || word == 1)
-stores_next before (Swap new) (Word word) = new == 0 && word == 3
+stores_next before Load (Word word) = before && (word == RECEIVING || word == UNPARKING)
+stores_next before (Swap new) (Word word) = new == RECEIVING && word == EMPTY
 stores_next before (Exchange expected new) (Word word) =
-    if word == expected then new == 0 else before && word == 1
+    if word == expected then new == RECEIVING else before && word == UNPARKING
 stores_next before _ seen = false
 
 -- The receiver stores a waker: it put 0 in over 3, by a swap or an exchange, and has since only loaded 0 or
@@ -46,8 +48,8 @@ abbrev pub stores_waker : List Noted → Bool
 stores_waker = along stores_next false
 
 abbrev pub overdue_next : Bool → Op → Seen → Bool
-overdue_next before Load (Word word) = before && word == 3
-overdue_next before (Swap new) (Word word) = new == 3 && word == 1
+overdue_next before Load (Word word) = before && word == EMPTY
+overdue_next before (Swap new) (Word word) = new == EMPTY && word == UNPARKING
 overdue_next before _ seen = false
 
 -- The receiver is overdue: its swap of 3 found 1, and it has since only loaded 3.
@@ -55,7 +57,7 @@ abbrev pub is_overdue : List Noted → Bool
 is_overdue = along overdue_next false
 
 abbrev pub gone_next : Bool → Op → Seen → Bool
-gone_next before (Swap new) seen = before || new == 2
+gone_next before (Swap new) seen = before || new == DISCONNECTED
 gone_next before _ seen = before
 
 -- The receiver is gone: it swapped 2 in.
@@ -64,7 +66,7 @@ is_gone = along gone_next false
 
 abbrev pub wrote_next : Option ℕ → Op → Seen → Option ℕ
 wrote_next before (Store new) seen = Some new
-wrote_next before (Swap new) (Word word) = if word == 4 || word == 2 then Some new else before
+wrote_next before (Swap new) (Word word) = if word == MESSAGE || word == DISCONNECTED then Some new else before
 wrote_next before _ seen = before
 
 -- What the receiver wrote last since the sender's last operation: by a store, or by a swap that found 4 or 2.

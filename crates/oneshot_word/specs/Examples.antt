@@ -2,6 +2,7 @@
 use Rattle.std.specs.Prelude.{◌≡◌, ℕ, true, false, List, [], ◌∷◌, ◌++◌, Some, None}
 use Rattle.oneshot_machine.specs.declared.machine.Seen.TheVariants.{Done, Word}
 use Rattle.oneshot_machine.specs.declared.states.Op.TheVariants.{Load, Store, Swap, Exchange, Add, Xor}
+use Rattle.oneshot_machine.specs.declared.states.TheConstants.{RECEIVING, UNPARKING, DISCONNECTED, EMPTY, MESSAGE}
 use Rattle.oneshot_machine.specs.Noted.{Noted}
 use Rattle.oneshot_word.specs.declared.any_waker.AnyWaker.{AnyWaker}
 use Rattle.oneshot_word.specs.EndLogs.{stores_waker, is_overdue, is_gone, wrote_since}
@@ -11,113 +12,122 @@ use Rattle.oneshot_word.specs.Rule.{Home, out, bare, has_message, has_waker}
 -- Receivers: one waits; one stopped waiting over this word (0 in time, 1 too late, 4 the message, 2 the
 -- sender's end); one was dropped.
 abbrev pub waits : List Noted
-waits = (Load, Word 3) ∷ (Swap 0, Word 3) ∷ []
+waits = (Load, Word EMPTY) ∷ (Swap RECEIVING, Word EMPTY) ∷ []
 
 abbrev pub stopped_over : ℕ → List Noted
-stopped_over word = waits ++ (Swap 3, Word word) ∷ []
+stopped_over word = waits ++ (Swap EMPTY, Word word) ∷ []
 
 abbrev pub went : List Noted
-went = (Swap 2, Word 3) ∷ []
+went = (Swap DISCONNECTED, Word EMPTY) ∷ []
 
 -- Polls: one stored its copy; one found this word by its exchange (4 the message, 2 no sender). A later one's
 -- exchange took the copy back (0), or found a sender about to finish (1).
 abbrev pub polled : List Noted
-polled = (Load, Word 3) ∷ (Exchange 3 0, Word 3) ∷ []
+polled = (Load, Word EMPTY) ∷ (Exchange EMPTY RECEIVING, Word EMPTY) ∷ []
 
 abbrev pub polled_over : ℕ → List Noted
-polled_over word = (Load, Word 3) ∷ (Exchange 3 0, Word word) ∷ []
+polled_over word = (Load, Word EMPTY) ∷ (Exchange EMPTY RECEIVING, Word word) ∷ []
 
 abbrev pub exchanged_back : ℕ → List Noted
-exchanged_back word = polled ++ (Load, Word 0) ∷ (Exchange 0 3, Word word) ∷ []
+exchanged_back word = polled ++ (Load, Word RECEIVING) ∷ (Exchange RECEIVING EMPTY, Word word) ∷ []
 
 -- a future that loaded the word while the sender was about to finish, and was dropped then
 abbrev pub left_meanwhile : List Noted
-left_meanwhile = polled ++ (Load, Word 1) ∷ (Swap 2, Word 1) ∷ []
+left_meanwhile = polled ++ (Load, Word UNPARKING) ∷ (Swap DISCONNECTED, Word UNPARKING) ∷ []
 
 -- Senders: one found the receiver waiting by a `send`; one finished a `send`, and one its drop, over this
 -- word.
 abbrev pub claims : List Noted
-claims = (Add, Word 0) ∷ []
+claims = (Add, Word RECEIVING) ∷ []
 
 abbrev pub sent_over : ℕ → List Noted
-sent_over word = claims ++ (Swap 4, Word word) ∷ []
+sent_over word = claims ++ (Swap MESSAGE, Word word) ∷ []
 
 abbrev pub dropped_over : ℕ → List Noted
-dropped_over word = (Xor, Word 0) ∷ (Swap 2, Word word) ∷ []
+dropped_over word = (Xor, Word RECEIVING) ∷ (Swap DISCONNECTED, Word word) ∷ []
 
 pub record LogsSay : Type 0 where
   pub stores : stores_waker waits ≡ true
-  pub stores_on : stores_waker (waits ++ (Load, Word 1) ∷ []) ≡ true
-  pub stores_no_more : stores_waker (stopped_over 0) ≡ false
-  pub found_the_message : stores_waker ((Load, Word 3) ∷ (Swap 0, Word 4) ∷ []) ≡ false
-  pub overdue : is_overdue (stopped_over 1) ≡ true
-  pub overdue_on : is_overdue (stopped_over 1 ++ (Load, Word 3) ∷ []) ≡ true
-  pub stopped_in_time : is_overdue (stopped_over 0) ≡ false
+  pub stores_on : stores_waker (waits ++ (Load, Word UNPARKING) ∷ []) ≡ true
+  pub stores_no_more : stores_waker (stopped_over RECEIVING) ≡ false
+  pub found_the_message : stores_waker ((Load, Word EMPTY) ∷ (Swap RECEIVING, Word MESSAGE) ∷ []) ≡ false
+  pub overdue : is_overdue (stopped_over UNPARKING) ≡ true
+  pub overdue_on : is_overdue (stopped_over UNPARKING ++ (Load, Word EMPTY) ∷ []) ≡ true
+  pub stopped_in_time : is_overdue (stopped_over RECEIVING) ≡ false
   pub waits_in_time : is_overdue waits ≡ false
   pub gone : is_gone went ≡ true
   pub here : is_gone waits ≡ false
   pub wrote_nothing : wrote_since waits ≡ None
-  pub wrote_too_late : wrote_since (stopped_over 1) ≡ None
-  pub wrote_over_the_message : wrote_since (stopped_over 4) ≡ Some 3
-  pub wrote_and_closed : wrote_since (stopped_over 4 ++ (Store 2, Done) ∷ []) ≡ Some 2
+  pub wrote_too_late : wrote_since (stopped_over UNPARKING) ≡ None
+  pub wrote_over_the_message : wrote_since (stopped_over MESSAGE) ≡ Some EMPTY
+  pub wrote_and_closed : wrote_since (stopped_over MESSAGE ++ (Store DISCONNECTED, Done) ∷ []) ≡ Some DISCONNECTED
   -- a poll
   pub stores_its_copy : stores_waker polled ≡ true
-  pub took_its_copy_back : stores_waker (exchanged_back 0) ≡ false
-  pub exchanged_too_late : stores_waker (exchanged_back 1) ≡ true
-  pub stores_another_copy : stores_waker (exchanged_back 0 ++ (Exchange 3 0, Word 3) ∷ []) ≡ true
-  pub stores_no_copy : stores_waker (polled_over 4) ≡ false
-  pub exchanged_in_vain : wrote_since (polled_over 4) ≡ None
+  pub took_its_copy_back : stores_waker (exchanged_back RECEIVING) ≡ false
+  pub exchanged_too_late : stores_waker (exchanged_back UNPARKING) ≡ true
+  pub stores_another_copy :
+      stores_waker (exchanged_back RECEIVING ++ (Exchange EMPTY RECEIVING, Word EMPTY) ∷ []) ≡ true
+  pub stores_no_copy : stores_waker (polled_over MESSAGE) ≡ false
+  pub exchanged_in_vain : wrote_since (polled_over MESSAGE) ≡ None
   pub left_and_gone : is_gone left_meanwhile ≡ true
   pub left_no_waker : stores_waker left_meanwhile ≡ false
   pub left_and_wrote_before_the_end : wrote_since left_meanwhile ≡ None
-  pub exchanged_and_closed : wrote_since (polled_over 4 ++ (Store 2, Done) ∷ []) ≡ Some 2
+  pub exchanged_and_closed : wrote_since (polled_over MESSAGE ++ (Store DISCONNECTED, Done) ∷ []) ≡ Some DISCONNECTED
 
 -- the sender's log, the receiver's log, the word, and what each slot has at home
 pub record StatesThatAre (T H K : Type 0) : Type 0 where
-  pub new : Owned {T = T} {H = H} {K = K} [] [] 3 out bare
-  pub waiting : (k : AnyWaker H K) → Owned {T = T} [] waits 0 out (has_waker k)
-  pub claimed : Owned {T = T} {H = H} {K = K} claims waits 1 out out
-  pub claimed_too_late : Owned {T = T} {H = H} {K = K} claims (stopped_over 1) 3 out out
-  pub sent_to_it : (x : T) → Owned {H = H} {K = K} (sent_over 1) waits 4 (has_message x) bare
-  pub sent_too_late : (x : T) → Owned {H = H} {K = K} (sent_over 3) (stopped_over 1) 4 (has_message x) bare
-  pub dropped_too_late : Owned {T = T} {H = H} {K = K} (dropped_over 3) (stopped_over 1) 2 bare bare
-  pub stopped_over_the_message : Owned {T = T} {H = H} {K = K} (sent_over 1) (stopped_over 4) 3 out out
-  pub gone_first : Owned {T = T} {H = H} {K = K} [] went 2 out bare
+  pub new : Owned {T = T} {H = H} {K = K} [] [] EMPTY out bare
+  pub waiting : (k : AnyWaker H K) → Owned {T = T} [] waits RECEIVING out (has_waker k)
+  pub claimed : Owned {T = T} {H = H} {K = K} claims waits UNPARKING out out
+  pub claimed_too_late : Owned {T = T} {H = H} {K = K} claims (stopped_over UNPARKING) EMPTY out out
+  pub sent_to_it : (x : T) → Owned {H = H} {K = K} (sent_over UNPARKING) waits MESSAGE (has_message x) bare
+  pub sent_too_late :
+      (x : T) → Owned {H = H} {K = K} (sent_over EMPTY) (stopped_over UNPARKING) MESSAGE (has_message x) bare
+  pub dropped_too_late :
+      Owned {T = T} {H = H} {K = K} (dropped_over EMPTY) (stopped_over UNPARKING) DISCONNECTED bare bare
+  pub stopped_over_the_message :
+      Owned {T = T} {H = H} {K = K} (sent_over UNPARKING) (stopped_over MESSAGE) EMPTY out out
+  pub gone_first : Owned {T = T} {H = H} {K = K} [] went DISCONNECTED out bare
   -- a poll
-  pub polls : (k : AnyWaker H K) → Owned {T = T} [] polled 0 out (has_waker k)
-  pub took_back : Owned {T = T} {H = H} {K = K} [] (exchanged_back 0) 3 out out
-  pub claimed_in_a_poll : Owned {T = T} {H = H} {K = K} claims (exchanged_back 1) 1 out out
-  pub sent_to_a_future : (x : T) → Owned {H = H} {K = K} (sent_over 1) polled 4 (has_message x) bare
-  pub polled_too_late : Owned {T = T} {H = H} {K = K} ((Add, Word 3) ∷ []) (polled_over 4) 4 out out
+  pub polls : (k : AnyWaker H K) → Owned {T = T} [] polled RECEIVING out (has_waker k)
+  pub took_back : Owned {T = T} {H = H} {K = K} [] (exchanged_back RECEIVING) EMPTY out out
+  pub claimed_in_a_poll : Owned {T = T} {H = H} {K = K} claims (exchanged_back UNPARKING) UNPARKING out out
+  pub sent_to_a_future : (x : T) → Owned {H = H} {K = K} (sent_over UNPARKING) polled MESSAGE (has_message x) bare
+  pub polled_too_late : Owned {T = T} {H = H} {K = K} ((Add, Word EMPTY) ∷ []) (polled_over MESSAGE) MESSAGE out out
   -- the drop of a future while the sender is about to finish
-  pub gone_meanwhile : Owned {T = T} {H = H} {K = K} claims left_meanwhile 2 out out
-  pub sent_after_it : Owned {T = T} {H = H} {K = K} (sent_over 2) left_meanwhile 4 out out
-  pub dropped_after_it : Owned {T = T} {H = H} {K = K} (dropped_over 2) left_meanwhile 2 out out
+  pub gone_meanwhile : Owned {T = T} {H = H} {K = K} claims left_meanwhile DISCONNECTED out out
+  pub sent_after_it : Owned {T = T} {H = H} {K = K} (sent_over DISCONNECTED) left_meanwhile MESSAGE out out
+  pub dropped_after_it : Owned {T = T} {H = H} {K = K} (dropped_over DISCONNECTED) left_meanwhile DISCONNECTED out out
 
 pub record StatesThatAreNot (T H K : Type 0) : Type 0 where
   -- an overdue receiver leaves 3, and its waker to the sender
-  pub overdue_leaves_1 : {h k : Home T H K} → Owned claims (stopped_over 1) 1 h k → ⊥
-  pub overdue_has_its_waker : {h : Home T H K} (k : AnyWaker H K) → Owned claims (stopped_over 1) 3 h (has_waker k) → ⊥
+  pub overdue_leaves_1 : {h k : Home T H K} → Owned claims (stopped_over UNPARKING) UNPARKING h k → ⊥
+  pub overdue_has_its_waker :
+      {h : Home T H K} (k : AnyWaker H K) → Owned claims (stopped_over UNPARKING) EMPTY h (has_waker k) → ⊥
   -- one that waits does not leave 3
-  pub waits_at_3 : {h k : Home T H K} → Owned claims waits 3 h k → ⊥
+  pub waits_at_3 : {h k : Home T H K} → Owned claims waits EMPTY h k → ⊥
   -- a sender that finishes over 3 leaves its own word
-  pub send_leaves_3 : {h k : Home T H K} → Owned (sent_over 3) (stopped_over 1) 3 h k → ⊥
-  pub drop_leaves_3 : {h k : Home T H K} → Owned (dropped_over 3) (stopped_over 1) 3 h k → ⊥
+  pub send_leaves_3 : {h k : Home T H K} → Owned (sent_over EMPTY) (stopped_over UNPARKING) EMPTY h k → ⊥
+  pub drop_leaves_3 : {h k : Home T H K} → Owned (dropped_over EMPTY) (stopped_over UNPARKING) EMPTY h k → ⊥
   -- a swap of 3 leaves 3 over the message and over the sender's end
-  pub stop_leaves_0_over_the_message : {h k : Home T H K} → Owned (sent_over 1) (stopped_over 4) 0 h k → ⊥
-  pub stop_leaves_0_over_the_end : {h k : Home T H K} → Owned (dropped_over 1) (stopped_over 2) 0 h k → ⊥
+  pub stop_leaves_0_over_the_message :
+      {h k : Home T H K} → Owned (sent_over UNPARKING) (stopped_over MESSAGE) RECEIVING h k → ⊥
+  pub stop_leaves_0_over_the_end :
+      {h k : Home T H K} → Owned (dropped_over UNPARKING) (stopped_over DISCONNECTED) RECEIVING h k → ⊥
   -- a slot that neither end owns keeps the message, or the waker
-  pub message_lies_with_nobody : {k : Home T H K} → Owned (sent_over 1) waits 4 bare k → ⊥
-  pub waker_is_gone : {h : Home T H K} → Owned [] waits 0 h bare → ⊥
+  pub message_lies_with_nobody : {k : Home T H K} → Owned (sent_over UNPARKING) waits MESSAGE bare k → ⊥
+  pub waker_is_gone : {h : Home T H K} → Owned [] waits RECEIVING h bare → ⊥
   -- an exchange that found what it expects leaves its new word, and the copy with the right owner
-  pub poll_leaves_3 : {h k : Home T H K} → Owned [] polled 3 h k → ⊥
-  pub poll_has_its_copy : {h : Home T H K} → Owned [] polled 0 h out → ⊥
-  pub takes_back_and_leaves_0 : {h k : Home T H K} → Owned [] (exchanged_back 0) 0 h k → ⊥
-  pub takes_nothing_back : {h : Home T H K} (k : AnyWaker H K) → Owned [] (exchanged_back 0) 3 h (has_waker k) → ⊥
+  pub poll_leaves_3 : {h k : Home T H K} → Owned [] polled EMPTY h k → ⊥
+  pub poll_has_its_copy : {h : Home T H K} → Owned [] polled RECEIVING h out → ⊥
+  pub takes_back_and_leaves_0 : {h k : Home T H K} → Owned [] (exchanged_back RECEIVING) RECEIVING h k → ⊥
+  pub takes_nothing_back :
+      {h : Home T H K} (k : AnyWaker H K) → Owned [] (exchanged_back RECEIVING) EMPTY h (has_waker k) → ⊥
   -- an exchange that did not leaves the word that it found
-  pub late_poll_leaves_0 : {h k : Home T H K} → Owned ((Add, Word 3) ∷ []) (polled_over 4) 0 h k → ⊥
-  pub takes_back_over_1 : {h k : Home T H K} → Owned claims (exchanged_back 1) 3 h k → ⊥
+  pub late_poll_leaves_0 : {h k : Home T H K} → Owned ((Add, Word EMPTY) ∷ []) (polled_over MESSAGE) RECEIVING h k → ⊥
+  pub takes_back_over_1 : {h k : Home T H K} → Owned claims (exchanged_back UNPARKING) EMPTY h k → ⊥
   -- a future that is dropped over 1 leaves 2, and both slots to the sender
-  pub dropped_and_leaves_1 : {h k : Home T H K} → Owned claims left_meanwhile 1 h k → ⊥
-  pub dropped_with_its_waker : {h : Home T H K} (k : AnyWaker H K) → Owned claims left_meanwhile 2 h (has_waker k) → ⊥
-  pub late_send_leaves_3 : {h k : Home T H K} → Owned (sent_over 2) left_meanwhile 3 h k → ⊥
+  pub dropped_and_leaves_1 : {h k : Home T H K} → Owned claims left_meanwhile UNPARKING h k → ⊥
+  pub dropped_with_its_waker :
+      {h : Home T H K} (k : AnyWaker H K) → Owned claims left_meanwhile DISCONNECTED h (has_waker k) → ⊥
+  pub late_send_leaves_3 : {h k : Home T H K} → Owned (sent_over DISCONNECTED) left_meanwhile EMPTY h k → ⊥

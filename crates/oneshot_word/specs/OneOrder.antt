@@ -4,6 +4,7 @@ use Rattle.oneshot_machine.specs.declared.machine.End.{End}
 use Rattle.oneshot_machine.specs.declared.machine.End.TheVariants.{Sender, Receiver}
 use Rattle.oneshot_machine.specs.declared.machine.Seen.TheVariants.{Word}
 use Rattle.oneshot_machine.specs.declared.states.Op.TheVariants.{Load, Swap, Add}
+use Rattle.oneshot_machine.specs.declared.states.TheConstants.{RECEIVING, UNPARKING, EMPTY}
 use Rattle.oneshot_machine.specs.Noted.{Noted}
 use Rattle.oneshot_machine.specs.Orders.{InOrder, none_made, by_sender, by_receiver, Reaches}
 
@@ -28,14 +29,16 @@ OrderIsOne =
     → IsSameOrder one other
 
 -- A receiver that waits and finds that the sender is about to finish, operation by operation.
-abbrev pub waits_and_looks : InOrder ((Add, Word 0) ∷ []) ((Load, Word 3) ∷ (Swap 0, Word 3) ∷ (Load, Word 1) ∷ []) 1
-waits_and_looks = by_receiver Load (by_sender Add (by_receiver (Swap 0) (by_receiver Load none_made)))
+abbrev pub waits_and_looks :
+    InOrder ((Add, Word RECEIVING) ∷ [])
+      ((Load, Word EMPTY) ∷ (Swap RECEIVING, Word EMPTY) ∷ (Load, Word UNPARKING) ∷ []) UNPARKING
+waits_and_looks = by_receiver Load (by_sender Add (by_receiver (Swap RECEIVING) (by_receiver Load none_made)))
 
 -- Two orders of the same logs, which no sender has: whichever end loads first, both see the same.
-abbrev pub sender_looks_first : InOrder ((Load, Word 3) ∷ []) ((Load, Word 3) ∷ []) 3
+abbrev pub sender_looks_first : InOrder ((Load, Word EMPTY) ∷ []) ((Load, Word EMPTY) ∷ []) EMPTY
 sender_looks_first = by_receiver Load (by_sender Load none_made)
 
-abbrev pub receiver_looks_first : InOrder ((Load, Word 3) ∷ []) ((Load, Word 3) ∷ []) 3
+abbrev pub receiver_looks_first : InOrder ((Load, Word EMPTY) ∷ []) ((Load, Word EMPTY) ∷ []) EMPTY
 receiver_looks_first = by_sender Load (by_receiver Load none_made)
 
 pub record WorkedOrders : Type 0 where

@@ -7,12 +7,13 @@ use Rattle.oneshot_word.specs.declared.rule.Role.TheVariants.{Maker, Dealer, Sen
 use Rattle.oneshot_word.specs.declared.rule.View.{View}
 use Rattle.oneshot_word.specs.Rule.{Home, Tied}
 use Rattle.oneshot_word.specs.Seats.{view}
+use Rattle.oneshot_machine.specs.declared.states.TheConstants.{EMPTY}
 
 -- the words and the views of all seats
 pub data Ordered {T H K P : Type 0} (q : P) : List ℕ → List (View T H K P) → Type 0 where
   -- before there are ends
-  maker_before : Ordered q (3 ∷ []) (view q Maker [] None None ∷ [])
-  dealer_before : Ordered q (3 ∷ []) (view q Dealer [] None None ∷ [])
+  maker_before : Ordered q (EMPTY ∷ []) (view q Maker [] None None ∷ [])
+  dealer_before : Ordered q (EMPTY ∷ []) (view q Dealer [] None None ∷ [])
   -- from then on
   in_order : {word : ℕ} (xs ys : List Noted) {given taken : Option T} {put woke : Option (AnyWaker H K)}
       → Reaches xs ys word

@@ -8,6 +8,7 @@ use Rattle.oneshot_word.specs.declared.rule.View.{View}
 use Rattle.oneshot_word.specs.EndLogs.{FoundZero, MadeLast, MadeLate, stores_waker, is_overdue, is_gone, wrote_since}
 use Rattle.oneshot_word.specs.Rule.{Home, out, bare, has_message, has_waker, Tied}
 use Rattle.oneshot_word.specs.Seats.{view}
+use Rattle.oneshot_machine.specs.declared.states.TheConstants.{RECEIVING, UNPARKING, DISCONNECTED, EMPTY, MESSAGE}
 
 -- A slot that the sender owns: it has the slot, or the receiver left it empty at home for the sender's next
 -- operation.
@@ -33,31 +34,31 @@ pub data IsWords {T H K : Type 0} : Home T H K → Type 0 where
 pub data Owned {T H K : Type 0} (xs ys : List Noted) : ℕ → Home T H K → Home T H K → Type 0 where
   -- the sender has performed no operation, and the receiver is here and stores no waker
   both_open : {h k : Home T H K} → xs ≡ [] → stores_waker ys ≡ false → is_gone ys ≡ false
-      → IsSenders h → IsReceivers k → Owned xs ys 3 h k
+      → IsSenders h → IsReceivers k → Owned xs ys EMPTY h k
   -- the sender has performed no operation, and the receiver stores a waker
   waker_stored : {h k : Home T H K} → xs ≡ [] → stores_waker ys ≡ true → is_gone ys ≡ false
-      → IsSenders h → IsWords k → Owned xs ys 0 h k
+      → IsSenders h → IsWords k → Owned xs ys RECEIVING h k
   -- the sender found 0, and its final swap is to come; the receiver still waits
   waker_claimed : {h k : Home T H K} (by : By) → FoundZero by xs → stores_waker ys ≡ true → is_gone ys ≡ false
-      → IsSenders h → IsSenders k → Owned xs ys 1 h k
+      → IsSenders h → IsSenders k → Owned xs ys UNPARKING h k
   -- the sender found 0, and its final swap is to come; the receiver is overdue
   claimed_overdue : {h k : Home T H K} (by : By) → FoundZero by xs → is_overdue ys ≡ true → is_gone ys ≡ false
-      → IsSenders h → IsSenders k → Owned xs ys 3 h k
+      → IsSenders h → IsSenders k → Owned xs ys EMPTY h k
   -- the sender found 0, and its final swap is to come; the receiver is gone
   claimed_gone : {h k : Home T H K} (by : By) → FoundZero by xs → is_gone ys ≡ true
-      → IsSenders h → IsSenders k → Owned xs ys 2 h k
+      → IsSenders h → IsSenders k → Owned xs ys DISCONNECTED h k
   -- the sender has performed no operation, and the receiver is gone
   receiver_gone : {h k : Home T H K} → xs ≡ [] → is_gone ys ≡ true
-      → IsSenders h → IsSenders k → Owned xs ys 2 h k
+      → IsSenders h → IsSenders k → Owned xs ys DISCONNECTED h k
   -- the sender performed its last operation after that
   sender_after : {h k : Home T H K} (by : By) {w : ℕ} → MadeLate by w xs → is_gone ys ≡ true
       → IsSenders h → IsSenders k → Owned xs ys w h k
   -- it sent, and the receiver has written nothing since
   sent : {h k : Home T H K} → MadeLast sending xs → wrote_since ys ≡ None
-      → IsReceiversFull h → IsReceivers k → Owned xs ys 4 h k
+      → IsReceiversFull h → IsReceivers k → Owned xs ys MESSAGE h k
   -- it dropped, and the receiver has written nothing since
   dropped : {h k : Home T H K} → MadeLast dropping xs → wrote_since ys ≡ None
-      → IsReceivers h → IsReceivers k → Owned xs ys 2 h k
+      → IsReceivers h → IsReceivers k → Owned xs ys DISCONNECTED h k
   -- the sender finished while the receiver was here, and the receiver has written since
   written : {h k : Home T H K} (by : By) {w : ℕ} → MadeLast by xs → wrote_since ys ≡ Some w
       → IsReceivers h → IsReceivers k → Owned xs ys w h k
@@ -65,8 +66,8 @@ pub data Owned {T H K : Type 0} (xs ys : List Noted) : ℕ → Home T H K → Ho
 -- the words, the slots at home and the views of all seats
 pub data Ruled {T H K P : Type 0} (q : P) : List ℕ → List (Home T H K) → List (View T H K P) → Type 0 where
   -- before there are ends
-  maker_alone : Ruled q (3 ∷ []) (bare ∷ bare ∷ []) (view q Maker [] None None ∷ [])
-  dealer_alone : Ruled q (3 ∷ []) (out ∷ bare ∷ []) (view q Dealer [] None None ∷ [])
+  maker_alone : Ruled q (EMPTY ∷ []) (bare ∷ bare ∷ []) (view q Maker [] None None ∷ [])
+  dealer_alone : Ruled q (EMPTY ∷ []) (out ∷ bare ∷ []) (view q Dealer [] None None ∷ [])
   -- from then on
   two_ends : {w : ℕ} {h k : Home T H K} (xs ys : List Noted) {given taken : Option T} {put woke : Option (AnyWaker H K)}
       → Owned xs ys w h k

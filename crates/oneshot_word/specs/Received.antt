@@ -3,6 +3,7 @@
 use Rattle.std.specs.Prelude.{◌≡◌, ◌≢◌, ℕ, List, [], ◌∷◌, Option, Some, None}
 use Rattle.oneshot_machine.specs.declared.machine.Seen.TheVariants.{Word}
 use Rattle.oneshot_machine.specs.declared.states.Op.TheVariants.{Load, Add}
+use Rattle.oneshot_machine.specs.declared.states.TheConstants.{RECEIVING, UNPARKING, EMPTY, MESSAGE}
 use Rattle.oneshot_machine.specs.Noted.{Noted}
 use Rattle.oneshot_word.specs.declared.any_waker.AnyWaker.{AnyWaker}
 use Rattle.oneshot_word.specs.declared.rule.Role.TheVariants.{Sender, Receiver}
@@ -40,10 +41,14 @@ module _ {T P : Type 0} (H K : Type 0) (keeps : P → T → Type 0) where
 
   -- a message that was sent to a receiver that is here, and then received
   pub record MessagesThatPass : Type 0 where
-    pub lies_there : (q : P) (m : T) → keeps q m → Tied {H = H} {K = K} keeps q (4 ∷ []) (has_message m ∷ bare ∷ [])
-        (both_views q ((Add, Word 3) ∷ []) (Some m) None [] None None)
-    pub was_taken : (q : P) (m : T) → Tied {H = H} {K = K} keeps q (4 ∷ []) (out ∷ out ∷ [])
-        (both_views q ((Add, Word 3) ∷ []) (Some m) None ((Load, Word 4) ∷ []) (Some m) None)
+    pub lies_there : (q : P) (m : T) → keeps q m → Tied {H =
+        H} {K = K} keeps q (MESSAGE
+        ∷ []) (has_message m
+        ∷ bare
+        ∷ [])
+        (both_views q ((Add, Word EMPTY) ∷ []) (Some m) None [] None None)
+    pub was_taken : (q : P) (m : T) → Tied {H = H} {K = K} keeps q (MESSAGE ∷ []) (out ∷ out ∷ [])
+        (both_views q ((Add, Word EMPTY) ∷ []) (Some m) None ((Load, Word MESSAGE) ∷ []) (Some m) None)
 
   -- whatever the words, the slots at home and both logs are
   pub record MessagesThatDoNot : Type 0 where
@@ -64,13 +69,17 @@ module _ {T P : Type 0} (H K : Type 0) (keeps : P → T → Type 0) where
 
   -- a waker that lies in the table once the receiver waits, that the sender took, and that it used to end its `send`
   pub record WakersThatPass : Type 0 where
-    pub rests_there : (q : P) (k : AnyWaker H K) → Tied {H = H} {K = K} keeps q (0 ∷ []) (out ∷ has_waker k ∷ [])
+    pub rests_there : (q : P) (k : AnyWaker H K) → Tied {H =
+        H} {K = K} keeps q (RECEIVING
+        ∷ []) (out
+        ∷ has_waker k
+        ∷ [])
         (both_views q [] None None waits None (Some k))
-    pub was_taken : (q : P) (k : AnyWaker H K) → Tied {H = H} {K = K} keeps q (1 ∷ []) (out ∷ out ∷ [])
+    pub was_taken : (q : P) (k : AnyWaker H K) → Tied {H = H} {K = K} keeps q (UNPARKING ∷ []) (out ∷ out ∷ [])
         (both_views q claims None (Some k) waits None (Some k))
     pub was_used : (q : P) (m : T) (k : AnyWaker H K) → keeps q m
-        → Tied {H = H} {K = K} keeps q (4 ∷ []) (has_message m ∷ bare ∷ [])
-        (both_views q (sent_over 1) (Some m) (Some k) waits None (Some k))
+        → Tied {H = H} {K = K} keeps q (MESSAGE ∷ []) (has_message m ∷ bare ∷ [])
+        (both_views q (sent_over UNPARKING) (Some m) (Some k) waits None (Some k))
 
   pub record WakersThatDoNot : Type 0 where
     pub took_another : {q : P} {words : List ℕ} {homes : List (Home T H K)} {xs ys : List Noted}

@@ -10,6 +10,7 @@ use Rattle.oneshot_word.specs.declared.rule.Slot.{Slot}
 use Rattle.oneshot_word.specs.declared.rule.Slot.TheVariants.{Empty, Message}
 use Rattle.oneshot_word.specs.declared.rule.View.{View}
 use Rattle.oneshot_word.specs.Seats.{view, with_waker}
+use Rattle.oneshot_machine.specs.declared.states.TheConstants.{EMPTY}
 
 -- what is at home of a slot: nothing while a seat carries it, otherwise its content
 abbrev pub Home : Type 0 → Type 0 → Type 0 → Type 0
@@ -84,9 +85,9 @@ pub data IsClaimed {W : Type 0} (put : Option W) (xs : List Noted) : Option W �
 pub data Tied {T H K P : Type 0} (keeps : P → T → Type 0) (q : P)
     : List ℕ → List (Home T H K) → List (View T H K P) → Type 0 where
   -- the table is new
-  opened : Tied keeps q (3 ∷ []) (bare ∷ bare ∷ []) (view q Maker [] None None ∷ [])
+  opened : Tied keeps q (EMPTY ∷ []) (bare ∷ bare ∷ []) (view q Maker [] None None ∷ [])
   -- its maker has the message's slot
-  dealt : Tied keeps q (3 ∷ []) (out ∷ bare ∷ []) (view q Dealer [] None None ∷ [])
+  dealt : Tied keeps q (EMPTY ∷ []) (out ∷ bare ∷ []) (view q Dealer [] None None ∷ [])
   -- both ends exist: their operations have an order, each slot is where both phases put it, a message that
   -- is at home or that the receiver took is the one that the sender gave, and a waker that is at home or that
   -- the sender took is the one that the receiver gave last

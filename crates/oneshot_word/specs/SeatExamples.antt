@@ -5,6 +5,7 @@ use Rattle.atomic_table.specs.Seated.{TableId}
 use Rattle.atomic_table.specs.Table.{Me}
 use Rattle.oneshot_machine.specs.declared.machine.Seen.TheVariants.{Word}
 use Rattle.oneshot_machine.specs.declared.states.Op.TheVariants.{Load, Add}
+use Rattle.oneshot_machine.specs.declared.states.TheConstants.{RECEIVING, EMPTY, MESSAGE}
 use Rattle.oneshot_machine.specs.Noted.{Noted}
 use Rattle.oneshot_machine.specs.Slots.{Held, away, vacant, held}
 use Rattle.oneshot_word.specs.declared.any_waker.AnyWaker.{AnyWaker}
@@ -68,16 +69,16 @@ WakerPart = Part any 1 with_waker
 -- the logs of a sender that found the receiver here, or a waker; and of a receiver that found nothing, or the
 -- message
 abbrev pub sent_at_once : List Noted
-sent_at_once = (Add, Word 3) ∷ []
+sent_at_once = (Add, Word EMPTY) ∷ []
 
 abbrev pub claims : List Noted
-claims = (Add, Word 0) ∷ []
+claims = (Add, Word RECEIVING) ∷ []
 
 abbrev pub looked : List Noted
-looked = (Load, Word 3) ∷ []
+looked = (Load, Word EMPTY) ∷ []
 
 abbrev pub received : List Noted
-received = (Load, Word 4) ∷ []
+received = (Load, Word MESSAGE) ∷ []
 
 -- a seat with a view and with what it carries, and a table
 abbrev pub seat : Role → List Noted → Option ℕ → Carries → Me Kept (View ℕ ℕ ℕ ℕ)

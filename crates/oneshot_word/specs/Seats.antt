@@ -16,6 +16,7 @@ use Rattle.oneshot_word.specs.declared.any_waker.AnyWaker.TheVariants as R
 use Rattle.oneshot_word.specs.declared.rule.Slot.{Slot}
 use Rattle.oneshot_word.specs.declared.rule.Slot.TheVariants.{Empty, Message, Thread, Task, Nobody}
 use Rattle.oneshot_word.specs.declared.rule.View.{View}
+use Rattle.oneshot_machine.specs.declared.states.TheConstants.{MESSAGE}
 
 abbrev pub view : {T H K P : Type 0} → P → Role → List Noted → Option T → Option (AnyWaker H K) → View T H K P
 view q r xs m k = record { role = r; log = xs; passed = m; handed = k; about = q }
@@ -180,7 +181,7 @@ took _ _ taken = taken
 
 -- it has taken one if it had before, or if the operation found 4
 abbrev pub TakesAsFound : {T : Type 0} → Op → ℕ → Option T → Option T → Type 0
-TakesAsFound op word before after = is_some after ≡ (is_some before || is_same_seen (saw op word) (Word 4))
+TakesAsFound op word before after = is_some after ≡ (is_some before || is_same_seen (saw op word) (Word MESSAGE))
 
 -- of a sender, which takes no message, it states nothing
 abbrev pub TakesNone : {T : Type 0} → Op → ℕ → Option T → Option T → Type 0

@@ -1,6 +1,7 @@
 -- Examples and counterexamples of what a side shows, which operations it allows, and what each does to it.
 use Rattle.std.specs.Prelude.{◌≡◌, ℕ, List, [], ◌++◌, Option, Some, None}
 use Rattle.oneshot_machine.specs.declared.states.Op.TheVariants.{Load, Swap, Add, Xor}
+use Rattle.oneshot_machine.specs.declared.states.TheConstants.{RECEIVING, EMPTY, MESSAGE}
 use Rattle.oneshot_machine.specs.Noted.{Noted}
 use Rattle.oneshot_machine.specs.Slots.{Held, away, vacant, held}
 use Rattle.oneshot_word.specs.declared.any_waker.AnyWaker.TheVariants as R
@@ -63,16 +64,17 @@ pub record SidesThatAre : Type 0 where
   pub ends : AreEnds {P = ℕ} 7 new_sender new_receiver
   pub may_send : SenderCan about_to_send Add
   pub may_drop : SenderCan new_sender Xor
-  pub may_swap : SenderCan (side claims (held 7) vacant None) (Swap 4)
+  pub may_swap : SenderCan (side claims (held 7) vacant None) (Swap MESSAGE)
   pub may_load : ReceiverCan new_receiver Load
-  pub may_wait : ReceiverCan (side looked away (held 1) None) (Swap 0)
-  pub sends : SenderDid about_to_send Add 3 has_sent
-  pub claims_a_waker : SenderDid about_to_send Add 0 (record (side claims (held 7) (held 1) None) { handed = Some 1 })
-  pub gives_its_waker : ReceiverDid (side looked away (held 1) None) (Swap 0) 3
+  pub may_wait : ReceiverCan (side looked away (held 1) None) (Swap RECEIVING)
+  pub sends : SenderDid about_to_send Add EMPTY has_sent
+  pub claims_a_waker :
+      SenderDid about_to_send Add RECEIVING (record (side claims (held 7) (held 1) None) { handed = Some 1 })
+  pub gives_its_waker : ReceiverDid (side looked away (held 1) None) (Swap RECEIVING) EMPTY
       (record (side waits away away None) { handed = Some 1 })
-  pub takes_it_back : ReceiverDid (record (side waits away away None) { handed = Some 1 }) (Swap 3) 0
-      (record (side (stopped_over 0) away (held 1) None) { handed = Some 1 })
-  pub receives : ReceiverDid new_receiver Load 4 has_received
+  pub takes_it_back : ReceiverDid (record (side waits away away None) { handed = Some 1 }) (Swap EMPTY) RECEIVING
+      (record (side (stopped_over RECEIVING) away (held 1) None) { handed = Some 1 })
+  pub receives : ReceiverDid new_receiver Load MESSAGE has_received
 
 pub record SidesThatAreNot : Type 0 where
   -- ends of a new table, each wrong in one thing
@@ -92,21 +94,21 @@ pub record SidesThatAreNot : Type 0 where
   -- operations that the side does not allow
   pub sends_nothing : SenderCan new_sender Add → ⊥
   pub sends_twice : SenderCan (side sent_at_once (held 7) away None) Add → ⊥
-  pub waits_without_a_waker : ReceiverCan (side looked away vacant None) (Swap 0) → ⊥
+  pub waits_without_a_waker : ReceiverCan (side looked away vacant None) (Swap RECEIVING) → ⊥
   -- an operation that changes the channel or the table, is not logged, does not move its slots, or
   -- loses what passed
-  pub becomes_about_another : SenderDid about_to_send Add 3 (record has_sent { about = 8 }) → ⊥
-  pub moves_to_another : SenderDid about_to_send Add 3 (record has_sent { table = table 1 2 6 }) → ⊥
-  pub is_not_logged : SenderDid about_to_send Add 3 (record has_sent { log = [] }) → ⊥
-  pub logs_another_word : SenderDid about_to_send Add 3 (record has_sent { log = claims }) → ⊥
-  pub keeps_its_message : SenderDid about_to_send Add 3 (record has_sent { message = held 7 }) → ⊥
-  pub gives_none : SenderDid about_to_send Add 3 (record has_sent { passed = None }) → ⊥
-  pub gives_another : SenderDid about_to_send Add 3 (record has_sent { passed = Some 8 }) → ⊥
-  pub gets_no_message : ReceiverDid new_receiver Load 4 (record has_received { message = vacant }) → ⊥
-  pub claims_and_notes_none : SenderDid about_to_send Add 0 (side claims (held 7) (held 1) None) → ⊥
-  pub claims_and_notes_another : SenderDid about_to_send Add 0
+  pub becomes_about_another : SenderDid about_to_send Add EMPTY (record has_sent { about = 8 }) → ⊥
+  pub moves_to_another : SenderDid about_to_send Add EMPTY (record has_sent { table = table 1 2 6 }) → ⊥
+  pub is_not_logged : SenderDid about_to_send Add EMPTY (record has_sent { log = [] }) → ⊥
+  pub logs_another_word : SenderDid about_to_send Add EMPTY (record has_sent { log = claims }) → ⊥
+  pub keeps_its_message : SenderDid about_to_send Add EMPTY (record has_sent { message = held 7 }) → ⊥
+  pub gives_none : SenderDid about_to_send Add EMPTY (record has_sent { passed = None }) → ⊥
+  pub gives_another : SenderDid about_to_send Add EMPTY (record has_sent { passed = Some 8 }) → ⊥
+  pub gets_no_message : ReceiverDid new_receiver Load MESSAGE (record has_received { message = vacant }) → ⊥
+  pub claims_and_notes_none : SenderDid about_to_send Add RECEIVING (side claims (held 7) (held 1) None) → ⊥
+  pub claims_and_notes_another : SenderDid about_to_send Add RECEIVING
       (record (side claims (held 7) (held 1) None) { handed = Some 2 }) → ⊥
-  pub gets_another_back : ReceiverDid (record (side waits away away None) { handed = Some 1 }) (Swap 3) 0
-      (record (side (stopped_over 0) away (held 2) None) { handed = Some 1 }) → ⊥
-  pub takes_none : ReceiverDid new_receiver Load 4 (record has_received { passed = None }) → ⊥
-  pub takes_again : ReceiverDid (record new_receiver { passed = Some 8 }) Load 4 has_received → ⊥
+  pub gets_another_back : ReceiverDid (record (side waits away away None) { handed = Some 1 }) (Swap EMPTY) RECEIVING
+      (record (side (stopped_over RECEIVING) away (held 2) None) { handed = Some 1 }) → ⊥
+  pub takes_none : ReceiverDid new_receiver Load MESSAGE (record has_received { passed = None }) → ⊥
+  pub takes_again : ReceiverDid (record new_receiver { passed = Some 8 }) Load MESSAGE has_received → ⊥

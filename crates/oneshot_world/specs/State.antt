@@ -29,12 +29,13 @@ use Rattle.oneshot_world.specs.declared.trace.Place.{Place}
 use Rattle.oneshot_world.specs.declared.trace.Place.TheVariants.{NotSent, InCell, InError}
 use Rattle.oneshot_world.specs.declared.wakers.Input.{Input}
 use Rattle.oneshot_world.specs.declared.wakers.Wakers.{Wakers}
+use Rattle.oneshot_machine.specs.declared.states.TheConstants.{EMPTY}
 
 -- the state before the first move
 abbrev pub opening_state : Option Place → State
 opening_state message =
     record {
-      word = 3;
+      word = EMPTY;
       freed = false;
       sender = SS.Ready;
       receiver = RS.Ready;
