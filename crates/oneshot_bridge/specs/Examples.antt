@@ -72,7 +72,7 @@ module _ {T : Type 0} (m : T) where
     pub skips_its_load : (s : ReceiverStand) → ReceiverWalk receives ((Swap RECEIVING, Word EMPTY) ∷ []) s → ⊥
     -- a receive that finds a waker that it did not store
     pub finds_a_waker : (s : ReceiverStand) → ReceiverWalk receives ((Load, Word RECEIVING) ∷ []) s → ⊥
-    -- a log with other words than the run found: its add found 0, and its second load 1
+    -- a log with other words than the run found: its add found RECEIVING, and its second load UNPARKING
     pub adds_to_another_word : (now : Scene T) (ys : List Noted) (word : ℕ)
         → RunsSo (sends m) receives schedule entries now
           ((Add, Word EMPTY) ∷ (Swap MESSAGE, Word UNPARKING) ∷ []) ys word → ⊥
@@ -83,6 +83,6 @@ module _ {T : Type 0} (m : T) where
     -- a log that lacks an operation
     pub skips_the_swap : (now : Scene T) (ys : List Noted) (word : ℕ)
         → RunsSo (sends m) receives schedule entries now ((Add, Word RECEIVING) ∷ []) ys word → ⊥
-    -- the run leaves no other word than 4
+    -- the run leaves no other word than MESSAGE
     pub leaves_another_word : (word : ℕ) → RunsSo (sends m) receives schedule entries last sent received word
         → word ≡ 4

@@ -94,7 +94,7 @@ EndsPoll F.Closed s = StandsIn IsClosedAt s
 EndsPoll F.Unclosed s = ⊥
 EndsPoll {T} F.Nothing s = StandsIn (LeavesPolled {T = T} Pending) s
 
--- the waker's slot is empty, and with a copy in it the receiver may exchange 3 for 0
+-- the waker's slot is empty, and with a copy in it the receiver may exchange EMPTY for RECEIVING
 pub record MayLeave {T W : Type 0} (s : GroundState T W) : Type 0 where
   pub room : s.waker ≡ vacant
   pub asks : (copy : W) → ReceiverMay (receiver_of s.log) (Exchange EMPTY RECEIVING) s.message (held copy)

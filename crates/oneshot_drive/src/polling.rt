@@ -205,7 +205,7 @@ pub fn drop_async<T, W: Drop, G: ReceiverGround<T, W>>(g: &mut G)
 fn take_back<T, W: Drop, G: ReceiverGround<T, W>>(g: &mut G)
     requires { Stands (waits again) (G.state g.old) }
     ensures path { Path (AsyncDrop AsyncExchange) (Goes (AsyncDrop AsyncSwap)) (G.state g.old).log (G.state g.new).log }
-    ensures ends { ReceiverAsks (Swap 2) (G.state g.new) }
+    ensures ends { ReceiverAsks (Swap DISCONNECTED) (G.state g.new) }
 {
     match g.exchange(RECEIVING, EMPTY) {
         RECEIVING => drop(g.withdraw()),
@@ -215,7 +215,7 @@ fn take_back<T, W: Drop, G: ReceiverGround<T, W>>(g: &mut G)
 
 // Closes the channel, and drops the message if it is there.
 fn close<T, W, G: ReceiverGround<T, W>>(g: &mut G)
-    requires { ReceiverAsks (Swap 2) (G.state g.old) }
+    requires { ReceiverAsks (Swap DISCONNECTED) (G.state g.old) }
     ensures run { Ran receiver_step receiver_row (AsyncDrop AsyncSwap) (G.state g.old).log (G.state g.new).log
         R.Done [] [] }
     ensures left { HasLeft (receiver_of (G.state g.new).log) }

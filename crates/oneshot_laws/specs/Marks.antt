@@ -23,7 +23,7 @@ pub data Rule : Type 0 where
 abbrev pub loads : Made → Bool
 loads e = is_load e.step
 
--- an add or a flip that found 3 or 2, or else the final swap: a call has only one
+-- an add or a flip that found EMPTY or DISCONNECTED, or else the final swap: a call has only one
 abbrev pub finishes : Made → Bool
 finishes e = is_add_or_xor e.step && (found EMPTY e.before || found DISCONNECTED e.before) || is_swap e.step
 
@@ -37,7 +37,7 @@ abbrev pub swaps_closed_in : Made → Bool
 swaps_closed_in e = is_swap_of DISCONNECTED e.step
 
 -- A receive that replies "nothing yet" acts at its last operation on the word. Any other receive, also one
--- that has not replied, acts where it first finds 4 or 2.
+-- that has not replied, acts where it first finds MESSAGE or DISCONNECTED.
 abbrev pub receive_rule : Option Reply → Rule
 receive_rule answer = elim (is_nothing_yet answer) [ true ↦ Last works_on_word | false ↦ First finds_full_or_closed ]
 

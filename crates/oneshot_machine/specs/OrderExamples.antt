@@ -29,7 +29,7 @@ pub record OrdersThatAre : Type 0 where
 
 -- logs that have no order, whatever the phases are
 pub record OrdersThatAreNot : Type 0 where
-  -- a new channel has the word 3
+  -- a new channel has the word EMPTY
   pub begins_at_another_word : InOrder [] [] RECEIVING → ⊥
   -- an operation finds a word that nobody left
   pub finds_what_nobody_left : {word : ℕ} → InOrder [] ((Load, Word MESSAGE) ∷ []) word → ⊥

@@ -9,7 +9,7 @@ use Rattle.oneshot_machine.specs.declared.states.TheConstants.{EMPTY}
 
 -- The operations of the sender's log and of the receiver's have an order, which leaves this word.
 pub data InOrder : List Noted → List Noted → ℕ → Type 0 where
-  -- a new channel has the word 3
+  -- a new channel has the word EMPTY
   none_made : InOrder [] [] EMPTY
   -- one end performs one more operation, which finds this word
   by_sender : {xs ys : List Noted} {word : ℕ} (op : Op)
@@ -24,7 +24,7 @@ pub data HasRow {At : Type 0} (rows : List (Row At)) (op : Op) (word : ℕ) : Ty
 
 -- Such an order in which each operation, with the word that it finds, has a row in its end's phase.
 pub data Reaches : List Noted → List Noted → ℕ → Type 0 where
-  -- a new channel has the word 3
+  -- a new channel has the word EMPTY
   nothing_made : Reaches [] [] EMPTY
   -- one end performs one more operation, which has a row in its phase
   sender_makes : {xs ys : List Noted} {word : ℕ} (op : Op)

@@ -15,22 +15,22 @@ pub data By : Type 0 where
 pub data SenderAt : Type 0 where
   -- it has performed no operation
   fresh : SenderAt
-  -- it found 0: the receiver waits, and the final swap is due
+  -- it found RECEIVING: the receiver waits, and the final swap is due
   owes : By → SenderAt
   -- its last operation found the receiver there
   finished : By → SenderAt
-  -- its last operation, an add or a flip, found 2: the receiver was gone, and the word is now 3
+  -- its last operation, an add or a flip, found DISCONNECTED: the receiver was gone, and the word is now EMPTY
   late : By → SenderAt
-  -- its last operation, the final swap, found 2: the receiver was dropped before it
+  -- its last operation, the final swap, found DISCONNECTED: the receiver was dropped before it
   overtaken : By → SenderAt
   -- no sender has such a log
   no_sender : SenderAt
 
 -- a receiver that is open
 pub data Open : Type 0 where
-  -- its last operation is a load that found 3
+  -- its last operation is a load that found EMPTY
   looked : Open
-  -- its last operation is the swap that ended its wait: its deadline was over, and it found 0
+  -- its last operation is the swap that ended its wait: its deadline was over, and it found RECEIVING
   between : Open
 
 -- a receiver whose waker is stored
@@ -39,17 +39,17 @@ pub data Waiting : Type 0 where
   blocked : Waiting
   -- by a poll, and no load has found it there since
   polled : Waiting
-  -- by a poll, and its last operation is a load that found 0
+  -- by a poll, and its last operation is a load that found RECEIVING
   again : Waiting
 
 -- the swaps of a call that blocks
 pub data Swapping : Type 0 where
-  -- the swap that begins the wait, and leaves 0
+  -- the swap that begins the wait, and leaves RECEIVING
   storing : Swapping
-  -- the swap that ends it, and leaves 3
+  -- the swap that ends it, and leaves EMPTY
   stopping : Swapping
 
--- how a receiver found the message: by its own swap, or by an operation that left 4
+-- how a receiver found the message: by its own swap, or by an operation that left MESSAGE
 pub data Got : Type 0 where
   -- by a load of a receiver that is new or open: a receive takes it, or a future is dropped
   at_once : Got
@@ -62,7 +62,7 @@ pub data Got : Type 0 where
   -- by an operation that only a poll has
   by_poll : Got
 
--- how the word of a closed receiver became 2
+-- how the word of a closed receiver became DISCONNECTED
 pub data Closing : Type 0 where
   found_closed : Closing
   closed_itself : Closing
@@ -75,17 +75,17 @@ pub data ReceiverAt : Type 0 where
   waits : Waiting → ReceiverAt
   -- a future that found that the sender is about to finish
   claimed : ReceiverAt
-  -- a future whose exchange left 3 again: the stored waker is its own
+  -- a future whose exchange left EMPTY again: the stored waker is its own
   withdrew : ReceiverAt
   -- its deadline was over, but its waker is the sender's: it waits for the sender's final swap
   overdue : ReceiverAt
   -- it has the message
   full : Got → ReceiverAt
-  -- its swap found 2, and left another word
+  -- its swap found DISCONNECTED, and left another word
   unclosed : Swapping → ReceiverAt
-  -- it is closed, and the word is 2
+  -- it is closed, and the word is DISCONNECTED
   disconnected : Closing → ReceiverAt
-  -- a future that is closed, and has not loaded the 2 since
+  -- a future that is closed, and has not loaded `DISCONNECTED` since
   resolved : Closing → ReceiverAt
   -- it was dropped before the sender's last operation
   gone : ReceiverAt

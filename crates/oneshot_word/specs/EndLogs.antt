@@ -8,7 +8,7 @@ use Rattle.oneshot_machine.specs.declared.states.TheConstants.{RECEIVING, UNPARK
 use Rattle.oneshot_machine.specs.Noted.{Noted}
 use Rattle.oneshot_machine.specs.Phases.{By, sending, dropping}
 
--- The sender found 0, and its final swap is to come.
+-- The sender found RECEIVING, and its final swap is to come.
 pub data FoundZero : By → List Noted → Type 0 where
   send_found : FoundZero sending ((Add, Word RECEIVING) ∷ [])
   drop_found : FoundZero dropping ((Xor, Word RECEIVING) ∷ [])
@@ -42,8 +42,8 @@ stores_next before (Exchange expected new) (Word word) =
     if word == expected then new == RECEIVING else before && word == UNPARKING
 stores_next before _ seen = false
 
--- The receiver stores a waker: it put 0 in over 3, by a swap or an exchange, and has since only loaded 0 or
--- 1, or found 1 by an exchange.
+-- The receiver stores a waker: it put RECEIVING in over EMPTY, by a swap or an exchange, and has since only loaded
+-- RECEIVING or UNPARKING, or found UNPARKING by an exchange.
 abbrev pub stores_waker : List Noted → Bool
 stores_waker = along stores_next false
 
@@ -52,7 +52,7 @@ overdue_next before Load (Word word) = before && word == EMPTY
 overdue_next before (Swap new) (Word word) = new == EMPTY && word == UNPARKING
 overdue_next before _ seen = false
 
--- The receiver is overdue: its swap of 3 found 1, and it has since only loaded 3.
+-- The receiver is overdue: its swap of EMPTY found UNPARKING, and it has since only loaded EMPTY.
 abbrev pub is_overdue : List Noted → Bool
 is_overdue = along overdue_next false
 
@@ -60,7 +60,7 @@ abbrev pub gone_next : Bool → Op → Seen → Bool
 gone_next before (Swap new) seen = before || new == DISCONNECTED
 gone_next before _ seen = before
 
--- The receiver is gone: it swapped 2 in.
+-- The receiver is gone: it swapped DISCONNECTED in.
 abbrev pub is_gone : List Noted → Bool
 is_gone = along gone_next false
 
@@ -69,6 +69,7 @@ wrote_next before (Store new) seen = Some new
 wrote_next before (Swap new) (Word word) = if word == MESSAGE || word == DISCONNECTED then Some new else before
 wrote_next before _ seen = before
 
--- What the receiver wrote last since the sender's last operation: by a store, or by a swap that found 4 or 2.
+-- What the receiver wrote last since the sender's last operation: by a store, or by a swap that found MESSAGE or
+-- DISCONNECTED.
 abbrev pub wrote_since : List Noted → Option ℕ
 wrote_since = along wrote_next None

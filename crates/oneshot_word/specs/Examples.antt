@@ -9,8 +9,8 @@ use Rattle.oneshot_word.specs.EndLogs.{stores_waker, is_overdue, is_gone, wrote_
 use Rattle.oneshot_word.specs.ReadRule.{Owned}
 use Rattle.oneshot_word.specs.Rule.{Home, out, bare, has_message, has_waker}
 
--- Receivers: one waits; one stopped waiting over this word (0 in time, 1 too late, 4 the message, 2 the
--- sender's end); one was dropped.
+-- Receivers: one waits; one stopped waiting over this word (RECEIVING: in time; UNPARKING: too late; else over what the
+-- sender left); one was dropped.
 abbrev pub waits : List Noted
 waits = (Load, Word EMPTY) ∷ (Swap RECEIVING, Word EMPTY) ∷ []
 
@@ -20,8 +20,8 @@ stopped_over word = waits ++ (Swap EMPTY, Word word) ∷ []
 abbrev pub went : List Noted
 went = (Swap DISCONNECTED, Word EMPTY) ∷ []
 
--- Polls: one stored its copy; one found this word by its exchange (4 the message, 2 no sender). A later one's
--- exchange took the copy back (0), or found a sender about to finish (1).
+-- Polls: one stored its copy; one found this word by its exchange. A later one's exchange took the copy back (over
+-- RECEIVING), or found a sender about to finish (UNPARKING).
 abbrev pub polled : List Noted
 polled = (Load, Word EMPTY) ∷ (Exchange EMPTY RECEIVING, Word EMPTY) ∷ []
 
@@ -100,16 +100,16 @@ pub record StatesThatAre (T H K : Type 0) : Type 0 where
   pub dropped_after_it : Owned {T = T} {H = H} {K = K} (dropped_over DISCONNECTED) left_meanwhile DISCONNECTED out out
 
 pub record StatesThatAreNot (T H K : Type 0) : Type 0 where
-  -- an overdue receiver leaves 3, and its waker to the sender
+  -- an overdue receiver leaves EMPTY, and its waker to the sender
   pub overdue_leaves_1 : {h k : Home T H K} → Owned claims (stopped_over UNPARKING) UNPARKING h k → ⊥
   pub overdue_has_its_waker :
       {h : Home T H K} (k : AnyWaker H K) → Owned claims (stopped_over UNPARKING) EMPTY h (has_waker k) → ⊥
-  -- one that waits does not leave 3
+  -- one that waits does not leave EMPTY
   pub waits_at_3 : {h k : Home T H K} → Owned claims waits EMPTY h k → ⊥
-  -- a sender that finishes over 3 leaves its own word
+  -- a sender that finishes over EMPTY leaves its own word
   pub send_leaves_3 : {h k : Home T H K} → Owned (sent_over EMPTY) (stopped_over UNPARKING) EMPTY h k → ⊥
   pub drop_leaves_3 : {h k : Home T H K} → Owned (dropped_over EMPTY) (stopped_over UNPARKING) EMPTY h k → ⊥
-  -- a swap of 3 leaves 3 over the message and over the sender's end
+  -- a swap of EMPTY leaves EMPTY over the message and over the sender's end
   pub stop_leaves_0_over_the_message :
       {h k : Home T H K} → Owned (sent_over UNPARKING) (stopped_over MESSAGE) RECEIVING h k → ⊥
   pub stop_leaves_0_over_the_end :
@@ -126,7 +126,7 @@ pub record StatesThatAreNot (T H K : Type 0) : Type 0 where
   -- an exchange that did not leaves the word that it found
   pub late_poll_leaves_0 : {h k : Home T H K} → Owned ((Add, Word EMPTY) ∷ []) (polled_over MESSAGE) RECEIVING h k → ⊥
   pub takes_back_over_1 : {h k : Home T H K} → Owned claims (exchanged_back UNPARKING) EMPTY h k → ⊥
-  -- a future that is dropped over 1 leaves 2, and both slots to the sender
+  -- a future that is dropped over UNPARKING leaves DISCONNECTED, and both slots to the sender
   pub dropped_and_leaves_1 : {h k : Home T H K} → Owned claims left_meanwhile UNPARKING h k → ⊥
   pub dropped_with_its_waker :
       {h : Home T H K} (k : AnyWaker H K) → Owned claims left_meanwhile DISCONNECTED h (has_waker k) → ⊥

@@ -38,13 +38,13 @@ pub data Owned {T H K : Type 0} (xs ys : List Noted) : ℕ → Home T H K → Ho
   -- the sender has performed no operation, and the receiver stores a waker
   waker_stored : {h k : Home T H K} → xs ≡ [] → stores_waker ys ≡ true → is_gone ys ≡ false
       → IsSenders h → IsWords k → Owned xs ys RECEIVING h k
-  -- the sender found 0, and its final swap is to come; the receiver still waits
+  -- the sender found RECEIVING, and its final swap is to come; the receiver still waits
   waker_claimed : {h k : Home T H K} (by : By) → FoundZero by xs → stores_waker ys ≡ true → is_gone ys ≡ false
       → IsSenders h → IsSenders k → Owned xs ys UNPARKING h k
-  -- the sender found 0, and its final swap is to come; the receiver is overdue
+  -- the sender found RECEIVING, and its final swap is to come; the receiver is overdue
   claimed_overdue : {h k : Home T H K} (by : By) → FoundZero by xs → is_overdue ys ≡ true → is_gone ys ≡ false
       → IsSenders h → IsSenders k → Owned xs ys EMPTY h k
-  -- the sender found 0, and its final swap is to come; the receiver is gone
+  -- the sender found RECEIVING, and its final swap is to come; the receiver is gone
   claimed_gone : {h k : Home T H K} (by : By) → FoundZero by xs → is_gone ys ≡ true
       → IsSenders h → IsSenders k → Owned xs ys DISCONNECTED h k
   -- the sender has performed no operation, and the receiver is gone

@@ -179,7 +179,7 @@ abbrev pub took : {T : Type 0} → Held T → Held T → Option T → Option T
 took away (held m) taken = Some m
 took _ _ taken = taken
 
--- it has taken one if it had before, or if the operation found 4
+-- it has taken one if it had before, or if the operation found MESSAGE
 abbrev pub TakesAsFound : {T : Type 0} → Op → ℕ → Option T → Option T → Type 0
 TakesAsFound op word before after = is_some after ≡ (is_some before || is_same_seen (saw op word) (Word MESSAGE))
 
