@@ -16,9 +16,11 @@ POLLS = ["future drop", "future poll1 drop", "future poll1 poll1 drop", "future 
          "future poll1 poll1", "future try try try drop"]
 WAITS = ["recv", "ref drop", "try recv", "raw recv", "ref try drop", "full recv", "forever drop"]
 TIMED = ["timeout drop", "zerotimeout drop", "deadline drop", "zerodeadline drop", "timeout try drop",
-         "deadline ref drop", "timeout timeout drop", "timeout future poll1 drop", "timeout recv", "fartimeout drop",
-         "fardeadline drop"]
-ASKED = ["try drop", "closed try drop", "drop", "recv", "try recv", "timeout drop", "timeout recv", "forever drop",
+         "timeout future poll1 drop", "fartimeout drop", "fardeadline drop"]
+# Two waits. Beside a drop of the sender, whose flip is tried again and again, their runs do not end in half an hour.
+TWICE = ["deadline ref drop", "timeout timeout drop", "timeout recv"]
+SENDS = ["send", "closed send", "send inner into", "send drop", "raw send into", ""]
+ASKED = ["try drop", "closed try drop", "drop", "recv", "try recv", "timeout drop", "forever drop",
          "future poll1 drop", "future poll1 poll2 drop"]
 # Of two channels of one pair of threads. Each thread sends by the one script, and then receives by the other.
 BOTH = ["try drop", "drop", "full closed try drop", "raw try drop", "recv", "ref drop", "try recv"]
@@ -44,6 +46,7 @@ SHORT = (pairs_of("", TRIES) + pairs_of("", POLLS[:4])
          + pairs_of("two", BOTH[:3], senders=["send", "drop"]) + pairs_of("two", ["recv"], "spurious=0", ["send", ""]))
 # With --all.
 ALL = (pairs_of("", TRIES) + pairs_of("", POLLS) + pairs_of("", WAITS) + pairs_of("", TIMED, "readings=5")
+       + pairs_of("", TWICE, "readings=5", SENDS)
        + pairs_of("", ["timeout drop", "deadline drop", "fartimeout drop"], "readings=3 failing-clock=1", SENDERS[:2])
        + pairs_of("", ["recv", "ref drop", "fartimeout drop"], "spurious=2 readings=2", SENDERS[:2])
        + pairs_of("", ["future poll1 drop", "future poll1 poll2 drop"], "queues=1", SENDERS[:2])
@@ -51,7 +54,8 @@ ALL = (pairs_of("", TRIES) + pairs_of("", POLLS) + pairs_of("", WAITS) + pairs_o
        + pairs_of("two", BOTH[:4], senders=SENDERS[:3]) + pairs_of("two", BOTH[4:], "spurious=0", ["send", "drop", ""])
        + pairs_of("promise", TRIES[:4] + POLLS[1:4] + ["recv", "timeout drop"], "readings=3", SENDERS[:5])
        + pairs_of("nested", TRIES[:4] + POLLS[1:3] + ["recv"], senders=["send", "send into", "send drop", "drop"])
-       + pairs_of("request", ASKED, "readings=3", ["send", "closed send", "send into", "drop", ""]))
+       + pairs_of("request", ASKED, "readings=3", ["send", "closed send", "send into", "drop", ""])
+       + pairs_of("request", ["timeout recv"], "readings=3", ["send", "closed send", "send into", ""]))
 # Every interleaving of short scripts, not one run of each order.
 FULL = pairs_of("", TRIES + POLLS[:4], "reduce=0", SENDERS[:4])
 
@@ -62,7 +66,7 @@ def words_in(scripts):
 
 def lacking(pair):
     """What the program or the scheduler lacks of a pair; nothing if it has all."""
-    receivers = {"request": ASKED, "two": BOTH}.get(pair.kind, TRIES + POLLS + WAITS + TIMED)
+    receivers = {"request": ASKED + TWICE, "two": BOTH}.get(pair.kind, TRIES + POLLS + WAITS + TIMED + TWICE)
     for script, scripts in ((pair.sender, SENDERS), (pair.receiver, receivers)):
         for word in script.split():
             if word not in words_in(scripts):

@@ -4,6 +4,7 @@ use crate::differs::Differs;
 use crate::order::Order;
 use crate::tasks::Tasks;
 use oneshot_machine::machine::{End, ReceiverPos, ReceiverStart, SenderCall, SenderPos, Step};
+use oneshot_machine::states::EMPTY;
 use oneshot_replay::{Entry, Made, Move, Replayer};
 use oneshot_text::Request;
 use std::alloc::Global;
@@ -12,9 +13,6 @@ use std::alloc::Global;
 const MOST_MOVES: usize = 4096;
 
 pub(crate) const MOST_SILENT: usize = 16;
-
-/// The word of a new channel.
-const EMPTY: u8 = 3;
 
 /// What the receiver's next step gets.
 #[derive(Clone, Copy, Debug, Eq, PartialEq)]

@@ -14,5 +14,4 @@ mod raw;
 mod refused;
 mod steps;
 mod threads;
-mod waiting;
 pub(super) mod wakes;

@@ -48,8 +48,6 @@ pub(super) enum Receive {
 /// When both threads act.
 #[derive(Drop)]
 pub(super) enum Pace<'a> {
-    /// Neither waits for the other.
-    AtOnce,
     /// The sender first sleeps so long.
     Sleep(Duration),
     /// Both first count themselves here and wait for each other; then the sender makes so many loads.
@@ -95,7 +93,6 @@ impl Pace<'_> {
     /// Waits until the receive begins.
     fn receive(&self) {
         match self {
-            Pace::AtOnce => {}
             Pace::Sleep(_) => {}
             Pace::Meet(here, _) => meet(here),
         }
@@ -104,7 +101,6 @@ impl Pace<'_> {
     /// Waits until the sender acts.
     fn act(&self, rt: &impl Clock) {
         match self {
-            Pace::AtOnce => {}
             Pace::Sleep(time) => sleep(rt, *time),
             Pace::Meet(here, loads) => {
                 meet(here);

@@ -1,14 +1,11 @@
-//! Receives with a deadline or a timeout: how long they take, and what a sender on another thread changes.
+//! Receives with a timeout: how long they take, and two threads that wait for each other.
 
-use super::beside::{Act, Pace, Receive, assert_receives, hour};
+use super::beside::hour;
 use crate::asserts::{assert_same, assert_that};
 use oneshot_channel::{RecvTimeoutError, channel};
 use std::test::Fail;
 use std::thread::{join, sleep};
 use std::time::{Duration, Instant};
-
-// The rounds of each of the two timed receives.
-const ROUNDS: u64 = 1_000;
 
 #[test]
 fn a_timeout_that_runs_out_takes_its_time(rt: HostRuntime) -> Result<(), Fail> {
@@ -40,19 +37,5 @@ fn two_threads_answer_each_other(rt: HostRuntime) -> Result<(), Fail> {
     );
     assert_same(&rt, left, (true, Ok(2)));
     assert_same(&rt, right, (true, Ok(1)));
-    Ok(())
-}
-
-// The time limit is about as long as the sender sleeps: whether it runs out is left to chance.
-#[test]
-fn an_act_beside_a_limit_ends_the_receive(rt: HostRuntime) -> Result<(), Fail> {
-    let pace = Pace::Sleep(Duration::from_micros(60));
-    for round in 0..ROUNDS {
-        let limit = Duration::from_micros(round % 120);
-        for by in [Receive::UntilDeadline(limit), Receive::UntilTimeout(limit)] {
-            assert_receives(&rt, Act::Send, &pace, by)?;
-            assert_receives(&rt, Act::Drop, &pace, by)?;
-        }
-    }
     Ok(())
 }

