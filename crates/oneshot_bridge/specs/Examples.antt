@@ -75,7 +75,7 @@ module _ {T : Type 0} (m : T) where
     -- a log with other words than the run found: its add found RECEIVING, and its second load UNPARKING
     pub adds_to_another_word : (now : Scene T) (ys : List Noted) (word : ℕ)
         → RunsSo (sends m) receives schedule entries now
-          ((Add, Word EMPTY) ∷ (Swap MESSAGE, Word UNPARKING) ∷ []) ys word → ⊥
+        ((Add, Word EMPTY) ∷ (Swap MESSAGE, Word UNPARKING) ∷ []) ys word → ⊥
     pub wakes_before_the_add : (now : Scene T) (xs : List Noted) (word : ℕ)
         → RunsSo (sends m) receives schedule entries now xs
         ((Load, Word EMPTY) ∷ (Swap RECEIVING, Word EMPTY) ∷ (Load, Word RECEIVING) ∷ (Load, Word MESSAGE) ∷ []) word

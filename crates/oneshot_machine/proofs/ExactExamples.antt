@@ -1,5 +1,5 @@
 -- Proofs of the examples of the law `tables_are_exact`: each is by a row, and a test of all rows refuses the others.
-use Rattle.std.proofs.Common.{◌≡◌, ℕ, Bool, true, false, not, ◌&&◌, List, [], ◌∷◌, ◌++◌, refl, sym, ap, ◌∙◌, true≢false, arith}
+use Rattle.std.proofs.Common.{◌≡◌, Bool, true, false, not, ◌&&◌, List, [], ◌∷◌, ◌++◌, refl, sym, ap, ◌∙◌, true≢false, arith}
 use Rattle.std.specs.Prelude.{Contains}
 use Rattle.std.specs.List.{list_all}
 use Rattle.oneshot_machine.specs.declared.states.Op.{Op}
@@ -9,7 +9,7 @@ use Rattle.oneshot_machine.specs.Exact.{IsFound, none_yet, one_more, IsAllowed}
 use Rattle.oneshot_machine.specs.ExactExamples.{TablesAllow, TablesRefuse}
 use Rattle.oneshot_machine.specs.Noted.{Noted, saw, is_same_op}
 use Rattle.oneshot_machine.specs.Phases.{Row, sending, fresh, owes, first, sender_at, sender_moves, receiver_at, receiver_moves}
-use Rattle.oneshot_machine.specs.Slots.{Held, away, vacant, held, is_away, is_vacant, is_held, stays_away, stays_held, gives_room, gives_thing, gets_room, gets_thing, In, head, tail, May, may, Finds, finds}
+use Rattle.oneshot_machine.specs.Slots.{Held, away, vacant, held, is_away, is_held, stays_away, stays_held, gives_room, gives_thing, gets_room, gets_thing, head, tail, May, may, Finds, finds}
 use Rattle.oneshot_machine.specs.TableRows.{is_same_seen}
 use Rattle.oneshot_machine.proofs.Sameness.{each_passes}
 

@@ -62,7 +62,7 @@ pub record LogsOfReceiver : Type 0 where
   pub began_to_wait : receiver_at ((Load, Word EMPTY) ∷ (Swap RECEIVING, Word EMPTY) ∷ []) ≡ waits blocked
   pub woke_too_early :
       receiver_at ((Load, Word EMPTY) ∷ (Swap RECEIVING, Word EMPTY) ∷ (Load, Word RECEIVING) ∷ (Load, Word UNPARKING)
-        ∷ []) ≡ waits blocked
+      ∷ []) ≡ waits blocked
   pub waited_for_it :
       receiver_at ((Load, Word EMPTY) ∷ (Swap RECEIVING, Word EMPTY) ∷ (Load, Word MESSAGE) ∷ []) ≡ full waited
   pub found_it_by_its_swap :
@@ -73,7 +73,7 @@ pub record LogsOfReceiver : Type 0 where
       receiver_at ((Load, Word EMPTY) ∷ (Swap RECEIVING, Word EMPTY) ∷ (Swap EMPTY, Word RECEIVING) ∷ []) ≡ here between
   pub ran_out_and_tried_again :
       receiver_at ((Load, Word EMPTY) ∷ (Swap RECEIVING, Word EMPTY) ∷ (Swap EMPTY, Word RECEIVING) ∷ (Load, Word EMPTY)
-        ∷ []) ≡ here looked
+      ∷ []) ≡ here looked
   pub ran_out_over_a_message :
       receiver_at ((Load, Word EMPTY) ∷ (Swap RECEIVING, Word EMPTY) ∷ (Swap EMPTY, Word MESSAGE) ∷ [])
       ≡ full (swapped stopping)
@@ -84,7 +84,7 @@ pub record LogsOfReceiver : Type 0 where
       receiver_at ((Load, Word EMPTY) ∷ (Swap RECEIVING, Word EMPTY) ∷ (Swap EMPTY, Word UNPARKING) ∷ []) ≡ overdue
   pub waited_for_the_sender :
       receiver_at ((Load, Word EMPTY) ∷ (Swap RECEIVING, Word EMPTY) ∷ (Swap EMPTY, Word UNPARKING) ∷ (Load, Word EMPTY)
-        ∷ (Load, Word MESSAGE) ∷ [])
+      ∷ (Load, Word MESSAGE) ∷ [])
       ≡ full waited
   pub put_it_back :
       receiver_at ((Load, Word EMPTY) ∷ (Swap RECEIVING, Word DISCONNECTED) ∷ (Store DISCONNECTED, Done) ∷ [])
@@ -110,10 +110,10 @@ pub record LogsOfReceiver : Type 0 where
       receiver_at ((Load, Word EMPTY) ∷ (Swap RECEIVING, Word EMPTY) ∷ (Load, Word EMPTY) ∷ []) ≡ no_receiver
   pub leaves_its_late_word :
       receiver_at ((Load, Word EMPTY) ∷ (Swap RECEIVING, Word EMPTY) ∷ (Swap EMPTY, Word UNPARKING)
-        ∷ (Swap DISCONNECTED, Word EMPTY) ∷ []) ≡ no_receiver
+      ∷ (Swap DISCONNECTED, Word EMPTY) ∷ []) ≡ no_receiver
   pub waits_without_a_second_look :
       receiver_at ((Load, Word EMPTY) ∷ (Swap RECEIVING, Word EMPTY) ∷ (Swap EMPTY, Word RECEIVING)
-        ∷ (Swap RECEIVING, Word EMPTY) ∷ []) ≡ no_receiver
+      ∷ (Swap RECEIVING, Word EMPTY) ∷ []) ≡ no_receiver
   pub stops_before_it_waits : receiver_at ((Load, Word EMPTY) ∷ (Swap EMPTY, Word EMPTY) ∷ []) ≡ no_receiver
   pub adds : receiver_at ((Add, Word EMPTY) ∷ []) ≡ no_receiver
 
@@ -171,13 +171,13 @@ pub record RunsThatAre : Type 0 where
   pub wakes : SenderRun SendWrite waking Sent
   pub is_refused_at_its_last_operation :
       SenderRun SendWrite (wrote 7 ∷ worded Add RECEIVING ∷ handed TakeWaker 1 ∷ worded (Swap MESSAGE) DISCONNECTED
-        ∷ handed Wake 1 ∷ []) Refused
+      ∷ handed Wake 1 ∷ []) Refused
   pub wakes_by_its_drop :
       SenderRun DropXor
-        (worded Xor RECEIVING ∷ handed TakeWaker 1 ∷ worded (Swap DISCONNECTED) UNPARKING ∷ handed Wake 1 ∷ []) R.Done
+      (worded Xor RECEIVING ∷ handed TakeWaker 1 ∷ worded (Swap DISCONNECTED) UNPARKING ∷ handed Wake 1 ∷ []) R.Done
   pub frees_after_its_wake :
       SenderRun DropXor (worded Xor RECEIVING ∷ handed TakeWaker 1 ∷ worded (Swap DISCONNECTED) DISCONNECTED
-        ∷ handed Wake 1 ∷ did Free ∷ []) R.Done
+      ∷ handed Wake 1 ∷ did Free ∷ []) R.Done
   pub gives_it_back : SenderRun IntoTake (took 7 ∷ did Free ∷ []) Message
   pub drops_the_error : SenderRun ErrorDrop (did DropMessage ∷ did Free ∷ []) R.Done
   pub drops_the_sender : SenderRun DropXor (worded Xor DISCONNECTED ∷ did Free ∷ []) R.Done
@@ -188,27 +188,27 @@ pub record RunsThatAre : Type 0 where
       ReceiverRun (Ref (StartLoad false)) (waiting ++ worded (Store DISCONNECTED) MESSAGE ∷ took 7 ∷ []) Message
   pub need_not_wait :
       ReceiverRun (Ref (StartLoad false))
-        (withdrawing MESSAGE ++ worded (Store DISCONNECTED) RECEIVING ∷ took 7 ∷ []) Message
+      (withdrawing MESSAGE ++ worded (Store DISCONNECTED) RECEIVING ∷ took 7 ∷ []) Message
   pub waits_for_nobody :
       ReceiverRun (Ref (StartLoad false))
-        (withdrawing DISCONNECTED ++ worded (Store DISCONNECTED) RECEIVING ∷ []) Disconnected
+      (withdrawing DISCONNECTED ++ worded (Store DISCONNECTED) RECEIVING ∷ []) Disconnected
   pub runs_out :
       ReceiverRun (Ref (StartLoad true)) (running_out ++ worded (Swap EMPTY) RECEIVING ∷ handed Withdraw 1 ∷ []) Timeout
   pub runs_out_after_its_sum :
       ReceiverRun (Timed (SumClock true))
-        (clocked true ∷ running_out ++ worded (Swap EMPTY) RECEIVING ∷ handed Withdraw 1 ∷ [])
+      (clocked true ∷ running_out ++ worded (Swap EMPTY) RECEIVING ∷ handed Withdraw 1 ∷ [])
       Timeout
   pub runs_out_over_a_message :
       ReceiverRun (Ref (StartLoad true))
-        (running_out ++ worded (Swap EMPTY) MESSAGE ∷ worded (Store DISCONNECTED) EMPTY ∷ took 7 ∷ []) Message
+      (running_out ++ worded (Swap EMPTY) MESSAGE ∷ worded (Store DISCONNECTED) EMPTY ∷ took 7 ∷ []) Message
   pub runs_out_over_a_drop :
       ReceiverRun (Ref (StartLoad true))
-        (running_out ++ worded (Swap EMPTY) DISCONNECTED ∷ worded (Store DISCONNECTED) EMPTY ∷ []) Disconnected
+      (running_out ++ worded (Swap EMPTY) DISCONNECTED ∷ worded (Store DISCONNECTED) EMPTY ∷ []) Disconnected
   pub waits_for_the_sender :
       ReceiverRun
       (Ref (StartLoad true))
       (running_out ++ worded (Swap EMPTY) UNPARKING ∷ parked false ∷ worded Load EMPTY ∷ parked true
-        ∷ worded Load DISCONNECTED ∷ [])
+      ∷ worded Load DISCONNECTED ∷ [])
       Disconnected
   pub never_runs_out : ReceiverRun (Timed (SumClock false)) (clocked false ∷ worded Load DISCONNECTED ∷ []) Disconnected
   pub waits_and_frees : ReceiverRun (Value RecvLoad) (waiting ++ took 7 ∷ did Free ∷ []) Message

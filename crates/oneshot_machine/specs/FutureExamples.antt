@@ -26,12 +26,12 @@ pub record LogsOfFuture : Type 0 where
       receiver_at (once_polled ++ (Load, Word RECEIVING) ∷ (Exchange RECEIVING EMPTY, Word RECEIVING) ∷ []) ≡ withdrew
   pub stores_another_copy :
       receiver_at (once_polled ++ (Load, Word RECEIVING) ∷ (Exchange RECEIVING EMPTY, Word RECEIVING)
-        ∷ (Exchange EMPTY RECEIVING, Word EMPTY) ∷ [])
+      ∷ (Exchange EMPTY RECEIVING, Word EMPTY) ∷ [])
       ≡ waits polled
   pub sees_the_sender_finish : receiver_at (once_polled ++ (Load, Word UNPARKING) ∷ []) ≡ claimed
   pub exchanges_too_late :
       receiver_at (once_polled ++ (Load, Word RECEIVING) ∷ (Exchange RECEIVING EMPTY, Word UNPARKING)
-        ∷ (Load, Word UNPARKING) ∷ []) ≡ claimed
+      ∷ (Load, Word UNPARKING) ∷ []) ≡ claimed
   pub finds_it_by_its_load : receiver_at (once_polled ++ (Load, Word MESSAGE) ∷ []) ≡ full by_future
   pub finds_it_by_its_exchange :
       receiver_at ((Load, Word EMPTY) ∷ (Exchange EMPTY RECEIVING, Word MESSAGE) ∷ []) ≡ full by_poll
@@ -44,7 +44,7 @@ pub record LogsOfFuture : Type 0 where
       ≡ disconnected closed_itself
   pub is_dropped_with_its_copy :
       receiver_at (once_polled ++ (Load, Word RECEIVING) ∷ (Exchange RECEIVING EMPTY, Word RECEIVING)
-        ∷ (Swap DISCONNECTED, Word EMPTY) ∷ []) ≡ gone
+      ∷ (Swap DISCONNECTED, Word EMPTY) ∷ []) ≡ gone
   pub is_dropped_over_a_message : receiver_at ((Load, Word MESSAGE) ∷ (Swap DISCONNECTED, Word MESSAGE) ∷ []) ≡ ended
   pub tries_over_its_copy : receiver_at (once_polled ++ (Load, Word RECEIVING) ∷ (Load, Word UNPARKING) ∷ []) ≡ claimed
   pub is_dropped_over_a_sender_that_finishes :
@@ -62,13 +62,13 @@ pub record LogsOfFuture : Type 0 where
       receiver_at (once_polled ++ (Load, Word RECEIVING) ∷ (Swap DISCONNECTED, Word RECEIVING) ∷ []) ≡ no_receiver
   pub is_dropped_twice :
       receiver_at (once_polled ++ (Load, Word UNPARKING) ∷ (Swap DISCONNECTED, Word UNPARKING)
-        ∷ (Swap DISCONNECTED, Word DISCONNECTED) ∷ []) ≡ no_receiver
+      ∷ (Swap DISCONNECTED, Word DISCONNECTED) ∷ []) ≡ no_receiver
   pub is_dropped_in_its_poll :
       receiver_at ((Load, Word EMPTY) ∷ (Exchange EMPTY RECEIVING, Word MESSAGE) ∷ (Swap DISCONNECTED, Word MESSAGE)
-        ∷ []) ≡ no_receiver
+      ∷ []) ≡ no_receiver
   pub is_dropped_without_a_look :
       receiver_at ((Load, Word EMPTY) ∷ (Exchange EMPTY RECEIVING, Word DISCONNECTED)
-        ∷ (Swap DISCONNECTED, Word DISCONNECTED) ∷ []) ≡ no_receiver
+      ∷ (Swap DISCONNECTED, Word DISCONNECTED) ∷ []) ≡ no_receiver
 
 -- a poll that copied its waker, up to its exchange, which finds this word
 abbrev pub polling : ℕ → List (Event ℕ ℕ)
@@ -96,7 +96,7 @@ pub record FutureRuns : Type 0 where
       ReceiverRun
       (Future PollLoad)
       (polling_again RECEIVING ++ handed Withdraw 1 ∷ handed WriteWaker 2 ∷ worded (Exchange EMPTY RECEIVING) EMPTY
-        ∷ [])
+      ∷ [])
       Pending
   pub polls_too_late : ReceiverRun (Future PollLoad) (polling_again UNPARKING ++ did WakeOwn ∷ []) Pending
   pub polls_while_the_sender_finishes : ReceiverRun (Future PollLoad) (worded Load UNPARKING ∷ did WakeOwn ∷ []) Pending
@@ -104,19 +104,19 @@ pub record FutureRuns : Type 0 where
   pub tries_while_the_sender_finishes : ReceiverRun (Future AsyncTryLoad) (worded Load UNPARKING ∷ []) R.Empty
   pub receives_by_a_try :
       ReceiverRun (Future AsyncTryLoad)
-        (worded Load MESSAGE ∷ worded (Store DISCONNECTED) MESSAGE ∷ took 7 ∷ []) Message
+      (worded Load MESSAGE ∷ worded (Store DISCONNECTED) MESSAGE ∷ took 7 ∷ []) Message
   pub drops_its_copy :
       ReceiverRun
       (AsyncDrop AsyncLoad)
       (worded Load RECEIVING ∷ worded (Exchange RECEIVING EMPTY) RECEIVING ∷ handed Withdraw 1
-        ∷ worded (Swap DISCONNECTED) EMPTY ∷ [])
+      ∷ worded (Swap DISCONNECTED) EMPTY ∷ [])
       R.Done
   pub leaves_its_copy_with_the_sender :
       ReceiverRun (AsyncDrop AsyncLoad) (worded Load RECEIVING ∷ worded (Exchange RECEIVING EMPTY) UNPARKING
-        ∷ worded (Swap DISCONNECTED) UNPARKING ∷ []) R.Done
+      ∷ worded (Swap DISCONNECTED) UNPARKING ∷ []) R.Done
   pub frees_where_the_sender_has_finished :
       ReceiverRun (AsyncDrop AsyncLoad)
-        (worded Load UNPARKING ∷ worded (Swap DISCONNECTED) DISCONNECTED ∷ did Free ∷ []) R.Done
+      (worded Load UNPARKING ∷ worded (Swap DISCONNECTED) DISCONNECTED ∷ did Free ∷ []) R.Done
 
 -- and steps that are no run
 pub record FutureRunsThatAreNot : Type 0 where
@@ -131,7 +131,7 @@ pub record FutureRunsThatAreNot : Type 0 where
       ReceiverRun (Future AsyncTryLoad) (worded Load RECEIVING ∷ handed Withdraw 1 ∷ []) R.Empty → ⊥
   pub frees_before_the_sender :
       ReceiverRun (AsyncDrop AsyncLoad)
-        (worded Load UNPARKING ∷ worded (Swap DISCONNECTED) UNPARKING ∷ did Free ∷ []) R.Done → ⊥
+      (worded Load UNPARKING ∷ worded (Swap DISCONNECTED) UNPARKING ∷ did Free ∷ []) R.Done → ⊥
   pub drops_its_copy_too_early :
       ReceiverRun (AsyncDrop AsyncLoad)
-        (worded Load RECEIVING ∷ handed Withdraw 1 ∷ worded (Swap DISCONNECTED) RECEIVING ∷ []) R.Done → ⊥
+      (worded Load RECEIVING ∷ handed Withdraw 1 ∷ worded (Swap DISCONNECTED) RECEIVING ∷ []) R.Done → ⊥

@@ -35,7 +35,7 @@ pub record LogsThatGrow : Type 0 where
   pub keeps_its_operations : Grows (logged false []) (logged false waking_words) waking
   pub goes_on :
       Grows (logged true receiving_7) (logged true (receiving_7 ++ worded Load DISCONNECTED ∷ []))
-        (worded Load DISCONNECTED ∷ [])
+      (worded Load DISCONNECTED ∷ [])
   pub stands_still : Grows (logged true sending_7) (logged true sending_7) []
   -- the phase of its end
   pub new_sender : sender_of (logged true []) ≡ fresh

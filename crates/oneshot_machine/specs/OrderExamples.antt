@@ -24,7 +24,7 @@ pub record OrdersThatAre : Type 0 where
       Reaches (sent_over EMPTY) (waits ++ (Swap EMPTY, Word UNPARKING) ∷ (Load, Word EMPTY) ∷ []) MESSAGE
   pub polled :
       Reaches ((Xor, Word EMPTY) ∷ [])
-        ((Load, Word EMPTY) ∷ (Exchange EMPTY RECEIVING, Word DISCONNECTED) ∷ []) DISCONNECTED
+      ((Load, Word EMPTY) ∷ (Exchange EMPTY RECEIVING, Word DISCONNECTED) ∷ []) DISCONNECTED
   pub sent_too_late : Reaches ((Add, Word DISCONNECTED) ∷ []) ((Swap DISCONNECTED, Word EMPTY) ∷ []) EMPTY
 
 -- logs that have no order, whatever the phases are

@@ -31,7 +31,7 @@ OrderIsOne =
 -- A receiver that waits and finds that the sender is about to finish, operation by operation.
 abbrev pub waits_and_looks :
     InOrder ((Add, Word RECEIVING) ∷ [])
-      ((Load, Word EMPTY) ∷ (Swap RECEIVING, Word EMPTY) ∷ (Load, Word UNPARKING) ∷ []) UNPARKING
+    ((Load, Word EMPTY) ∷ (Swap RECEIVING, Word EMPTY) ∷ (Load, Word UNPARKING) ∷ []) UNPARKING
 waits_and_looks = by_receiver Load (by_sender Add (by_receiver (Swap RECEIVING) (by_receiver Load none_made)))
 
 -- Two orders of the same logs, which no sender has: whichever end loads first, both see the same.
