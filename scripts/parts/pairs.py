@@ -66,7 +66,7 @@ def words_in(scripts):
 
 def lacking(pair):
     """What the program or the scheduler lacks of a pair; nothing if it has all."""
-    receivers = {"request": ASKED + TWICE, "two": BOTH}.get(pair.kind, TRIES + POLLS + WAITS + TIMED + TWICE)
+    receivers = {"request": ASKED, "two": BOTH}.get(pair.kind, TRIES + POLLS + WAITS + TIMED + TWICE)
     for script, scripts in ((pair.sender, SENDERS), (pair.receiver, receivers)):
         for word in script.split():
             if word not in words_in(scripts):
