@@ -5,7 +5,7 @@ import pathlib
 from parts.compare import Differs
 
 TOP = pathlib.Path(__file__).resolve().parent.parent.parent
-BEGIN, END = "<!-- printed: ", "<!-- end -->"
+BEGIN, END = "<!--printed: ", "<!--end-->"
 Block = collections.namedtuple("Block", "line language is_printed lines")
 
 

@@ -4,7 +4,7 @@ import re
 from parts.compare import Differs, none_of
 from parts.pages import BEGIN, END, TOP, page_text
 
-PART = re.compile(rf"(?ms)^{BEGIN}(\w+)((?: [\w:]+)*) -->\n(.*?)^{END}$")
+PART = re.compile(rf"(?ms)^{BEGIN}(\w+)(?: ([\w:,]+))?-->\n(.*?)^{END}$")
 
 
 def printed(page, printers):
@@ -12,12 +12,12 @@ def printed(page, printers):
     named = []
 
     def part(found):
-        kind, names, _ = found.groups()
+        kind, names = found[1], (found[2] or "").split(",")
         if kind not in printers:
             raise Differs(f"{page}: nothing prints {kind}")
-        named.extend((kind, name) for name in names.split() or [""])
+        named.extend((kind, name) for name in names)
         begin, _, _ = found[0].partition("\n")
-        return "\n".join([begin, *printers[kind](*names.split()), END])
+        return "\n".join([begin, *printers[kind](*filter(None, names)), END])
 
     return PART.sub(part, page_text(page)), named
 
