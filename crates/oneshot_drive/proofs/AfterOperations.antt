@@ -53,6 +53,10 @@ module _ {At T W : Type 0} {of : Log T W → At} where
           stands = lands.stands;
         }
 
+    -- no landing is left, since the word is in no row
+    pub unlisted : {X : Type 0} → Lands of n s [] → X
+    unlisted lands = elim lands.landing [ ]
+
     -- the only landing that is left, or a fact of each that is left
     pub lone : {l : Landing At} → Lands of n s (l ∷ []) → Lone of n s l
     lone {l} lands = the_lone l.0 l.1 l.2 lands.landing lands.stands

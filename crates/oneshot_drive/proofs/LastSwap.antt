@@ -39,13 +39,13 @@ slots_full swapped_message = refl
 slots_over : {slots : Slots} → Swapped 2 slots → slots ≡ (empty, empty)
 slots_over swapped_closed = refl
 
--- the word of a sender that is gone, or the row that leaves the block to the sender
-closed_word : {n : ℕ} {slots : Slots} → Swapped n slots → ¬ (n ≡ 4) → ¬ (n ≡ 3) → ¬ (n ≡ 1) → n ≡ 2
-closed_word swapped_message a b c = absurd (a refl)
-closed_word swapped_empty a b c = absurd (b refl)
-closed_word swapped_sender a b c = absurd (c refl)
-closed_word swapped_closed a b c = refl
+no_word : {X : Type 0} {n : ℕ} {slots : Slots} → Swapped n slots → ¬ (n ≡ 4) → ¬ (n ≡ 3) → ¬ (n ≡ 2) → ¬ (n ≡ 1) → X
+no_word swapped_message a b c d = absurd (a refl)
+no_word swapped_empty a b c d = absurd (b refl)
+no_word swapped_closed a b c d = absurd (c refl)
+no_word swapped_sender a b c d = absurd (d refl)
 
+-- the row that leaves the block to the sender
 left_row : {n : ℕ} {slots : Slots} → Swapped n slots → ¬ (n ≡ 4) → ¬ (n ≡ 2)
     → receiver_row (AsyncDrop AsyncSwap) (S.Word n) ≡ Some (Answers R.Done)
 left_row swapped_message a b = absurd (a refl)
@@ -75,11 +75,12 @@ module _ {T W : Type 0} where
     pub swapped_over : n ≡ 2 → IsSlot empty m' × IsSlot empty w'
     swapped_over e = as_slots empty empty (slots_over (subst (λ n. Swapped n swapped.after) e swapped.is_so))
 
-    pub swapped_last : ¬ (n ≡ 4) → ¬ (n ≡ 3) → ¬ (n ≡ 1) → n ≡ 2
-    swapped_last = closed_word swapped.is_so
-
     pub swapped_open : ¬ (n ≡ 4) → ¬ (n ≡ 2) → receiver_row (AsyncDrop AsyncSwap) (S.Word n) ≡ Some (Answers R.Done)
     swapped_open = left_row swapped.is_so
+
+    -- it found no other word
+    pub swapped_none : {X : Type 0} → ¬ (n ≡ 4) → ¬ (n ≡ 3) → ¬ (n ≡ 2) → ¬ (n ≡ 1) → X
+    swapped_none = no_word swapped.is_so
 
   pub past_1 : {b : GroundState T W} {n : ℕ} {m : Held T} {w : Held W} → AtRest b
       → ReceiverFinds (receiver_of b.log) (Swap 2) n b.message b.waker m w → ¬ (n ≡ 1)

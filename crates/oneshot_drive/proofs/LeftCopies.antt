@@ -4,7 +4,7 @@ use Rattle.oneshot_drive.specs.declared.waiting.Found.TheVariants as F
 use Rattle.oneshot_machine.specs.declared.machine.Reply.TheVariants as R
 use Rattle.oneshot_machine.specs.declared.machine.Seen.TheVariants as S
 use Rattle.oneshot_machine.specs.declared.machine.Step.TheVariants as Steps
-use Rattle.oneshot_drive.proofs.AfterOperations.{Lands, Lone, lone, OneOf, one_of, at_word, not_at, asks, lands, still, stands_on, withdrew_waker}
+use Rattle.oneshot_drive.proofs.AfterOperations.{Lands, Lone, lone, OneOf, one_of, unlisted, at_word, not_at, asks, lands, still, stands_on, withdrew_waker}
 use Rattle.oneshot_drive.proofs.Stretches.{on, by_word, by_write, by_withdraw, by_copy, by_refusal, by_own}
 
 -- where the exchange of a copy leads, with the copy in the slot
@@ -174,8 +174,9 @@ module _ {T W : Type 0} where
     pub backed_none : n ≡ 2 → EndsPoll F.Closed s
     backed_none e = record { at = disconnected found_closed; is_one = refl; stands = (lone (at_word 2 e found)).stands }
 
-    pub backed_late : ¬ (n ≡ 0) → ¬ (n ≡ 4) → ¬ (n ≡ 2) → Lone receiver_of n s (1, claimed, (none, none))
-    backed_late a b c = lone (not_at 2 c (not_at 4 b (not_at 0 a found)))
+    -- it found no other word
+    pub backed_other : {X : Type 0} → ¬ (n ≡ 0) → ¬ (n ≡ 1) → ¬ (n ≡ 2) → ¬ (n ≡ 4) → X
+    backed_other a b c d = unlisted (not_at 4 d (not_at 2 c (not_at 1 b (not_at 0 a found))))
 
   module _ {l k : Log T W} (c : Option W) (y : W) (made : c ≡ Some y) (s : Grows l k (copied c ∷ [])) where
     pub again_to : {j : Log T W} (o : Outcome ReceiverPos) (n found : ℕ)

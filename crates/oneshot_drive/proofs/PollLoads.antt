@@ -56,6 +56,14 @@ ends_met (met_closed c) a = (refl, refl)
 ends_met met_copy a = absurd (a refl)
 ends_met met_sender a = (refl, refl)
 
+no_word : {X : Type 0} {n : ℕ} {at : ReceiverAt} → Met n at
+    → ¬ (n ≡ 0) → ¬ (n ≡ 1) → ¬ (n ≡ 2) → ¬ (n ≡ 3) → ¬ (n ≡ 4) → X
+no_word met_copy a b c d e = absurd (a refl)
+no_word met_sender a b c d e = absurd (b refl)
+no_word (met_closed k) a b c d e = absurd (c refl)
+no_word met_empty a b c d e = absurd (d refl)
+no_word (met_message word drops) a b c d e = absurd (e refl)
+
 -- how a poll leaves the future
 leaves_taken : {T : Type 0} (g : Got) (x : T) → LeavesPolled (Ready (Ok x)) (receiver_next (full g) (Store 2) S.Done)
 leaves_taken at_once x = leaves_received x
@@ -97,13 +105,8 @@ module _ {T W : Type 0} where
   full_met : {at : ReceiverAt} {s : GroundState T W} → Met 4 at → Stands at s → EndsPoll F.Message s
   full_met (met_message {g} word drops) stands = (g, word, stands)
 
-  closed_met : {n : ℕ} {at : ReceiverAt} {s : GroundState T W} → Met n at → Stands at s
-      → ¬ (n ≡ 3) → ¬ (n ≡ 0) → ¬ (n ≡ 4) → ¬ (n ≡ 1) → (n ≡ 2) × EndsPoll F.Closed s
-  closed_met met_empty stands a b c d = absurd (a refl)
-  closed_met met_copy stands a b c d = absurd (b refl)
-  closed_met (met_message word drops) stands a b c d = absurd (c refl)
-  closed_met met_sender stands a b c d = absurd (d refl)
-  closed_met (met_closed k) stands a b c d = (refl, record { at = disconnected k; is_one = refl; stands = stands })
+  closed_met : {at : ReceiverAt} {s : GroundState T W} → Met 2 at → Stands at s → EndsPoll F.Closed s
+  closed_met (met_closed k) stands = record { at = disconnected k; is_one = refl; stands = stands }
 
   pub meet_asks : {s : GroundState T W} → IsPolled s → ReceiverAsks Load s
   meet_asks is = asks Load is.stands (polled_loads is.is_one)
@@ -128,8 +131,12 @@ module _ {T W : Type 0} where
     pub met_full : n ≡ 4 → EndsPoll F.Message s
     met_full e = full_met (met_with 4 e) found.stands
 
-    pub met_none : ¬ (n ≡ 3) → ¬ (n ≡ 0) → ¬ (n ≡ 4) → ¬ (n ≡ 1) → (n ≡ 2) × EndsPoll F.Closed s
-    met_none a b c d = closed_met found.is_so found.stands a b c d
+    pub met_over : n ≡ 2 → EndsPoll F.Closed s
+    met_over e = closed_met (met_with 2 e) found.stands
+
+    -- it found no other word
+    pub met_none : {X : Type 0} → ¬ (n ≡ 0) → ¬ (n ≡ 1) → ¬ (n ≡ 2) → ¬ (n ≡ 3) → ¬ (n ≡ 4) → X
+    met_none a b c d e = no_word found.is_so a b c d e
 
     pub met_end : ¬ (n ≡ 0) → ReceiverAsks (Swap 2) s
         × (receiver_row (AsyncDrop AsyncLoad) (S.Word n) ≡ Some (Goes (AsyncDrop AsyncSwap)))

@@ -39,11 +39,13 @@ at_message looked_message = refl
 at_empty : {at : ReceiverAt} → Looked 3 at → at ≡ here looked
 at_empty looked_empty = refl
 
-at_closed : {n : ℕ} {at : ReceiverAt} → Looked n at → ¬ (n ≡ 4) → ¬ (n ≡ 3)
-    → (n ≡ 2) × (c : Closing) × (at ≡ disconnected c)
-at_closed looked_message a b = absurd (a refl)
-at_closed looked_empty a b = absurd (b refl)
-at_closed (looked_closed c) a b = (refl, c, refl)
+at_closed : {at : ReceiverAt} → Looked 2 at → (c : Closing) × (at ≡ disconnected c)
+at_closed (looked_closed c) = (c, refl)
+
+at_none : {X : Type 0} {n : ℕ} {at : ReceiverAt} → Looked n at → ¬ (n ≡ 4) → ¬ (n ≡ 3) → ¬ (n ≡ 2) → X
+at_none looked_message a b c = absurd (a refl)
+at_none looked_empty a b c = absurd (b refl)
+at_none (looked_closed k) a b c = absurd (c refl)
 
 -- a closed receiver finds 2, and no other word
 closed_loads : (at : ReceiverAt) → IsClosedAt at → Each (λ n next after. n ≡ 2) (landings Load (receiver_moves at))
@@ -69,8 +71,14 @@ module _ {T W : Type 0} where
     pub loaded_open : n ≡ 3 → Stands (here looked) s
     loaded_open e = subst (λ at. Stands at s) (at_empty (subst (λ n. Looked n found.at) e found.is_so)) found.stands
 
-    pub loaded_none : ¬ (n ≡ 4) → ¬ (n ≡ 3) → (n ≡ 2) × (c : Closing) × Stands (disconnected c) s
-    loaded_none a b = let is = at_closed found.is_so a b in (is.0, is.1, subst (λ at. Stands at s) is.2 found.stands)
+    pub loaded_closed : n ≡ 2 → (c : Closing) × Stands (disconnected c) s
+    loaded_closed e =
+        let is = at_closed (subst (λ n. Looked n found.at) e found.is_so) in
+        (is.0, subst (λ at. Stands at s) is.1 found.stands)
+
+    -- it found no other word
+    pub loaded_none : {X : Type 0} → ¬ (n ≡ 4) → ¬ (n ≡ 3) → ¬ (n ≡ 2) → X
+    loaded_none a b c = at_none found.is_so a b c
 
   pub closed_finds : {n : ℕ} {at : ReceiverAt} {m m' : Held T} {w w' : Held W} → IsClosedAt at
       → ReceiverFinds at Load n m w m' w' → n ≡ 2

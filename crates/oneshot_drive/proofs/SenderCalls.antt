@@ -1,7 +1,7 @@
 -- The obligations of each call of the sender to its ground.
 use Rattle.oneshot_drive.proofs.Names.{◌≡◌, ℕ, Bool, true, false, not, [], ◌∷◌, refl, sym, ◌∙◌, subst, ◌==◌, TakeWaker, Wake, Op, Swap, Add, Xor, Log, Grows, sender_of, wrote, handed, worded, By, sending, dropping, SenderAt, fresh, owes, late, no_sender, sender_moves, Share, none, empty, filled, Slots, Held, away, vacant, held, IsSlot, is_away, is_vacant, is_held, Turns, stays_away, stays_vacant, stays_held, gives_room, gives_thing, gets_room, gets_thing, In, finds, SenderMay, SenderFinds, leads, and_then, sender_moved, GroundState, StandsWith, SenderMakes, IsFresh, IsError, IsLate, is_late, is_overtaken, Owes, LastFinds, finds_waiting, finds_overdue, finds_gone, Finishes, IsOvertaken, is_in, is_room, put_in, as_before, turned, has_row, landings_of, landed, Each, each, found_so, sender_apart}
 use Rattle.oneshot_machine.specs.Phases.{finished}
-use Rattle.oneshot_drive.proofs.AfterOperations.{Lone, lone, at_word, not_at, sender_asks, sender_lands, sender_still}
+use Rattle.oneshot_drive.proofs.AfterOperations.{Lone, lone, unlisted, at_word, not_at, sender_asks, sender_lands, sender_still}
 
 -- whether the operation is the sender's swap
 abbrev pub is_swap : Op → Bool
@@ -88,13 +88,23 @@ module _ {T W : Type 0} where
         → Lone sender_of n a (0, owes sending, (filled, filled))
     added_waiting e made grows = lone (at_word 0 e (sender_lands b Add n is.phase made grows))
 
-    pub added : ¬ (n ≡ 3) → ¬ (n ≡ 0) → SenderMakes Add n b a → Grows b.log a.log (worded Add n ∷ [])
+    pub added : n ≡ 2 → SenderMakes Add n b a → Grows b.log a.log (worded Add n ∷ [])
         → Lone sender_of n a (2, late sending, (filled, empty))
-    added not_3 not_0 made grows = lone (not_at 0 not_0 (not_at 3 not_3 (sender_lands b Add n is.phase made grows)))
+    added e made grows = lone (at_word 2 e (sender_lands b Add n is.phase made grows))
 
-    pub flipped : ¬ (n ≡ 3) → ¬ (n ≡ 0) → SenderMakes Xor n b a → Grows b.log a.log (worded Xor n ∷ [])
+    pub flipped : n ≡ 2 → SenderMakes Xor n b a → Grows b.log a.log (worded Xor n ∷ [])
         → Lone sender_of n a (2, late dropping, (empty, empty))
-    flipped not_3 not_0 made grows = lone (not_at 0 not_0 (not_at 3 not_3 (sender_lands b Xor n is.phase made grows)))
+    flipped e made grows = lone (at_word 2 e (sender_lands b Xor n is.phase made grows))
+
+    -- it found no other word
+    module _ {X : Type 0} (not_3 : ¬ (n ≡ 3)) (not_0 : ¬ (n ≡ 0)) (not_2 : ¬ (n ≡ 2)) where
+      pub added_none : SenderMakes Add n b a → Grows b.log a.log (worded Add n ∷ []) → X
+      added_none made grows =
+          unlisted (not_at 2 not_2 (not_at 0 not_0 (not_at 3 not_3 (sender_lands b Add n is.phase made grows))))
+
+      pub flipped_none : SenderMakes Xor n b a → Grows b.log a.log (worded Xor n ∷ []) → X
+      flipped_none made grows =
+          unlisted (not_at 2 not_2 (not_at 0 not_0 (not_at 3 not_3 (sender_lands b Xor n is.phase made grows))))
 
     owed : {at : SenderAt} {share : Share} (word : ℕ) → ¬ (share ≡ none) → StandsWith sender_of at (share, filled) a
         → has_row (Swap word) (share, empty) (sender_moves at) ≡ true → Owes word a

@@ -3,7 +3,7 @@ use Rattle.oneshot_drive.proofs.Names.{◌≡◌, ℕ, Bool, true, false, [], �
 use Rattle.oneshot_drive.specs.declared.waiting.Found.TheVariants as F
 use Rattle.oneshot_machine.specs.declared.machine.Seen.TheVariants as S
 use Rattle.oneshot_machine.specs.declared.machine.Step.TheVariants as Steps
-use Rattle.oneshot_drive.proofs.AfterOperations.{Lands, Lone, lone, at_word, not_at, Came, came, asks, lands, stands_on, withdrew_waker}
+use Rattle.oneshot_drive.proofs.AfterOperations.{Lands, lone, unlisted, at_word, not_at, Came, came, asks, lands, stands_on, withdrew_waker}
 use Rattle.oneshot_drive.proofs.Stretches.{on, begun, by_word, by_withdraw, by_park, by_clock}
 
 -- the position of the load after a park, in each way
@@ -106,6 +106,10 @@ module _ {T W : Type 0} where
     woke_again no_message not_closed =
         let on = again no_message not_closed in subst (λ at. Stands at s) (longer_waits on.is_so) on.stands
 
+    -- it found no other word
+    pub woke_none : {X : Type 0} → ¬ (n ≡ 0) → ¬ (n ≡ 1) → ¬ (n ≡ 2) → ¬ (n ≡ 4) → X
+    woke_none a b c d = unlisted (not_at 4 d (not_at 2 c (not_at 1 b (not_at 0 a found))))
+
   -- a park, and where the load after it leads
   parks : {timed : Bool} {k j : Log T W} (way : ReceiveBy timed) (woken : Bool) → Grows k j (parked woken ∷ [])
       → Path (asked_of way false) (Goes (woken_of way)) k j
@@ -160,9 +164,12 @@ module _ {T W : Type 0} where
     pub stopped_over : n ≡ 2 → EndsAt true F.Unclosed s
     stopped_over e = (stopping, (lone (at_word 2 e found)).stands)
 
-    pub stopped_late : ¬ (n ≡ 0) → ¬ (n ≡ 4) → ¬ (n ≡ 2) → Lone receiver_of n s (1, overdue, (none, none))
-    stopped_late not_waiting no_message not_closed =
-        lone (not_at 2 not_closed (not_at 4 no_message (not_at 0 not_waiting found)))
+    pub stopped_late : n ≡ 1 → Stands overdue s
+    stopped_late e = (lone (at_word 1 e found)).stands
+
+    -- it found no other word
+    pub stopped_none : {X : Type 0} → ¬ (n ≡ 0) → ¬ (n ≡ 1) → ¬ (n ≡ 2) → ¬ (n ≡ 4) → X
+    stopped_none a b c d = unlisted (not_at 4 d (not_at 2 c (not_at 1 b (not_at 0 a found))))
 
     -- its waker is in its hand again
     pub withdrew_nothing : {z : GroundState T W} {k : W} → n ≡ 0 → Grows s.log z.log (handed Steps.Withdraw k ∷ [])
@@ -189,8 +196,12 @@ module _ {T W : Type 0} where
     ended_at by_message e = (waited, refl, (lone (at_word 4 e found)).stands)
     ended_at by_end e = (found_closed, (lone (at_word 2 e found)).stands)
 
-    pub ended_again : ¬ (n ≡ 4) → ¬ (n ≡ 2) → Lone receiver_of n s (3, overdue, (none, none))
-    ended_again no_message not_closed = lone (not_at 2 not_closed (not_at 4 no_message found))
+    pub ended_again : n ≡ 3 → Stands overdue s
+    ended_again e = (lone (at_word 3 e found)).stands
+
+    -- it found no other word
+    pub ended_none : {X : Type 0} → ¬ (n ≡ 2) → ¬ (n ≡ 3) → ¬ (n ≡ 4) → X
+    ended_none a b c = unlisted (not_at 4 c (not_at 3 b (not_at 2 a found)))
 
   pub late_to : {l k j z : Log T W} (o : Outcome ReceiverPos) (n found : ℕ)
       → receiver_row (Timed LateLoad) (S.Word found) ≡ Some o → n ≡ found

@@ -54,7 +54,7 @@ pub fn poll<T, W: Drop, G: TaskGround<T, W>>(g: &mut G) -> Poll<Result<T, RecvEr
             Poll::Ready(Ok(g.take_message()))
         }
         Found::Nothing => Poll::Pending,
-        _ => Poll::Ready(Err(RecvError)),
+        Found::Closed | Found::Unclosed => Poll::Ready(Err(RecvError)),
     }
 }
 
@@ -73,11 +73,13 @@ fn meet<T, W: Drop, G: TaskGround<T, W>>(g: &mut G) -> Found
         EMPTY => leave_first(g),
         RECEIVING => leave_again(g),
         MESSAGE => Found::Message,
+        // The sender is about to wake an earlier poll's task, which may be another.
         UNPARKING => {
             g.wake_own();
             Found::Nothing
         }
-        _ => Found::Closed,
+        DISCONNECTED => Found::Closed,
+        _ => unreachable!(),
     }
 }
 
@@ -144,10 +146,12 @@ fn leave_again<T, W: Drop, G: TaskGround<T, W>>(g: &mut G) -> Found
         }
         MESSAGE => Found::Message,
         DISCONNECTED => Found::Closed,
-        _ => {
+        // As in `meet`.
+        UNPARKING => {
             g.wake_own();
             Found::Nothing
         }
+        _ => unreachable!(),
     }
 }
 
@@ -178,7 +182,8 @@ pub fn async_try_recv<T, W, G: ReceiverGround<T, W>>(g: &mut G) -> Result<T, Try
             Ok(g.take_message())
         }
         DISCONNECTED => Err(TryRecvError::Disconnected),
-        _ => Err(TryRecvError::Empty),
+        RECEIVING | UNPARKING | EMPTY => Err(TryRecvError::Empty),
+        _ => unreachable!(),
     }
 }
 
@@ -197,7 +202,8 @@ pub fn drop_async<T, W: Drop, G: ReceiverGround<T, W>>(g: &mut G)
             take_back(g);
             close(g);
         }
-        _ => close(g),
+        UNPARKING | DISCONNECTED | EMPTY | MESSAGE => close(g),
+        _ => unreachable!(),
     }
 }
 
@@ -209,7 +215,8 @@ fn take_back<T, W: Drop, G: ReceiverGround<T, W>>(g: &mut G)
 {
     match g.exchange(RECEIVING, EMPTY) {
         RECEIVING => drop(g.withdraw()),
-        _ => {}
+        UNPARKING | DISCONNECTED | MESSAGE => {}
+        _ => unreachable!(),
     }
 }
 
@@ -226,6 +233,8 @@ fn close<T, W, G: ReceiverGround<T, W>>(g: &mut G)
             g.free();
         }
         DISCONNECTED => g.free(),
-        _ => {}
+        // A sender about to finish sees by its last swap that the receiver is gone.
+        UNPARKING | EMPTY => {}
+        _ => unreachable!(),
     }
 }

@@ -36,7 +36,8 @@ pub fn try_recv<T, W, G: ReceiverGround<T, W>>(g: &mut G) -> Result<T, TryRecvEr
             Ok(g.take_message())
         }
         EMPTY => Err(TryRecvError::Empty),
-        _ => Err(TryRecvError::Disconnected),
+        DISCONNECTED => Err(TryRecvError::Disconnected),
+        _ => unreachable!(),
     }
 }
 
@@ -55,6 +56,7 @@ pub fn drop_receiver<T, W, G: ReceiverGround<T, W>>(g: &mut G)
             g.free();
         }
         EMPTY => {}
-        _ => g.free(),
+        DISCONNECTED => g.free(),
+        _ => unreachable!(),
     }
 }

@@ -39,7 +39,8 @@ pub fn send<T, W, G: SenderGround<T, W>>(g: &mut G, message: T) -> bool
     match g.add() {
         EMPTY => true,
         RECEIVING => finish(g, MESSAGE),
-        _ => false,
+        DISCONNECTED => false,
+        _ => unreachable!(),
     }
 }
 
@@ -63,7 +64,8 @@ pub fn drop_sender<T, W, G: SenderGround<T, W>>(g: &mut G)
                 g.free();
             }
         }
-        _ => g.free(),
+        DISCONNECTED => g.free(),
+        _ => unreachable!(),
     }
 }
 

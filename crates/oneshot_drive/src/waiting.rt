@@ -12,7 +12,7 @@ ghost use Rattle.oneshot_drive.specs.BetweenCalls.{AtRest, IsClosedAt, IsReady};
 ghost use Rattle.oneshot_drive.specs.Grounds.{Stands};
 
 use crate::ground::BlockGround;
-use oneshot_machine::states::{DISCONNECTED, EMPTY, MESSAGE, RECEIVING};
+use oneshot_machine::states::{DISCONNECTED, EMPTY, MESSAGE, RECEIVING, UNPARKING};
 use std::sync::Wait;
 
 // What the word that decides a receive means.
@@ -48,7 +48,8 @@ pub(crate) fn find<T, W: Drop, G: BlockGround<T, W>>(
     match g.load() {
         MESSAGE => Found::Message,
         EMPTY => store_and_wait(g, rt, hand, timed),
-        _ => Found::Closed,
+        DISCONNECTED => Found::Closed,
+        _ => unreachable!(),
     }
 }
 
@@ -108,7 +109,8 @@ fn wait<T, W: Drop, G: BlockGround<T, W>>(
         match g.load() {
             MESSAGE => return Found::Message,
             DISCONNECTED => return Found::Closed,
-            _ => {}
+            RECEIVING | UNPARKING => {}
+            _ => unreachable!(),
         }
     }
     unreachable!()
@@ -144,7 +146,9 @@ fn stop<T, W: Drop, G: BlockGround<T, W>>(g: &mut G, rt: &impl Wait, hand: &mut 
         }
         MESSAGE => Found::Message,
         DISCONNECTED => Found::Unclosed,
-        _ => wait_late(g, rt),
+        // The sender has the waker and is about to finish. Its swap comes over this EMPTY.
+        UNPARKING => wait_late(g, rt),
+        _ => unreachable!(),
     }
 }
 
@@ -162,7 +166,8 @@ fn wait_late<T, W, G: BlockGround<T, W>>(g: &mut G, rt: &impl Wait) -> Found
         match g.load() {
             MESSAGE => return Found::Message,
             DISCONNECTED => return Found::Closed,
-            _ => {}
+            EMPTY => {}
+            _ => unreachable!(),
         }
     }
     unreachable!()

@@ -1,5 +1,4 @@
-//! Tests of the model's parts, by public names: lists of calls, runs that are stepped by hand, texts, and answers to
-//! inputs.
+//! Tests of the model's parts, by public names: runs that are stepped by hand, texts, and answers to inputs.
 #![tactic(auto)]
 
 #[cfg(test)]
@@ -8,7 +7,5 @@ mod answers;
 mod asserts;
 #[cfg(test)]
 mod replayer;
-#[cfg(test)]
-mod scripts;
 #[cfg(test)]
 mod text;

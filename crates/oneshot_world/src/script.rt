@@ -140,14 +140,6 @@ impl<C> From<Vec<C>> for CallList<C> {
 }
 
 impl<C> CallList<C> {
-    /// Returns the calls, in the vector that they were given in.
-    pub fn into_vec(self) -> Vec<C>
-        ensures { result.items ≡ self }
-    {
-        let CallList { calls } = self;
-        calls
-    }
-
     /// Returns the calls, in the order in which they are made.
     pub fn as_slice(&self) -> &[C]
         ensures { result.now ≡ self.now }

@@ -3,7 +3,7 @@ use Rattle.oneshot_drive.proofs.Names.{rules, Ok, refl, StandsIn, LeavesTried, i
 use Rattle.oneshot_drive.proofs.AfterOperations.{Came, took_message}
 use Rattle.oneshot_drive.proofs.RestLoads.{never, closed_finds}
 use Rattle.oneshot_drive.proofs.Receives.{full_asks, closed_over}
-use Rattle.oneshot_drive.proofs.PollLoads.{Met, meet_asks, met, met_full}
+use Rattle.oneshot_drive.proofs.PollLoads.{Met, meet_asks, met, met_full, met_none}
 use Rattle.oneshot_drive.proofs.TriedFutures.{taken_ends, over_ends, unsent_ends, tried_rests, tried_leaves, stays_registered, taken_ran, over_ran, unsent_ran, load_alone, words_alone}
 use Rattle.oneshot_drive.proofs.polling.async_try_recv.Given as given
 use Rattle.oneshot_drive.proofs.polling.async_try_recv.Goals as goal
@@ -70,9 +70,9 @@ returns-in-2 g c =
       keeps = c.load.ensures.keeps;
     }
 
-pub returns-in_default : goal.returns-in_default
-returns-in_default g c =
-    let found = loaded g (goal.at.returns-in_default g c).After-load in
+pub returns-in-0 : goal.returns-in-0
+returns-in-0 g c =
+    let found = loaded g (goal.at.returns-in-0 g c).After-load in
     let ends = unsent_ends found (search rules) (search rules) in
     let run = unsent_ran c.load.result found (search rules) (search rules) c.load.ensures.log in
     record {
@@ -88,3 +88,8 @@ returns-in_default g c =
       had = search rules;
       keeps = c.load.ensures.keeps;
     }
+
+pub unreachable-requires : goal.unreachable-requires
+unreachable-requires g c =
+    met_none (met c.load.result c.requires c.load.ensures.finds c.load.ensures.log) (search rules) (search rules)
+    (search rules) (search rules) (search rules)

@@ -1,7 +1,7 @@
 -- Proofs of the goals that `close` leaves.
 use Rattle.oneshot_drive.proofs.Names.{rules, refl, ◌∙◌, [], ◌∷◌, did, AsyncDrop, AsyncSwap, is_in, is_room}
 use Rattle.oneshot_machine.specs.declared.machine.Step.TheVariants as Steps
-use Rattle.oneshot_drive.proofs.LastSwap.{swapped_full, swapped_over, swapped_open, row_at, dropped_message, dropped_open, dropped_last}
+use Rattle.oneshot_drive.proofs.LastSwap.{swapped_full, swapped_over, swapped_open, swapped_none, row_at, dropped_message, dropped_open, dropped_last}
 use Rattle.oneshot_drive.specs.BetweenCalls.{HasLeft}
 use Rattle.oneshot_drive.proofs.EndsOver.{dropped, stays_at}
 use Rattle.oneshot_drive.proofs.polling.close.Goals as goal
@@ -28,8 +28,8 @@ returns-in-2-clause-run g c =
     dropped_last (AsyncDrop AsyncSwap) refl c.swap.result (row_at (AsyncDrop AsyncSwap) 2 refl c.in-2.is)
     c.swap.ensures.log c.free-in-2.ensures.log
 
-pub returns-in_default-clause-run : goal.returns-in_default-clause-run
-returns-in_default-clause-run g c =
+pub returns-in-1-clause-run : goal.returns-in-1-clause-run
+returns-in-1-clause-run g c =
     dropped_open (AsyncDrop AsyncSwap) refl c.swap.result
     (swapped_open c.swap.ensures.finds (search rules) (search rules)) c.swap.ensures.log
 
@@ -44,5 +44,9 @@ returns-in-2-clause-left g c =
     stays_at HasLeft (did Steps.Free ∷ []) refl c.free-in-2.ensures.log
     (dropped c.swap.result c.swap.ensures.finds c.swap.ensures.log)
 
-pub returns-in_default-clause-left : goal.returns-in_default-clause-left
-returns-in_default-clause-left g c = dropped c.swap.result c.swap.ensures.finds c.swap.ensures.log
+pub returns-in-1-clause-left : goal.returns-in-1-clause-left
+returns-in-1-clause-left g c = dropped c.swap.result c.swap.ensures.finds c.swap.ensures.log
+
+pub unreachable-requires : goal.unreachable-requires
+unreachable-requires g c =
+    swapped_none c.swap.ensures.finds (search rules) (search rules) (search rules) (search rules)

@@ -4,7 +4,7 @@ use Rattle.oneshot_machine.specs.declared.machine.Seen.TheVariants.{Word}
 use Rattle.oneshot_drive.specs.declared.waiting.Found.TheVariants as F
 use Rattle.oneshot_drive.specs.Polls.{WritesItsCopy}
 use Rattle.oneshot_drive.proofs.AfterOperations.{Lands, asks, withdrew_waker}
-use Rattle.oneshot_drive.proofs.LeftCopies.{refused, copied_on, owned_ends, may_leave, again_backed, backed_copy, backed_full, backed_none, backed_late, again_to, again_left, again_late}
+use Rattle.oneshot_drive.proofs.LeftCopies.{refused, copied_on, owned_ends, may_leave, again_backed, backed_copy, backed_full, backed_none, backed_sender, backed_other, again_to, again_left, again_late}
 use Rattle.oneshot_drive.proofs.OwnCopies.{wrote_none, on_word, on_withdraw, on_own, on_copy, on_refusal}
 use Rattle.oneshot_drive.proofs.polling.leave_again.Given as given
 use Rattle.oneshot_drive.proofs.polling.leave_again.Goals as goal
@@ -94,22 +94,20 @@ returns-in-2 g c =
     let c' = (goal.at.returns-in-2 g c).After-exchange in
     ended g c' 2 F.Closed refl c.in-2.is (λ e. cc) (backed_none (backed g c') c.in-2.is)
 
-pub returns-in_default-exchange : goal.returns-in_default-exchange
-returns-in_default-exchange g c =
+pub returns-in-1 : goal.returns-in-1
+returns-in-1 g c =
     let on = g.G.ReceiverGround.keeps_on in
-    let late =
-    backed_late (backed g (goal.at.returns-in_default-exchange g c).After-exchange) (search rules) (search rules)
-    (search rules) in
+    let late = backed_sender (backed g (goal.at.returns-in-1 g c).After-exchange) c.in-1.is in
     record {
-      path = again_late c.copy.result c.in-Some.copy c.in-Some.is c.copy.ensures.log c.exchange.result late.word
-          c.exchange.ensures.log c.wake_own-in_default-exchange.ensures.log;
-      ends = owned_ends leaves_claimed late.stands c.wake_own-in_default-exchange.ensures.log
-          c.wake_own-in_default-exchange.ensures.message c.wake_own-in_default-exchange.ensures.waker;
-      heard = λ nothing. c.wake_own-in_default-exchange.ensures.heard;
+      path = again_late c.copy.result c.in-Some.copy c.in-Some.is c.copy.ensures.log c.exchange.result c.in-1.is
+          c.exchange.ensures.log c.wake_own-in-1.ensures.log;
+      ends = owned_ends leaves_claimed late c.wake_own-in-1.ensures.log
+          c.wake_own-in-1.ensures.message c.wake_own-in-1.ensures.waker;
+      heard = λ nothing. c.wake_own-in-1.ensures.heard;
       own = on_copy c.in-Some.copy c.in-Some.is c.copy.ensures.log (on_word _ c.exchange.result c.exchange.ensures.log
-          (on_own c.wake_own-in_default-exchange.ensures.log (wrote_none _)));
+          (on_own c.wake_own-in-1.ensures.log (wrote_none _)));
       keeps = on _ _ _ c.copy.ensures.keeps
-          (on _ _ _ c.exchange.ensures.keeps c.wake_own-in_default-exchange.ensures.keeps);
+          (on _ _ _ c.exchange.ensures.keeps c.wake_own-in-1.ensures.keeps);
     }
 
 pub leave-requires-clause-has : goal.leave-requires-clause-has
@@ -117,3 +115,9 @@ leave-requires-clause-has g c =
     let on = g.G.ReceiverGround.keeps_on in
     g.G.ReceiverGround.has_on _ _ _ (on _ _ _ c.exchange.ensures.keeps c.withdraw-stored.ensures.keeps)
     (subst (λ hand. g.G.ReceiverGround.has c.copy.new.self hand) c.in-Some.is (c.copy.ensures.has c.requires.has))
+
+pub unreachable-requires : goal.unreachable-requires
+unreachable-requires g c =
+    backed_other (again_backed c.copy.result c.exchange.result c.requires.open c.copy.ensures.log c.copy.ensures.message
+    c.copy.ensures.waker c.exchange.ensures.finds c.exchange.ensures.log) (search rules) (search rules) (search rules)
+    (search rules)

@@ -1,7 +1,7 @@
 -- Proofs of the goals that `meet` leaves.
 use Rattle.oneshot_drive.proofs.Names.{rules, refl, leaves_claimed}
 use Rattle.oneshot_drive.proofs.RestLoads.{never}
-use Rattle.oneshot_drive.proofs.PollLoads.{meet_asks, met, met_open, met_copied, met_claimed, met_full, met_none, met_path, met_own, loaded_to}
+use Rattle.oneshot_drive.proofs.PollLoads.{meet_asks, met, met_open, met_copied, met_claimed, met_full, met_over, met_none, met_path, met_own, loaded_to}
 use Rattle.oneshot_drive.proofs.LeftCopies.{owned_ends}
 use Rattle.oneshot_drive.proofs.OwnCopies.{wrote_none, on_word, on_own}
 use Rattle.oneshot_drive.proofs.polling.meet.Goals as goal
@@ -50,16 +50,17 @@ returns-in-1-clause-ends g c =
 pub returns-in-1-clause-stays : goal.returns-in-1-clause-stays
 returns-in-1-clause-stays g c is_closed = never 1 refl c.in-1.is is_closed c.load.ensures.finds
 
-pub returns-in_default-clause-path : goal.returns-in_default-clause-path
-returns-in_default-clause-path g c =
-    loaded_to _ c.load.result 2 refl refl
-    (met_none (met c.load.result c.requires.rests c.load.ensures.finds c.load.ensures.log) (search rules) (search rules)
-    (search rules) (search rules)).0 c.load.ensures.log
+pub returns-in-2-clause-path : goal.returns-in-2-clause-path
+returns-in-2-clause-path g c = loaded_to _ c.load.result 2 refl refl c.in-2.is c.load.ensures.log
 
-pub returns-in_default-clause-ends : goal.returns-in_default-clause-ends
-returns-in_default-clause-ends g c =
-    (met_none (met c.load.result c.requires.rests c.load.ensures.finds c.load.ensures.log) (search rules) (search rules)
-    (search rules) (search rules)).1
+pub returns-in-2-clause-ends : goal.returns-in-2-clause-ends
+returns-in-2-clause-ends g c =
+    met_over (met c.load.result c.requires.rests c.load.ensures.finds c.load.ensures.log) c.in-2.is
+
+pub unreachable-requires : goal.unreachable-requires
+unreachable-requires g c =
+    met_none (met c.load.result c.requires.rests c.load.ensures.finds c.load.ensures.log) (search rules) (search rules)
+    (search rules) (search rules) (search rules)
 
 pub returns-in-3-clause-own : goal.returns-in-3-clause-own
 returns-in-3-clause-own g c = on_word _ c.load.result c.load.ensures.log c.leave_first.ensures.own
@@ -74,8 +75,8 @@ returns-in-1-clause-own g c =
 pub returns-in-4-clause-own : goal.returns-in-4-clause-own
 returns-in-4-clause-own g c = on_word _ c.load.result c.load.ensures.log (wrote_none _)
 
-pub returns-in_default-clause-own : goal.returns-in_default-clause-own
-returns-in_default-clause-own g c = on_word _ c.load.result c.load.ensures.log (wrote_none _)
+pub returns-in-2-clause-own : goal.returns-in-2-clause-own
+returns-in-2-clause-own g c = on_word _ c.load.result c.load.ensures.log (wrote_none _)
 
 pub leave_first-requires-clause-has : goal.leave_first-requires-clause-has
 leave_first-requires-clause-has g c = g.G.ReceiverGround.has_on _ _ _ c.load.ensures.keeps c.requires.has

@@ -54,10 +54,9 @@ returns-in-Nothing g c =
       keeps = c.meet.ensures.keeps;
     }
 
-pub returns-in_default : goal.returns-in_default
-returns-in_default g c =
-    let over = gone (g.G.ReceiverGround.state c.meet.new.g) c.meet.result c.meet.ensures.ends c.in_default.not-Message
-    c.in_default.not-Nothing in
+pub returns-in-Closed : goal.returns-in-Closed
+returns-in-Closed g c =
+    let over = gone (g.G.ReceiverGround.state c.meet.new.g) c.meet.result c.meet.ensures.ends (search rules) (search rules) in
     let run = whole (rw over.0 at c.meet.ensures.path) in
     record {
       run = run;

@@ -3,7 +3,7 @@ use Rattle.oneshot_drive.proofs.Names.{rules, refl, ◌∙◌, [], ◌∷◌, di
 use Rattle.oneshot_machine.specs.declared.machine.Step.TheVariants as Steps
 use Rattle.oneshot_machine.specs.declared.machine.receiver.ReceiverPos.TheVariants.{Drop}
 use Rattle.oneshot_drive.proofs.RestLoads.{swap_asks}
-use Rattle.oneshot_drive.proofs.LastSwap.{swapped_full, swapped_over, swapped_last, past_1, row_at, dropped_message, dropped_open, dropped_last}
+use Rattle.oneshot_drive.proofs.LastSwap.{swapped_full, swapped_over, swapped_none, past_1, row_at, dropped_message, dropped_open, dropped_last}
 use Rattle.oneshot_drive.specs.BetweenCalls.{HasLeft}
 use Rattle.oneshot_drive.proofs.EndsOver.{dropped, stays_at}
 use Rattle.oneshot_drive.proofs.receiver.drop_receiver.Goals as goal
@@ -17,17 +17,11 @@ drop_message-requires g c = is_in (swapped_full c.swap.ensures.finds c.in-4.is).
 pub free-requires-clause-waker : goal.free-requires-clause-waker
 free-requires-clause-waker g c = c.drop_message.ensures.waker ∙ is_room (swapped_full c.swap.ensures.finds c.in-4.is).1
 
-pub free-requires-in_default-clause-message : goal.free-requires-in_default-clause-message
-free-requires-in_default-clause-message g c =
-    let closed =
-    swapped_last c.swap.ensures.finds (search rules) (search rules) (past_1 c.requires c.swap.ensures.finds) in
-    is_room (swapped_over c.swap.ensures.finds closed).0
+pub free-requires-in-2-clause-message : goal.free-requires-in-2-clause-message
+free-requires-in-2-clause-message g c = is_room (swapped_over c.swap.ensures.finds c.in-2.is).0
 
-pub free-requires-in_default-clause-waker : goal.free-requires-in_default-clause-waker
-free-requires-in_default-clause-waker g c =
-    let closed =
-    swapped_last c.swap.ensures.finds (search rules) (search rules) (past_1 c.requires c.swap.ensures.finds) in
-    is_room (swapped_over c.swap.ensures.finds closed).1
+pub free-requires-in-2-clause-waker : goal.free-requires-in-2-clause-waker
+free-requires-in-2-clause-waker g c = is_room (swapped_over c.swap.ensures.finds c.in-2.is).1
 
 pub returns-in-4-clause-run : goal.returns-in-4-clause-run
 returns-in-4-clause-run g c =
@@ -38,12 +32,10 @@ pub returns-in-3-clause-run : goal.returns-in-3-clause-run
 returns-in-3-clause-run g c =
     dropped_open (Drop DropSwap) refl c.swap.result (row_at (Drop DropSwap) 3 refl c.in-3.is) c.swap.ensures.log
 
-pub returns-in_default-clause-run : goal.returns-in_default-clause-run
-returns-in_default-clause-run g c =
-    let closed =
-    swapped_last c.swap.ensures.finds (search rules) (search rules) (past_1 c.requires c.swap.ensures.finds) in
-    dropped_last (Drop DropSwap) refl c.swap.result (row_at (Drop DropSwap) 2 refl closed) c.swap.ensures.log
-    c.free-in_default.ensures.log
+pub returns-in-2-clause-run : goal.returns-in-2-clause-run
+returns-in-2-clause-run g c =
+    dropped_last (Drop DropSwap) refl c.swap.result (row_at (Drop DropSwap) 2 refl c.in-2.is) c.swap.ensures.log
+    c.free-in-2.ensures.log
 
 pub returns-in-4-clause-left : goal.returns-in-4-clause-left
 returns-in-4-clause-left g c =
@@ -54,7 +46,11 @@ returns-in-4-clause-left g c =
 pub returns-in-3-clause-left : goal.returns-in-3-clause-left
 returns-in-3-clause-left g c = dropped c.swap.result c.swap.ensures.finds c.swap.ensures.log
 
-pub returns-in_default-clause-left : goal.returns-in_default-clause-left
-returns-in_default-clause-left g c =
-    stays_at HasLeft (did Steps.Free ∷ []) refl c.free-in_default.ensures.log
+pub returns-in-2-clause-left : goal.returns-in-2-clause-left
+returns-in-2-clause-left g c =
+    stays_at HasLeft (did Steps.Free ∷ []) refl c.free-in-2.ensures.log
     (dropped c.swap.result c.swap.ensures.finds c.swap.ensures.log)
+
+pub unreachable-requires : goal.unreachable-requires
+unreachable-requires g c =
+    swapped_none c.swap.ensures.finds (search rules) (search rules) (search rules) (past_1 c.requires c.swap.ensures.finds)

@@ -1,7 +1,7 @@
 -- Proofs of the goals that `try_recv` leaves.
 use Rattle.oneshot_drive.proofs.Names.{rules, refl, Store, is_in, try_recv_few}
 use Rattle.oneshot_drive.proofs.AfterOperations.{Came, asks, took_message}
-use Rattle.oneshot_drive.proofs.RestLoads.{Looked, load_asks, loaded, loaded_full, loaded_open, loaded_none, closed, rests_over, rests_here, took_leaves, open_leaves, closed_leaves, took_ran, empty_ran, gone_ran, never}
+use Rattle.oneshot_drive.proofs.RestLoads.{Looked, load_asks, loaded, loaded_full, loaded_open, loaded_closed, loaded_none, closed, rests_over, rests_here, took_leaves, open_leaves, closed_leaves, took_ran, empty_ran, gone_ran, never}
 use Rattle.oneshot_drive.proofs.receiver.try_recv.Given as given
 use Rattle.oneshot_drive.proofs.receiver.try_recv.Goals as goal
 use Rattle.oneshot_drive.proofs.receiver.try_recv.Goals.{After-load}
@@ -56,17 +56,22 @@ returns-in-3 g c =
       keeps = c.load.ensures.keeps;
     }
 
-pub returns-in_default : goal.returns-in_default
-returns-in_default g c =
-    let over = loaded_none (looked g (goal.at.returns-in_default g c).After-load) (search rules) (search rules) in
-    let run = gone_ran c.load.result over.0 c.load.ensures.log in
+pub returns-in-2 : goal.returns-in-2
+returns-in-2 g c =
+    let over = loaded_closed (looked g (goal.at.returns-in-2 g c).After-load) c.in-2.is in
+    let run = gone_ran c.load.result c.in-2.is c.load.ensures.log in
     record {
       run = run;
-      rests = rests_over over.2;
-      leaves = closed_leaves over.2;
+      rests = rests_over over.1;
+      leaves = closed_leaves over.1;
       stays = λ is_closed. refl;
       bounded = try_recv_few run;
       given = search rules;
       had = search rules;
       keeps = c.load.ensures.keeps;
     }
+
+pub unreachable-requires : goal.unreachable-requires
+unreachable-requires g c =
+    loaded_none (loaded c.load.result c.requires c.load.ensures.finds c.load.ensures.log) (search rules) (search rules)
+    (search rules)

@@ -4,7 +4,7 @@ use Rattle.oneshot_machine.specs.declared.machine.Step.TheVariants.{Free}
 use Rattle.oneshot_machine.specs.Phases.{dropping}
 use Rattle.oneshot_drive.proofs.EndsOver.{flipped_over, flipped_owes, late_over, last_is_over, sender_stays_over, woken_by}
 use Rattle.oneshot_drive.proofs.AfterOperations.{sender_asks}
-use Rattle.oneshot_drive.proofs.SenderCalls.{drop_owes, flipped, flipped_room}
+use Rattle.oneshot_drive.proofs.SenderCalls.{drop_owes, flipped, flipped_none, flipped_room}
 use Rattle.oneshot_drive.proofs.SenderRuns.{drop_ran, drop_woke, drop_freed_late, drop_freed}
 use Rattle.oneshot_drive.proofs.sender.drop_sender.Goals as goal
 
@@ -66,25 +66,25 @@ returns-else-not-finish g c =
       bounded = drop_few ran.ran;
     }
 
-pub free-requires-in_default-clause-message : goal.free-requires-in_default-clause-message
-free-requires-in_default-clause-message g c =
-    is_room (flipped c.flip.result c.requires (search rules) (search rules) c.flip.ensures.finds
+pub free-requires-in-2-clause-message : goal.free-requires-in-2-clause-message
+free-requires-in-2-clause-message g c =
+    is_room (flipped c.flip.result c.requires c.in-2.is c.flip.ensures.finds
     c.flip.ensures.log).stands.message
 
-pub free-requires-in_default-clause-waker : goal.free-requires-in_default-clause-waker
-free-requires-in_default-clause-waker g c =
-    is_room (flipped c.flip.result c.requires (search rules) (search rules) c.flip.ensures.finds
+pub free-requires-in-2-clause-waker : goal.free-requires-in-2-clause-waker
+free-requires-in-2-clause-waker g c =
+    is_room (flipped c.flip.result c.requires c.in-2.is c.flip.ensures.finds
     c.flip.ensures.log).stands.waker
 
-pub returns-in_default : goal.returns-in_default
-returns-in_default g c =
+pub returns-in-2 : goal.returns-in-2
+returns-in-2 g c =
     let gone =
-    flipped c.flip.result c.requires (search rules) (search rules) c.flip.ensures.finds c.flip.ensures.log in
+    flipped c.flip.result c.requires c.in-2.is c.flip.ensures.finds c.flip.ensures.log in
     let ran =
-    drop_freed (g.G.SenderGround.woken c.free-in_default.new.self) c.flip.result gone.word c.flip.ensures.log
-    c.free-in_default.ensures.log in
+    drop_freed (g.G.SenderGround.woken c.free-in-2.new.self) c.flip.result gone.word c.flip.ensures.log
+    c.free-in-2.ensures.log in
     let over =
-    sender_stays_over (did Free ∷ []) refl c.free-in_default.ensures.log (late_over gone.stands) in
+    sender_stays_over (did Free ∷ []) refl c.free-in-2.ensures.log (late_over gone.stands) in
     record {
       run = ran.ran;
       woke = ran;
@@ -92,3 +92,8 @@ returns-in_default g c =
       ended = g.G.SenderGround.ended_by dropping _ over (woken_by c.requires.phase ran);
       bounded = drop_few ran.ran;
     }
+
+pub unreachable-requires : goal.unreachable-requires
+unreachable-requires g c =
+    flipped_none c.flip.result c.requires (search rules) (search rules) (search rules) c.flip.ensures.finds
+    c.flip.ensures.log

@@ -2,7 +2,7 @@
 use Rattle.oneshot_drive.proofs.Names.{[], ◌∷◌, rules, refl, Send, Add, sender_of, sending, fresh, none, filled, Reply, StandsWith, SenderWoke, message_kept, send_few}
 use Rattle.oneshot_drive.specs.BetweenCalls.{SenderIsOver, over_finished}
 use Rattle.oneshot_drive.proofs.AfterOperations.{sender_asks}
-use Rattle.oneshot_drive.proofs.SenderCalls.{left, written, send_owes, added_here, added_waiting, added, refused, overtaken_error, is_too_late}
+use Rattle.oneshot_drive.proofs.SenderCalls.{left, written, send_owes, added_here, added_waiting, added, added_none, refused, overtaken_error, is_too_late}
 use Rattle.oneshot_drive.proofs.SenderRuns.{send_ran, send_refused, send_woke}
 use Rattle.oneshot_drive.proofs.EndsOver.{over_at, last_is_over, last_found, late_over, woken_by}
 use Rattle.oneshot_drive.proofs.sender.send.Given as given
@@ -78,11 +78,11 @@ returns-in-0 g c =
       keeps = g.G.SenderGround.keeps_on _ _ _ (keeps_both g c'.After-add) c.finish.ensures.keeps;
     }
 
-pub returns-in_default : goal.returns-in_default
-returns-in_default g c =
-    let c' = goal.at.returns-in_default g c in
+pub returns-in-2 : goal.returns-in-2
+returns-in-2 g c =
+    let c' = goal.at.returns-in-2 g c in
     let fresh = written_first g c'.After-write_message in
-    let gone = added c.add.result fresh (search rules) (search rules) c.add.ensures.finds c.add.ensures.log in
+    let gone = added c.add.result fresh c.in-2.is c.add.ensures.finds c.add.ensures.log in
     let did = send_refused (g.G.SenderGround.woken c.add.new.self) c.add.result gone.word c.write_message.ensures.log
     c.add.ensures.log in
     record {
@@ -98,3 +98,9 @@ returns-in_default g c =
       gave = search rules;
       keeps = keeps_both g c'.After-add;
     }
+
+pub unreachable-requires : goal.unreachable-requires
+unreachable-requires g c =
+    let fresh = written c.args.message c.requires.fresh c.write_message.ensures.log c.write_message.ensures.message
+    c.write_message.ensures.waker in
+    added_none c.add.result fresh (search rules) (search rules) (search rules) c.add.ensures.finds c.add.ensures.log

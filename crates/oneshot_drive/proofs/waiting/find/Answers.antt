@@ -1,6 +1,6 @@
 -- Proofs of the goals that `find` leaves.
 use Rattle.oneshot_drive.proofs.Names.{rules, refl, at_once, returned}
-use Rattle.oneshot_drive.proofs.RestLoads.{load_asks, loaded, loaded_full, loaded_open, loaded_none, never}
+use Rattle.oneshot_drive.proofs.RestLoads.{load_asks, loaded, loaded_full, loaded_open, loaded_closed, loaded_none, never}
 use Rattle.oneshot_drive.proofs.StoredWaker.{full_at_once, found_none, over_at_once, ready_waker}
 use Rattle.oneshot_drive.proofs.waiting.find.Goals as goal
 
@@ -38,19 +38,21 @@ pub returns-in-3-clause-keeps : goal.returns-in-3-clause-keeps
 returns-in-3-clause-keeps g c =
     g.G.ReceiverGround.keeps_on _ _ _ c.load.ensures.keeps c.store_and_wait.ensures.keeps
 
-pub returns-in_default : goal.returns-in_default
-returns-in_default g c =
-    let over =
-    loaded_none (loaded c.load.result c.requires.rests c.load.ensures.finds c.load.ensures.log) (search rules)
-    (search rules) in
+pub returns-in-2 : goal.returns-in-2
+returns-in-2 g c =
     record {
-      path = λ way. over_at_once way c.load.result over.0 c.load.ensures.log;
-      ends = (over.1, over.2);
+      path = λ way. over_at_once way c.load.result c.in-2.is c.load.ensures.log;
+      ends = loaded_closed (loaded c.load.result c.requires.rests c.load.ensures.finds c.load.ensures.log) c.in-2.is;
       stays = λ is_closed. refl;
       hand = returned c.args.hand.now;
       has = g.G.ReceiverGround.has_on _ _ _ c.load.ensures.keeps c.requires.has;
       keeps = c.load.ensures.keeps;
     }
+
+pub unreachable-requires : goal.unreachable-requires
+unreachable-requires g c =
+    loaded_none (loaded c.load.result c.requires.rests c.load.ensures.finds c.load.ensures.log) (search rules)
+    (search rules) (search rules)
 
 pub store_and_wait-requires-clause-has : goal.store_and_wait-requires-clause-has
 store_and_wait-requires-clause-has g c = g.G.ReceiverGround.has_on _ _ _ c.load.ensures.keeps c.requires.has

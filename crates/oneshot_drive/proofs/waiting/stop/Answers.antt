@@ -1,7 +1,7 @@
 -- Proofs of the goals that `stop` leaves.
 use Rattle.oneshot_drive.proofs.Names.{rules, refl, sym, subst, Swap, is_in}
 use Rattle.oneshot_drive.proofs.AfterOperations.{asks}
-use Rattle.oneshot_drive.proofs.Waits.{stopped, stopped_open, stopped_full, stopped_over, stopped_late, withdrew_nothing, stops_to, nothing_path, late_path}
+use Rattle.oneshot_drive.proofs.Waits.{stopped, stopped_open, stopped_full, stopped_over, stopped_late, stopped_none, withdrew_nothing, stops_to, nothing_path, late_path}
 use Rattle.oneshot_drive.proofs.waiting.stop.Goals as goal
 
 pub swap-requires : goal.swap-requires
@@ -40,22 +40,18 @@ returns-in-2-clause-ends g c =
 
 pub wait_late-requires-clause-late : goal.wait_late-requires-clause-late
 wait_late-requires-clause-late g c =
-    (stopped_late (stopped c.swap.result c.requires.waits c.swap.ensures.finds c.swap.ensures.log) (search rules)
-    (search rules) (search rules)).stands
+    stopped_late (stopped c.swap.result c.requires.waits c.swap.ensures.finds c.swap.ensures.log) c.in-1.is
 
-pub returns-in_default-clause-path : goal.returns-in_default-clause-path
-returns-in_default-clause-path g c =
-    let late =
-    stopped_late (stopped c.swap.result c.requires.waits c.swap.ensures.finds c.swap.ensures.log) (search rules)
-    (search rules) (search rules) in
-    late_path c.wait_late.result c.swap.result late.word c.swap.ensures.log c.wait_late.ensures.path
+pub returns-in-1-clause-path : goal.returns-in-1-clause-path
+returns-in-1-clause-path g c =
+    late_path c.wait_late.result c.swap.result c.in-1.is c.swap.ensures.log c.wait_late.ensures.path
 
 pub returns-in-0-clause-keeps : goal.returns-in-0-clause-keeps
 returns-in-0-clause-keeps g c =
     g.G.ReceiverGround.keeps_on _ _ _ c.swap.ensures.keeps c.withdraw.ensures.keeps
 
-pub returns-in_default-clause-keeps : goal.returns-in_default-clause-keeps
-returns-in_default-clause-keeps g c =
+pub returns-in-1-clause-keeps : goal.returns-in-1-clause-keeps
+returns-in-1-clause-keeps g c =
     g.G.ReceiverGround.keeps_on _ _ _ c.swap.ensures.keeps c.wait_late.ensures.keeps
 
 pub wait_late-requires-clause-has : goal.wait_late-requires-clause-has
@@ -75,8 +71,13 @@ returns-in-2-clause-has g c =
     subst (λ hand. g.G.ReceiverGround.has c.swap.new.self hand) (sym c.requires.empty)
     (g.G.ReceiverGround.has_on _ _ _ c.swap.ensures.keeps c.requires.has)
 
-pub returns-in_default-clause-has : goal.returns-in_default-clause-has
-returns-in_default-clause-has g c =
+pub returns-in-1-clause-has : goal.returns-in-1-clause-has
+returns-in-1-clause-has g c =
     let on = g.G.ReceiverGround.keeps_on in
     subst (λ hand. g.G.ReceiverGround.has c.wait_late.new.g hand) (sym c.requires.empty)
     (g.G.ReceiverGround.has_on _ _ _ (on _ _ _ c.swap.ensures.keeps c.wait_late.ensures.keeps) c.requires.has)
+
+pub unreachable-requires : goal.unreachable-requires
+unreachable-requires g c =
+    stopped_none (stopped c.swap.result c.requires.waits c.swap.ensures.finds c.swap.ensures.log) (search rules)
+    (search rules) (search rules) (search rules)

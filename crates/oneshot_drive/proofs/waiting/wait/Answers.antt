@@ -1,7 +1,7 @@
 -- Proofs of the goals that `wait` leaves.
 use Rattle.oneshot_drive.proofs.Names.{◌≡◌, ℕ, refl, sym, ◌∙◌, subst, rules, Found, Path, ReceiveBy, wait_of, end_of, EndsAt}
 use Rattle.oneshot_drive.proofs.Stretches.{begun}
-use Rattle.oneshot_drive.proofs.Waits.{may_park, parked_asks, woke, Decides, by_message, by_end, woke_at, woke_again, parks_again, parks_decided, stops_path}
+use Rattle.oneshot_drive.proofs.Waits.{may_park, parked_asks, woke, Decides, by_message, by_end, woke_at, woke_again, woke_none, parks_again, parks_decided, stops_path}
 use Rattle.oneshot_drive.proofs.waiting.wait.Given as given
 use Rattle.oneshot_drive.proofs.waiting.wait.Goals as goal
 use Rattle.oneshot_drive.proofs.waiting.wait.Goals.{After-load}
@@ -97,3 +97,9 @@ pub park-requires-clause-has : goal.park-requires-clause-has
 park-requires-clause-has g c =
     let on = g.G.ReceiverGround.keeps_on in
     g.G.ReceiverGround.has_on _ _ _ (on _ _ _ c.loop.invariant.keeps c.is_over.ensures.keeps) c.requires.has
+
+pub unreachable-requires : goal.unreachable-requires
+unreachable-requires g c =
+    woke_none (woke c.park.ensures.log.0 c.is_over.ensures.waits c.park.ensures.log.1 c.park.ensures.message
+    c.park.ensures.waker c.load.result c.load.ensures.finds c.load.ensures.log) (search rules) (search rules)
+    (search rules) (search rules)

@@ -1,7 +1,7 @@
 -- Proofs of the goals that `wait_late` leaves.
 use Rattle.oneshot_drive.proofs.Names.{◌≡◌, ℕ, true, refl, rules, Found, Timed, LatePark, Path, ref_end, EndsAt}
 use Rattle.oneshot_drive.proofs.Stretches.{begun}
-use Rattle.oneshot_drive.proofs.Waits.{may_park_late, parked_asks, woke, Decides, by_message, by_end, ended_at, ended_again, late_decided, late_to}
+use Rattle.oneshot_drive.proofs.Waits.{may_park_late, parked_asks, woke, Decides, by_message, by_end, ended_at, ended_again, ended_none, late_decided, late_to}
 use Rattle.oneshot_drive.proofs.waiting.wait_late.Given as given
 use Rattle.oneshot_drive.proofs.waiting.wait_late.Goals as goal
 use Rattle.oneshot_drive.proofs.waiting.wait_late.Goals.{After-load}
@@ -53,15 +53,21 @@ loop-preserved g c =
     let on = g.G.ReceiverGround.keeps_on in
     let again =
     ended_again (woke c.park.ensures.log.0 c.loop.invariant.overdue c.park.ensures.log.1 c.park.ensures.message
-    c.park.ensures.waker c.load.result c.load.ensures.finds c.load.ensures.log) (search rules) (search rules) in
+    c.park.ensures.waker c.load.result c.load.ensures.finds c.load.ensures.log) c.in-3.is in
     record {
       can_next = tt;
       is_finite = tt;
-      path = late_to _ c.load.result 3 refl again.word c.loop.invariant.path c.park.ensures.log.0 c.park.ensures.log.1
+      path = late_to _ c.load.result 3 refl c.in-3.is c.loop.invariant.path c.park.ensures.log.0 c.park.ensures.log.1
           c.load.ensures.log;
-      overdue = again.stands;
+      overdue = again;
       keeps = on _ _ _ c.loop.invariant.keeps (on _ _ _ c.park.ensures.keeps c.load.ensures.keeps);
     }
 
 pub park-requires-clause-has : goal.park-requires-clause-has
 park-requires-clause-has g c = g.G.ReceiverGround.has_on _ _ _ c.loop.invariant.keeps c.requires.has
+
+pub unreachable-requires : goal.unreachable-requires
+unreachable-requires g c =
+    ended_none (woke c.park.ensures.log.0 c.loop.invariant.overdue c.park.ensures.log.1 c.park.ensures.message
+    c.park.ensures.waker c.load.result c.load.ensures.finds c.load.ensures.log) (search rules) (search rules)
+    (search rules)
