@@ -12,15 +12,3 @@ pub(crate) fn assert_same<T: PartialEq + Debug + Drop>(rt: &impl Abort, found: T
 pub(crate) fn assert_that(rt: &impl Abort, is_so: bool) {
     assert!(rt; is_so);
 }
-
-#[test]
-#[should_panic(expected = "right: 2")]
-fn a_difference_ends_a_test(rt: HostRuntime) {
-    assert_same(&rt, 1, 2);
-}
-
-#[test]
-#[should_panic(expected = "is_so")]
-fn what_is_not_so_ends_a_test(rt: HostRuntime) {
-    assert_that(&rt, false);
-}

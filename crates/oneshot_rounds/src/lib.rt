@@ -22,8 +22,6 @@ mod notes;
 #[cfg(test)]
 mod races;
 #[cfg(test)]
-mod replies;
-#[cfg(test)]
 mod sizes;
 #[cfg(test)]
 mod two_channels;

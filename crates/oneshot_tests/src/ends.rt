@@ -4,7 +4,7 @@ mod asleep;
 mod beside;
 pub(super) mod clocks;
 mod deadlines;
-pub(super) mod leaks;
+mod leaks;
 mod lives;
 mod nested;
 mod overdue;

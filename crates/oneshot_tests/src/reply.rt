@@ -1,6 +1,5 @@
 //! Requests, tickets and replies, each of which answers its ticket's own question.
 
-mod leaks;
 mod sizes;
 mod threads;
 mod waits;

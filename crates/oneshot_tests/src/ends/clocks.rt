@@ -57,7 +57,7 @@ fn by_clock<'w, 'a, R>(
 }
 
 // The instant five nanoseconds after a clock's start.
-pub(super) fn five(rt: &impl Wait) -> io::Result<Instant> {
+fn five(rt: &impl Wait) -> io::Result<Instant> {
     Instant::now(&Written::new(rt, &[5]))
 }
 
@@ -191,20 +191,20 @@ fn a_receive_spins_few_times_before_it_sleeps(rt: HostRuntime) -> Result<(), Fai
 
 /// What the sender does.
 #[derive(Drop)]
-pub(super) enum Act {
+enum Act {
     Send(Sender<u8>, u8),
     Go(Sender<u8>),
 }
 
 /// A runtime whose clock always reads an hour. At its next reading the sender acts.
 #[derive(Drop)]
-pub(super) struct Meanwhile<'a, R> {
+struct Meanwhile<'a, R> {
     rt: &'a R,
     act: Cell<Option<Act>>,
 }
 
 impl<'a, R> Meanwhile<'a, R> {
-    pub(super) fn new(rt: &'a R) -> Meanwhile<'a, R> {
+    fn new(rt: &'a R) -> Meanwhile<'a, R> {
         Meanwhile {
             rt,
             act: Cell::new(None),
@@ -212,7 +212,7 @@ impl<'a, R> Meanwhile<'a, R> {
     }
 
     // Sets what the sender does at the next reading.
-    pub(super) fn will(&self, act: Act) {
+    fn will(&self, act: Act) {
         self.act.set(Some(act));
     }
 }

@@ -1,9 +1,8 @@
-//! However a channel ends, all the memory that it took is freed.
+//! However a channel ends on one thread, all the memory that it took is freed. `scripts/schedules` looks for what two
+//! threads leave, also of requests and under a promise.
 
-use super::clocks::{Act, Meanwhile, five};
 use super::lives::{DROPPED, Life, OVER, RAW, READY, RECEIVED, TRIED, UNRECEIVED, live};
 use crate::pages::{grown_pages, resident_pages};
-use oneshot_channel::channel;
 use std::io;
 use std::process::Abort;
 use std::random::RandomSource;
@@ -55,20 +54,6 @@ fn compares_memory(rt: &(impl Files + Print + AllocGlobal)) -> Result<bool, Fail
     Ok(compares)
 }
 
-/// Fails if each round leaks some memory.
-pub(crate) fn assert_no_leak<F: FnMut() -> io::Result<()>>(
-    rt: &(impl Files + Print + AllocGlobal + Abort),
-    round: F,
-) -> Result<(), Fail>
-    requires { F.IsAlwaysCallable round }
-{
-    if compares_memory(rt)? {
-        let grown = growth(rt, ROUNDS, round)?;
-        assert!(rt; grown <= MOST_PAGES, "{grown} pages");
-    }
-    Ok(())
-}
-
 /// Fails if a channel leaks some memory each time that it lives one of these lives.
 fn assert_none_leaks(
     rt: &(impl Files + Print + Wait + Clock + AllocGlobal + RandomSource + Abort),
@@ -96,31 +81,6 @@ fn a_receiver_without_its_message_leaves_nothing(rt: HostRuntime) -> Result<(), 
 #[test]
 fn a_receiver_whose_time_was_over_leaves_nothing(rt: HostRuntime) -> Result<(), Fail> {
     assert_none_leaks(&rt, OVER)
-}
-
-// The sender sends while the receiver waits, so it takes the waker and uses it.
-#[test]
-fn a_receiver_that_a_send_woke_leaves_nothing(rt: HostRuntime) -> Result<(), Fail> {
-    let clock = Meanwhile::new(&rt);
-    let deadline = five(&rt)?;
-    assert_no_leak(&rt, || {
-        let (sender, mut receiver) = channel(&clock, rt.alloc())?;
-        clock.will(Act::Send(sender, 19));
-        let _ = receiver.recv_deadline(deadline);
-        Ok(())
-    })
-}
-
-#[test]
-fn a_receiver_that_a_drop_woke_leaves_nothing(rt: HostRuntime) -> Result<(), Fail> {
-    let clock = Meanwhile::new(&rt);
-    let deadline = five(&rt)?;
-    assert_no_leak(&rt, || {
-        let (sender, mut receiver) = channel(&clock, rt.alloc())?;
-        clock.will(Act::Go(sender));
-        let _ = receiver.recv_deadline(deadline);
-        Ok(())
-    })
 }
 
 #[test]

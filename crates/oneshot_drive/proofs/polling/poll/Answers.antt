@@ -56,7 +56,8 @@ returns-in-Nothing g c =
 
 pub returns-in-Closed : goal.returns-in-Closed
 returns-in-Closed g c =
-    let over = gone (g.G.ReceiverGround.state c.meet.new.g) c.meet.result c.meet.ensures.ends (search rules) (search rules) in
+    let over = gone (g.G.ReceiverGround.state c.meet.new.g) c.meet.result c.meet.ensures.ends (search rules)
+    (search rules) in
     let run = whole (rw over.0 at c.meet.ensures.path) in
     record {
       run = run;

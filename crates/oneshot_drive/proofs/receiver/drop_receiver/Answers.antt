@@ -53,4 +53,5 @@ returns-in-2-clause-left g c =
 
 pub unreachable-requires : goal.unreachable-requires
 unreachable-requires g c =
-    swapped_none c.swap.ensures.finds (search rules) (search rules) (search rules) (past_1 c.requires c.swap.ensures.finds)
+    swapped_none c.swap.ensures.finds (search rules) (search rules) (search rules)
+    (past_1 c.requires c.swap.ensures.finds)
