@@ -23,7 +23,7 @@ OPERATIONS = {
     "ReceiverSide::store": "table.shared.swap seat",
     "ReceiverSide::swap": "table.shared.swap seat",
     "ReceiverSide::exchange": "table.shared.compare_exchange seat",
-    "ReceiverSide::slots": "seat",
+    "ReceiverSide::owns_its_slots": "seat",
     "ReceiverSide::trade_message": "table.shared.exchange seat",
     "ReceiverSide::trade_waker": "seat.turn table.shared.exchange seat seat.turn",
     "Drop for ReceiverSide::drop": "table seat",

@@ -11,7 +11,7 @@ ghost use Rattle.oneshot_drive.specs.Blocking.{Parks};
 ghost use Rattle.oneshot_drive.specs.Grounds.{GroundState, SenderAsks, SenderMakes, ReceiverAsks, ReceiverMakes};
 ghost use Rattle.oneshot_drive.specs.Wakes.{finds_waiting};
 
-/// The steps of the sender, and of the error of its refused `send`, for messages `T` and wakers `W`.
+/// The steps of the sender in its one call, for messages `T` and wakers `W`.
 pub trait SenderGround<T, W> {
     // The ground's log, and both slots as the end sees them.
     ghost state: { Self → GroundState T W };
@@ -75,23 +75,6 @@ pub trait SenderGround<T, W> {
         ensures waker { (state self.new).waker ≡ (state self.old).waker }
         ensures keeps { keeps self.old self.new };
 
-    /// Takes the message out of its slot, and returns it.
-    fn take_message(&mut self) -> T
-        requires { (x : T) × ((state self.old).message ≡ held x) }
-        ensures log { Grows (state self.old).log (state self.new).log (took result ∷ []) }
-        ensures was { (state self.old).message ≡ held result }
-        ensures message { (state self.new).message ≡ vacant }
-        ensures waker { (state self.new).waker ≡ (state self.old).waker }
-        ensures keeps { keeps self.old self.new };
-
-    /// Drops the message in its slot.
-    fn drop_message(&mut self)
-        requires { (x : T) × ((state self.old).message ≡ held x) }
-        ensures log { Grows (state self.old).log (state self.new).log (did DropMessage ∷ []) }
-        ensures message { (state self.new).message ≡ vacant }
-        ensures waker { (state self.new).waker ≡ (state self.old).waker }
-        ensures keeps { keeps self.old self.new };
-
     /// Takes the waiting receiver's waker out of its slot, and returns it.
     fn take_waker(&mut self) -> W
         requires { (k : W) × ((state self.old).waker ≡ held k) }
@@ -121,6 +104,35 @@ pub trait SenderGround<T, W> {
         ensures waker { (state self.new).waker ≡ away }
         ensures woken { (waker : W) → woken self.old waker → woken self.new waker }
         ensures keeps { keeps self.old self.new };
+}
+
+/// The steps of the error of a refused `send`, for messages `T` and wakers `W`.
+pub trait ErrorGround<T, W> {
+    // The ground's log, and both slots as the end sees them.
+    ghost state: { Self → GroundState T W };
+
+    /// Takes the message out of its slot, and returns it.
+    fn take_message(&mut self) -> T
+        requires { (x : T) × ((state self.old).message ≡ held x) }
+        ensures log { Grows (state self.old).log (state self.new).log (took result ∷ []) }
+        ensures was { (state self.old).message ≡ held result }
+        ensures message { (state self.new).message ≡ vacant }
+        ensures waker { (state self.new).waker ≡ (state self.old).waker };
+
+    /// Drops the message in its slot.
+    fn drop_message(&mut self)
+        requires { (x : T) × ((state self.old).message ≡ held x) }
+        ensures log { Grows (state self.old).log (state self.new).log (did DropMessage ∷ []) }
+        ensures message { (state self.new).message ≡ vacant }
+        ensures waker { (state self.new).waker ≡ (state self.old).waker };
+
+    /// Frees the block. Before, both slots are the end's and empty; after, neither is the end's.
+    fn free(&mut self)
+        requires message { (state self.old).message ≡ vacant }
+        requires waker { (state self.old).waker ≡ vacant }
+        ensures log { Grows (state self.old).log (state self.new).log (did Free ∷ []) }
+        ensures message { (state self.new).message ≡ away }
+        ensures waker { (state self.new).waker ≡ away };
 }
 
 /// The steps of the receiver in any call, for messages `T` and wakers `W`.

@@ -11,7 +11,7 @@ ghost use Rattle.oneshot_machine.specs.Slots.{away, held};
 ghost use Rattle.oneshot_drive.specs.Wakes.{SenderWoke};
 ghost use Rattle.oneshot_drive.specs.BetweenCalls.{IsFresh, IsError, IsLate, SenderIsOver, Owes, LastLeaves, Finishes, IsOvertaken, send_reply};
 
-use crate::ground::SenderGround;
+use crate::ground::{ErrorGround, SenderGround};
 use oneshot_machine::states::{DISCONNECTED, EMPTY, MESSAGE, RECEIVING};
 
 /// Sends `message`, and wakes a waiting receiver. `g` has performed no operation yet. It never blocks.
@@ -86,7 +86,7 @@ fn finish<T, W, G: SenderGround<T, W>>(g: &mut G, last: u8) -> bool
 }
 
 /// Returns the message of a refused `send`, and frees the block. It never blocks and cannot fail.
-pub fn into_inner<T, W, G: SenderGround<T, W>>(g: &mut G) -> T
+pub fn into_inner<T, W, G: ErrorGround<T, W>>(g: &mut G) -> T
     requires { (x : T) × IsError (held x) (G.state g.old) }
     ensures run { SenderRan IntoInner (G.state g.old).log (G.state g.new).log Message [] (result ∷ []) }
     ensures message { (G.state g.old).message ≡ held result }
@@ -98,7 +98,7 @@ pub fn into_inner<T, W, G: SenderGround<T, W>>(g: &mut G) -> T
 }
 
 /// Drops the message of a refused `send`, and frees the block. It never blocks and cannot fail.
-pub fn drop_error<T, W, G: SenderGround<T, W>>(g: &mut G)
+pub fn drop_error<T, W, G: ErrorGround<T, W>>(g: &mut G)
     requires { (x : T) × IsError (held x) (G.state g.old) }
     ensures run { SenderRan DropError (G.state g.old).log (G.state g.new).log Done [] [] }
     ensures freed { (G.state g.new).message ≡ away }

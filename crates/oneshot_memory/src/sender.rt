@@ -1,7 +1,9 @@
 //! A sender's ground in memory.
 
 ghost use Rattle.std.specs.Prelude.{◌≡◌, ⊤, map, if◌then◌else◌, [], ◌∷◌};
-ghost use Rattle.oneshot_machine.specs.Logs.{Grows, worded};
+ghost use Rattle.oneshot_machine.specs.declared.machine.Step.TheVariants.{Free};
+ghost use Rattle.oneshot_machine.specs.Logs.{Grows, did, worded};
+ghost use Rattle.oneshot_machine.specs.Slots.{away, vacant};
 ghost use Rattle.oneshot_drive.specs.BetweenCalls.{IsFresh};
 ghost use Rattle.oneshot_drive.specs.Grounds.{SenderAsks, SenderMakes};
 ghost use Rattle.oneshot_memory.specs.declared.sender.Meanwhile.TheVariants.{Waits, Stops, Leaves};
@@ -9,7 +11,7 @@ ghost use Rattle.oneshot_memory.specs.Events.{logged_event};
 ghost use Rattle.oneshot_memory.specs.Sender.{keeps_both, word_then};
 
 use crate::{Event, record, sight};
-use oneshot_drive::SenderGround;
+use oneshot_drive::{ErrorGround, SenderGround};
 use oneshot_machine::machine::{Seen, Step};
 use oneshot_machine::states::{DISCONNECTED, EMPTY, Op, RECEIVING, UNPARKING};
 use std::alloc::Global;
@@ -134,6 +136,20 @@ impl<'a, T, W, R: Wait> MemorySender<'a, T, W, R> {
         record(self.rt, &mut self.events, event);
         before
     }
+
+    // Frees the block.
+    fn note_free(&mut self)
+        requires message { self.old.state.message ≡ vacant }
+        requires waker { self.old.state.waker ≡ vacant }
+        ensures log { Grows self.old.state.log self.new.state.log (did Free ∷ []) }
+        ensures message { self.new.state.message ≡ away }
+        ensures waker { self.new.state.waker ≡ away }
+    {
+        self.owns_message = false;
+        self.owns_waker = false;
+        let event = Event::of(Step::Free, Seen::Done);
+        record(self.rt, &mut self.events, event);
+    }
 }
 
 impl<'a, T: Drop, W: Drop, R: Wait> SenderGround<T, W> for MemorySender<'a, T, W, R> {
@@ -181,6 +197,29 @@ impl<'a, T: Drop, W: Drop, R: Wait> SenderGround<T, W> for MemorySender<'a, T, W
         record(self.rt, &mut self.events, event);
     }
 
+    fn take_waker(&mut self) -> W {
+        let Some(waker) = self.waker.take() else {
+            unreachable!()
+        };
+        self.word = outlasted(self.word, self.meanwhile);
+        let event = Event::handing(Step::TakeWaker, &waker);
+        record(self.rt, &mut self.events, event);
+        waker
+    }
+
+    fn wake(&mut self, waker: W) {
+        let event = Event::handing(Step::Wake, &waker);
+        record(self.rt, &mut self.events, event);
+    }
+
+    fn free(&mut self) {
+        self.note_free();
+    }
+}
+
+impl<'a, T: Drop, W: Drop, R: Wait> ErrorGround<T, W> for MemorySender<'a, T, W, R> {
+    ghost state = { λ s. s.state };
+
     fn take_message(&mut self) -> T {
         let Some(message) = self.message.take() else {
             unreachable!()
@@ -201,26 +240,8 @@ impl<'a, T: Drop, W: Drop, R: Wait> SenderGround<T, W> for MemorySender<'a, T, W
         record(self.rt, &mut self.events, event);
     }
 
-    fn take_waker(&mut self) -> W {
-        let Some(waker) = self.waker.take() else {
-            unreachable!()
-        };
-        self.word = outlasted(self.word, self.meanwhile);
-        let event = Event::handing(Step::TakeWaker, &waker);
-        record(self.rt, &mut self.events, event);
-        waker
-    }
-
-    fn wake(&mut self, waker: W) {
-        let event = Event::handing(Step::Wake, &waker);
-        record(self.rt, &mut self.events, event);
-    }
-
     fn free(&mut self) {
-        self.owns_message = false;
-        self.owns_waker = false;
-        let event = Event::of(Step::Free, Seen::Done);
-        record(self.rt, &mut self.events, event);
+        self.note_free();
     }
 }
 

@@ -105,7 +105,7 @@ fn look(rt: &impl Abort, receiver: &mut ReceiverSide<u8, u8, u8>)
     ensures at { receiver_at receiver.new.log ≡ here looked }
     ensures waker { receiver.new.waker ≡ vacant }
 {
-    receiver.slots();
+    receiver.owns_its_slots();
     let found = receiver.load();
     assert!(rt; found == 3);
 }
@@ -117,7 +117,7 @@ fn store_waker(rt: &impl Abort, receiver: &mut ReceiverSide<u8, u8, u8>, waker: 
     ensures loads { ReceiverCan receiver.new Load }
     ensures stops { ReceiverCan receiver.new (Swap 3) }
 {
-    receiver.slots();
+    receiver.owns_its_slots();
     receiver.write_waker(waker);
     let found = receiver.swap(0);
     assert!(rt; found == 3);

@@ -79,7 +79,7 @@ impl<T, H, K, P: Promise<T>> ReceiverSide<T, H, K, P> {
     }
 
     /// Does nothing. Its contract states which slots the receiver owns after its log.
-    pub fn slots(&self)
+    pub fn owns_its_slots(&self)
         ensures { ReceiverOwns (receiver_at self.now.log) self.now.message self.now.waker }
     {
         let _seat = &self.seat;

@@ -1,6 +1,6 @@
 //! The ground of an error, which acts on the refused message and no longer on the shared word.
 
-ghost use Rattle.std.specs.Prelude.{◌≡◌, false, true, ⊤};
+ghost use Rattle.std.specs.Prelude.{◌≡◌, false, true};
 ghost use Rattle.oneshot_machine.specs.Slots.{away, held};
 ghost use Rattle.oneshot_machine.specs.Phases.{sender_at};
 ghost use Rattle.oneshot_drive.specs.BetweenCalls.{IsError, IsLate};
@@ -9,9 +9,8 @@ ghost use Rattle.oneshot_ends.specs.Grounds.{state_of};
 
 use crate::freed::Freed;
 use crate::token::WakingHalf;
-use crate::waker::wake;
 use futures::task::Waker;
-use oneshot_drive::SenderGround;
+use oneshot_drive::ErrorGround;
 use oneshot_word::laws::a_sender_is_in_an_order;
 use oneshot_word::{AnyWaker, Promise, SenderSide};
 use std::marker::Model;
@@ -112,58 +111,13 @@ impl<T, H, K, P: Promise<T>> RefusedSender<T, H, K, P> {
             freed,
         }
     }
-
-    /// States that its `send` came too late, for a body that does not read the ground.
-    fn known(&self)
-        ensures { IsLate (sender_at self.now.log) }
-    {
-        let _side = &self.side;
-    }
 }
 
-impl<T: Drop, P: Promise<T>> SenderGround<T, AnyWaker<WakingHalf, Waker>>
+impl<T: Drop, P: Promise<T>> ErrorGround<T, AnyWaker<WakingHalf, Waker>>
     for RefusedSender<T, WakingHalf, Waker, P> {
     ghost use Rattle.oneshot_ends.specs.Grounds.{state_of};
 
     ghost state = { state_of };
-
-    ghost keeps = { λ _ _. ⊤ };
-
-    ghost keeps_on = { λ _ _ _ _ _. tt };
-
-    ghost admits = { λ _ _. ⊤ };
-
-    ghost owed = { λ _ _. ⊤ };
-
-    // It wakes nobody.
-    ghost woken = { λ _ _. ⊤ };
-
-    // It gives nothing.
-    ghost gave = { λ _ _. ⊤ };
-
-    ghost ended = { λ _ _. ⊤ };
-
-    ghost ended_by = { λ _ _ _ _. tt };
-
-    // No operation on the word follows a refused `send`.
-    fn add(&mut self) -> u8 {
-        self.known();
-        unreachable!()
-    }
-
-    fn flip(&mut self) -> u8 {
-        self.known();
-        unreachable!()
-    }
-
-    fn swap(&mut self, _: u8) -> u8 {
-        self.known();
-        unreachable!()
-    }
-
-    fn write_message(&mut self, message: T) {
-        self.message = Some(message);
-    }
 
     fn take_message(&mut self) -> T {
         self.message.take().unwrap()
@@ -171,18 +125,6 @@ impl<T: Drop, P: Promise<T>> SenderGround<T, AnyWaker<WakingHalf, Waker>>
 
     fn drop_message(&mut self) {
         self.message = None;
-    }
-
-    // No receiver waits for a sender that found it gone.
-    fn take_waker(&mut self) -> AnyWaker<WakingHalf, Waker> {
-        // Mentions the side, so that the prover knows its view, which has no waker.
-        let _side = &self.side;
-        unreachable!()
-    }
-
-    fn wake(&mut self, waker: AnyWaker<WakingHalf, Waker>) {
-        self.known();
-        wake(waker);
     }
 
     fn free(&mut self) {

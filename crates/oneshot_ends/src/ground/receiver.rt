@@ -151,7 +151,7 @@ impl<T: Drop, P: Promise<T>> ReceiverGround<T, AnyWaker<WakingHalf, Waker>>
     }
 
     fn free(&mut self) {
-        self.side.slots();
+        self.side.owns_its_slots();
         self.freed = Freed::of(true);
     }
 }

@@ -173,14 +173,6 @@ impl<T: Drop, P: Promise<T>> SenderGround<T, AnyWaker<WakingHalf, Waker>> for Sh
         self.side.write_message(message);
     }
 
-    fn take_message(&mut self) -> T {
-        self.side.take_message()
-    }
-
-    fn drop_message(&mut self) {
-        self.side.take_message();
-    }
-
     fn take_waker(&mut self) -> AnyWaker<WakingHalf, Waker> {
         self.side.take_waker()
     }

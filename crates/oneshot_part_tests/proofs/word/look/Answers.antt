@@ -22,13 +22,13 @@ module _ {T W : Type 0} where
 
 pub load-found-requires : goal.load-found-requires
 load-found-requires g c =
-    receiver_can Load (begins c.args.receiver.now c.requires c.slots.ensures) (may head is_away is_away)
+    receiver_can Load (begins c.args.receiver.now c.requires c.owns_its_slots.ensures) (may head is_away is_away)
 
 pub returns-clause-at : goal.returns-clause-at
 returns-clause-at g c =
-    receiver_went Load 3 (begins c.args.receiver.now c.requires c.slots.ensures) c.load-found.ensures (search rules)
+    receiver_went Load 3 (begins c.args.receiver.now c.requires c.owns_its_slots.ensures) c.load-found.ensures (search rules)
 
 pub returns-clause-waker : goal.returns-clause-waker
 returns-clause-waker g c =
-    found_none (receiver_told Load 3 (begins c.args.receiver.now c.requires c.slots.ensures) c.load-found.ensures
+    found_none (receiver_told Load 3 (begins c.args.receiver.now c.requires c.owns_its_slots.ensures) c.load-found.ensures
     (search rules))

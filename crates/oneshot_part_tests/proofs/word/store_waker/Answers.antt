@@ -36,22 +36,22 @@ module _ {T W : Type 0} where
 
 pub swap-found-requires : goal.swap-found-requires
 swap-found-requires g c =
-    let is = begins c.args.receiver.now c.requires.at c.requires.waker c.slots.ensures in
+    let is = begins c.args.receiver.now c.requires.at c.requires.waker c.owns_its_slots.ensures in
     receiver_can (Swap 0) (receiver_changed _ c.write_waker.new.self (held c.args.waker) is c.write_waker.ensures)
     (may (tail (tail (tail head))) is_away (is_held c.args.waker))
 
 pub returns-clause-at : goal.returns-clause-at
 returns-clause-at g c =
-    let is = begins c.args.receiver.now c.requires.at c.requires.waker c.slots.ensures in
+    let is = begins c.args.receiver.now c.requires.at c.requires.waker c.owns_its_slots.ensures in
     (stores is c.write_waker.ensures c.swap-found.ensures (search rules)).at
 
 pub returns-clause-loads : goal.returns-clause-loads
 returns-clause-loads g c =
-    let is = begins c.args.receiver.now c.requires.at c.requires.waker c.slots.ensures in
+    let is = begins c.args.receiver.now c.requires.at c.requires.waker c.owns_its_slots.ensures in
     receiver_can Load (stores is c.write_waker.ensures c.swap-found.ensures (search rules)) (may head is_away is_away)
 
 pub returns-clause-stops : goal.returns-clause-stops
 returns-clause-stops g c =
-    let is = begins c.args.receiver.now c.requires.at c.requires.waker c.slots.ensures in
+    let is = begins c.args.receiver.now c.requires.at c.requires.waker c.owns_its_slots.ensures in
     receiver_can (Swap 3) (stores is c.write_waker.ensures c.swap-found.ensures (search rules))
     (may (tail (tail (tail (tail head)))) is_away is_away)

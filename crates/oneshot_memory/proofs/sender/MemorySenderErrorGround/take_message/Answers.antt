@@ -1,7 +1,7 @@
--- Proofs of the goals that `take_message` of `MemorySender` as a `SenderGround` leaves.
+-- Proofs of the goals that `take_message` of `MemorySender` as an `ErrorGround` leaves.
 use Rattle.std.proofs.Common.{◌≡◌, None, rules, refl}
 use Rattle.oneshot_memory.proofs.SenderMatches.{sender_stays, sender_messages}
-use Rattle.oneshot_memory.proofs.sender.MemorySenderSenderGround.take_message.Goals as goal
+use Rattle.oneshot_memory.proofs.sender.MemorySenderErrorGround.take_message.Goals as goal
 
 pub invariant_of-self : goal.invariant_of-self
 invariant_of-self g c =

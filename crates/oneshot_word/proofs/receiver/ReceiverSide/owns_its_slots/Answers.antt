@@ -1,7 +1,7 @@
--- Proofs of the goals that `slots` of `ReceiverSide` leaves.
+-- Proofs of the goals that `owns_its_slots` of `ReceiverSide` leaves.
 use Rattle.oneshot_word.proofs.Names.{subst, receiver_at, ReceiverOwns}
 use Rattle.oneshot_word.proofs.RuleRead.{seat_owns}
-use Rattle.oneshot_word.proofs.receiver.ReceiverSide.slots.Goals as goal
+use Rattle.oneshot_word.proofs.receiver.ReceiverSide.owns_its_slots.Goals as goal
 
 pub returns : goal.returns
 returns g c =

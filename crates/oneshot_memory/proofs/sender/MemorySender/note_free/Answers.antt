@@ -1,7 +1,7 @@
--- Proofs of the goals that `free` of `MemorySender` as a `SenderGround` leaves.
+-- Proofs of the goals that `note_free` of `MemorySender` leaves.
 use Rattle.std.proofs.Common.{[], ◌∷◌, ◌++◌, refl, ap, ◌∙◌}
 use Rattle.oneshot_memory.proofs.SenderMatches.{sender_stays, sender_freed}
-use Rattle.oneshot_memory.proofs.sender.MemorySenderSenderGround.free.Goals as goal
+use Rattle.oneshot_memory.proofs.sender.MemorySender.note_free.Goals as goal
 
 pub invariant_of-self : goal.invariant_of-self
 invariant_of-self g c =
