@@ -1,5 +1,6 @@
 -- What is in a list that was made from another list.
-use Rattle.oneshot_bridge.proofs.Names.{◌≡◌, Bool, true, false, List, [], ◌∷◌, ◌++◌, Some, cond, refl, ap, subst, filter, flat_map, eqb-true, Seen, Done, Over, Refused, Token, In, head, tail, Outcome, Rows, row_for, is_same_seen}
+use Rattle.oneshot_bridge.proofs.Names.{◌≡◌, Bool, true, false, List, [], ◌∷◌, ◌++◌, Some, cond, refl, ap, subst, filter, flat_map, eqb-true, Seen, Done, Over, Refused, Token, In, head, tail, Outcome}
+use Rattle.oneshot_bridge.proofs.Names.{Rows, row_for, is_same_seen}
 use Rattle.std.specs.Prelude.{if◌then◌else◌}
 use Rattle.oneshot_machine.specs.declared.machine.Seen.TheVariants.{Word}
 

@@ -1,5 +1,8 @@
 -- The examples of calls: each log call by call, and why the counterexamples are no calls.
-use Rattle.oneshot_bridge.proofs.Names.{◌≡◌, true, false, List, [], ◌∷◌, ◌++◌, None, refl, ap, subst, Reply, Seen, Refused, Step, Try, Future, ReceiverStart, TryRecv, Recv, Poll, SenderCall, Send, SendAdd, Close, Take, Load, Store, Exchange, Add, Form, as_receiver, stays, ReceiverCalled, not_called, called, became_future, SenderCalled, not_called_yet, called_once, Event, did, worded, words, Noted, receiver_start, receiver_step, receiver_row, Run, last, more, not_empty, same_start, same_last, tried_twice, WorkedCalls, WrongCalls}
+use Rattle.oneshot_bridge.proofs.Names.{◌≡◌, true, false, List, [], ◌∷◌, ◌++◌, None, refl, ap, subst, Reply, Seen, Refused, Step, Try, Future, ReceiverStart, TryRecv, Recv, Poll, SenderCall, Send}
+use Rattle.oneshot_bridge.proofs.Names.{SendAdd, Close, Take, Load, Store, Exchange, Add, Form, as_receiver, stays, ReceiverCalled, not_called, called, became_future, SenderCalled, not_called_yet}
+use Rattle.oneshot_bridge.proofs.Names.{called_once, Event, did, worded, words, Noted, receiver_start, receiver_step, receiver_row, Run, last, more, not_empty, same_start, same_last, tried_twice}
+use Rattle.oneshot_bridge.proofs.Names.{WorkedCalls, WrongCalls}
 use Rattle.oneshot_machine.proofs.FirstSteps.{tries_in_vain}
 use Rattle.oneshot_machine.specs.declared.machine.Reply.TheVariants as R
 use Rattle.oneshot_machine.specs.declared.machine.Seen.TheVariants.{Word}

@@ -1,5 +1,7 @@
 -- A run of a call continues a walk that is at the call's first position, for either end.
-use Rattle.oneshot_bridge.proofs.Names.{◌≡◌, Bool, true, ◌&&◌, ◌||◌, List, [], ◌∷◌, ◌++◌, Option, Some, None, refl, sym, ap, ◌∙◌, subst, append_assoc, append-nil, and_parts, cons_option, list_all, option_map, Reply, Seen, Step, Op, Event, words, Noted, op_of, Run, last, more, Outcome, Goes, Answers, Rows, row_for, each_passes, Unanswered, left_by, Answered, answers_with, Stand, Walker, may_see, stands_after, Quiet, quiet, Operates, operates, Walk, quietly, by_one}
+use Rattle.oneshot_bridge.proofs.Names.{◌≡◌, Bool, true, ◌&&◌, ◌||◌, List, [], ◌∷◌, ◌++◌, Option, Some, None, refl, sym, ap, ◌∙◌, subst, append_assoc, append-nil, and_parts, cons_option, list_all}
+use Rattle.oneshot_bridge.proofs.Names.{option_map, Reply, Seen, Step, Op, Event, words, Noted, op_of, Run, last, more, Outcome, Goes, Answers, Rows, row_for, each_passes, Unanswered, left_by}
+use Rattle.oneshot_bridge.proofs.Names.{Answered, answers_with, Stand, Walker, may_see, stands_after, Quiet, quiet, Operates, operates, Walk, quietly, by_one}
 use Rattle.std.specs.Prelude.{is_some}
 use Rattle.oneshot_machine.specs.declared.machine.Step.TheVariants.{Word}
 use Rattle.oneshot_bridge.proofs.Among.{row_among}

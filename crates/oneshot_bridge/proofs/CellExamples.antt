@@ -1,5 +1,6 @@
 -- The examples of cells: each is computed.
-use Rattle.oneshot_bridge.proofs.Names.{◌≡◌, ℕ, true, false, List, [], ◌∷◌, ◌++◌, Some, None, refl, sym, ap, subst, ◌∙◌, World, turn, ReceiverScript, SenderScript, Entry, Delivered, Parker, worlds_by, WorkedCells, WrongCells, WrongUses, sends, receives, r, WakesNext}
+use Rattle.oneshot_bridge.proofs.Names.{◌≡◌, ℕ, true, false, List, [], ◌∷◌, ◌++◌, Some, None, refl, sym, ap, subst, ◌∙◌, World, turn, ReceiverScript, SenderScript, Entry, Delivered, Parker, worlds_by}
+use Rattle.oneshot_bridge.proofs.Names.{WorkedCells, WrongCells, WrongUses, sends, receives, r, WakesNext}
 use Rattle.oneshot_world.specs.declared.script.Move.TheVariants.{Sender}
 use Rattle.oneshot_world.specs.declared.trace.Entry.TheVariants.{Made as Made_entry}
 use Rattle.oneshot_world.specs.declared.trace.Place.TheVariants.{InCell}

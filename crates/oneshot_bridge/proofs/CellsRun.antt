@@ -1,6 +1,10 @@
 -- Each run whose logs have an order leads to a world whose cells are as the rule of the word has them.
 use Rattle.std.proofs.Common.{is_some}
-use Rattle.oneshot_bridge.proofs.Names.{◌≡◌, ℕ, ◌+◌, Bool, true, false, ◌&&◌, List, [], ◌∷◌, Option, Some, None, refl, sym, ap, ◌∙◌, subst, option_map, and_parts, Noted, Reaches, fresh, Share, empty, filled, Call, Classes, all_alike, as_name, as_state, as_entry, control_of, as_control, all_in, IsReached, is_in_cell, World, Tells_from, opening, side_of, by_end, Move, ReceiverScript, SenderScript, State, Entry, Place, WakerName, passes_where_found, opening_reached, Turned, turned, turned_reaches, only_if, Watched, watched_coding, reads_entry, class_under_way, Classed, all_classed, found_next, opening_found, Scene, last_of, message_home, waker_home, one_has_both, CellsAreSo, RunsSo}
+use Rattle.oneshot_bridge.proofs.Names.{◌≡◌, ℕ, ◌+◌, Bool, true, false, ◌&&◌, List, [], ◌∷◌, Option, Some, None, refl, sym, ap, ◌∙◌, subst, option_map, and_parts, Noted, Reaches, fresh, Share, empty}
+use Rattle.oneshot_bridge.proofs.Names.{filled, Call, Classes, all_alike, as_name, as_state, as_entry, control_of, as_control, all_in, IsReached, is_in_cell, World, Tells_from, opening, side_of}
+use Rattle.oneshot_bridge.proofs.Names.{by_end, Move, ReceiverScript, SenderScript, State, Entry, Place, WakerName, passes_where_found, opening_reached, Turned, turned, turned_reaches, only_if}
+use Rattle.oneshot_bridge.proofs.Names.{Watched, watched_coding, reads_entry, class_under_way, Classed, all_classed, found_next, opening_found, Scene, last_of, message_home, waker_home, one_has_both}
+use Rattle.oneshot_bridge.proofs.Names.{CellsAreSo, RunsSo}
 use Rattle.oneshot_machine.specs.Phases.{sender_at, first, receiver_at}
 use Rattle.oneshot_world.specs.declared.trace.Entry.TheVariants.{Idle, Made as Made_entry}
 use Rattle.oneshot_world.specs.declared.trace.Place.TheVariants.{InCell}

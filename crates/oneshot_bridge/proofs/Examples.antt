@@ -1,5 +1,8 @@
 -- The examples: each walk step by step, the order operation by operation, and why the counterexamples are false.
-use Rattle.oneshot_bridge.proofs.Names.{◌≡◌, ℕ, true, false, List, [], ◌∷◌, Some, get_or, refl, sym, ap, subst, ◌∙◌, Seen, Done, Token, Value, SendWrite, SendAdd, SendTakeWaker, SendFinal, SendWake, RecvLoad, RecvWrite, RecvSwap, RecvPark, RecvParkLoad, RecvTake, RecvFreeGot, Load, Swap, Add, Noted, Reaches, has_row, nothing_made, receiver_step, receiver_row, head, tail, Goes, Answers, sends, receives, sent, received, worlds, WorkedRun, WrongRuns, may_see, begins, quietly, by_one, Quiet, quiet, Operates, operates, the_receiver, opening_receiver, SenderStand, ReceiverStand, SenderWalk, ReceiverWalk, not_empty, same_start, same_last}
+use Rattle.oneshot_bridge.proofs.Names.{◌≡◌, ℕ, true, false, List, [], ◌∷◌, Some, get_or, refl, sym, ap, subst, ◌∙◌, Seen, Done, Token, Value, SendWrite, SendAdd, SendTakeWaker, SendFinal, SendWake}
+use Rattle.oneshot_bridge.proofs.Names.{RecvLoad, RecvWrite, RecvSwap, RecvPark, RecvParkLoad, RecvTake, RecvFreeGot, Load, Swap, Add, Noted, Reaches, has_row, nothing_made, receiver_step}
+use Rattle.oneshot_bridge.proofs.Names.{receiver_row, head, tail, Goes, Answers, sends, receives, sent, received, worlds, WorkedRun, WrongRuns, may_see, begins, quietly, by_one, Quiet, quiet}
+use Rattle.oneshot_bridge.proofs.Names.{Operates, operates, the_receiver, opening_receiver, SenderStand, ReceiverStand, SenderWalk, ReceiverWalk, not_empty, same_start, same_last}
 use Rattle.std.specs.Option.{IsSome}
 use Rattle.oneshot_machine.specs.declared.machine.Reply.TheVariants as R
 use Rattle.oneshot_machine.specs.declared.machine.Seen.TheVariants.{Word}

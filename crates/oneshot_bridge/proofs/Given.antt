@@ -1,7 +1,11 @@
 -- What the laws of the model state of both ends: each from the run that the ends' order is.
 use Rattle.std.proofs.Common.{if◌then◌else◌}
 use Rattle.std.specs.Prelude.{◌≤◌, length, is_some}
-use Rattle.oneshot_bridge.proofs.Names.{◌≡◌, ℕ, ◌+◌, Bool, true, false, not, ◌&&◌, ◌||◌, List, [], ◌∷◌, Option, Some, None, map, refl, sym, ap, ◌∙◌, subst, filter, list_any, cons_option, option_map, and_parts, Receiver, Reply, Noted, receiver_step, ahead_of, is_some_park, Call, calls_of, World, opening, Tells_from, Move, ReceiverScript, SenderScript, Entry, run_is, is_end_of_sender, has_answered, is_same_end, both_hold, is_free_last, is_freed_at_end, Mark, marks, side, is_unwoken, is_never_unwoken, waits_in_task, IsRight, HasRun, told_at, Scene, last_of, gave_message, OneReceiveGets, RunLosesNoWakeup, RunFreesOnce, RunFreesLast, RunFreesByItsHolder, answered_by, RunsTo, Answered, the_receiver, ReceiverStand, SenderStand}
+use Rattle.oneshot_bridge.proofs.Names.{◌≡◌, ℕ, ◌+◌, Bool, true, false, not, ◌&&◌, ◌||◌, List, [], ◌∷◌, Option, Some, None, map, refl, sym, ap, ◌∙◌, subst, filter, list_any, cons_option, option_map}
+use Rattle.oneshot_bridge.proofs.Names.{and_parts, Receiver, Reply, Noted, receiver_step, ahead_of, is_some_park, Call, calls_of, World, opening, Tells_from, Move, ReceiverScript, SenderScript, Entry}
+use Rattle.oneshot_bridge.proofs.Names.{run_is, is_end_of_sender, has_answered, is_same_end, both_hold, is_free_last, is_freed_at_end, Mark, marks, side, is_unwoken, is_never_unwoken, waits_in_task}
+use Rattle.oneshot_bridge.proofs.Names.{IsRight, HasRun, told_at, Scene, last_of, gave_message, OneReceiveGets, RunLosesNoWakeup, RunFreesOnce, RunFreesLast, RunFreesByItsHolder, answered_by, RunsTo}
+use Rattle.oneshot_bridge.proofs.Names.{Answered, the_receiver, ReceiverStand, SenderStand}
 use Rattle.oneshot_machine.specs.declared.machine.End.TheVariants.{Sender}
 use Rattle.oneshot_laws.specs.Holders.{is_held}
 use Rattle.oneshot_bridge.proofs.OneReceive.{one_gets, freed_once, unused_after}

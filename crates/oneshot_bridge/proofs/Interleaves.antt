@@ -1,5 +1,6 @@
 -- An order and a walk of each end make a run of any model that can make each step of a walk: by induction.
-use Rattle.oneshot_bridge.proofs.Names.{◌≡◌, ℕ, List, [], ◌∷◌, ◌++◌, refl, sym, subst, Op, Noted, saw, InOrder, none_made, by_sender, by_receiver, word_after, not_empty, same_start, same_last, Walk, begins, quietly, by_one}
+use Rattle.oneshot_bridge.proofs.Names.{◌≡◌, ℕ, List, [], ◌∷◌, ◌++◌, refl, sym, subst, Op, Noted, saw, InOrder, none_made, by_sender, by_receiver, word_after, not_empty, same_start, same_last, Walk}
+use Rattle.oneshot_bridge.proofs.Names.{begins, quietly, by_one}
 
 -- a model that can make each step of a walk
 pub record CanStep {S R : Type 0} (SRests : S → S → Type 0) (SMakes : S → Noted → S → Type 0)

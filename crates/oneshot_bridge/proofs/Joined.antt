@@ -1,5 +1,9 @@
 -- Each state that the rule of the table allows is that of a run: its order, its slots at home, and its message.
-use Rattle.oneshot_bridge.proofs.Names.{◌≡◌, ℕ, ◌+◌, List, [], ◌∷◌, Option, Some, None, refl, sym, ap, ◌∙◌, subst, End, Noted, Reaches, Share, empty, filled, receiver_step, sender_step, sender_puts, receiver_puts, place_left, reply_of, World, opening, opening_place, side_of, Tells_from, Move, ReceiverScript, SenderLast, SenderScript, Entry, Turned, sender_idle, sender_made, receiver_idle, receiver_made, turned, message_of, rest_at, HasRun, Scene, last_of, AnyWaker, Slot, Empty, Message, Home, bare, has_message, Lies, lies_out, lies_bare, lies_filled, IsGiven, IsTaken, took_none, took_it, opened, dealt, runs, with_waker, message_of_logs, waker_of_logs, CellsAreSo, SlotsAreSo, Passed, none_passed, it_passed, maker_before, dealer_before, is_run, TablesAreOfRuns, RunsSo, SendsOnly, IsOfARun, RunsCalls}
+use Rattle.oneshot_bridge.proofs.Names.{◌≡◌, ℕ, ◌+◌, List, [], ◌∷◌, Option, Some, None, refl, sym, ap, ◌∙◌, subst, End, Noted, Reaches, Share, empty, filled, receiver_step, sender_step, sender_puts}
+use Rattle.oneshot_bridge.proofs.Names.{receiver_puts, place_left, reply_of, World, opening, opening_place, side_of, Tells_from, Move, ReceiverScript, SenderLast, SenderScript, Entry, Turned}
+use Rattle.oneshot_bridge.proofs.Names.{sender_idle, sender_made, receiver_idle, receiver_made, turned, message_of, rest_at, HasRun, Scene, last_of, AnyWaker, Slot, Empty, Message, Home, bare}
+use Rattle.oneshot_bridge.proofs.Names.{has_message, Lies, lies_out, lies_bare, lies_filled, IsGiven, IsTaken, took_none, took_it, opened, dealt, runs, with_waker, message_of_logs, waker_of_logs}
+use Rattle.oneshot_bridge.proofs.Names.{CellsAreSo, SlotsAreSo, Passed, none_passed, it_passed, maker_before, dealer_before, is_run, TablesAreOfRuns, RunsSo, SendsOnly, IsOfARun, RunsCalls}
 use mathlib.Core.Option as maybe
 use Rattle.oneshot_world.specs.declared.script.SenderLast.TheVariants as SL
 use Rattle.oneshot_world.specs.declared.trace.Place.TheVariants as P

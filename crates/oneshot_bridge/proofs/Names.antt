@@ -7,10 +7,12 @@ pub use Rattle.oneshot_bridge.specs.Gives.{HaveCome, gave_message, OneReceiveGet
 pub use Rattle.oneshot_bridge.specs.Homes.{one_has_both, CellsAreSo, message_of_logs, waker_of_logs, RunsHaveCells}
 pub use Rattle.oneshot_bridge.specs.Joined.{SlotsAreSo, Passed, none_passed, it_passed, maker_before, dealer_before, is_run, TablesAreOfRuns, OfARun}
 pub use Rattle.oneshot_bridge.specs.OrdersRun.{log_of, RunsSo, answered_by, RunsTo, noted_of, operation_of, OrdersAreRuns, answered_at}
-pub use Rattle.oneshot_bridge.specs.RunExamples.{tries, stops, in_turn, sent_log, tried_log, sent_call, tried_call, sender_stands, receiver_stands, told, AnswersThatAre, RunsThatAre, RunsThatAreNot, RunsSay}
+pub use Rattle.oneshot_bridge.specs.RunExamples.{tries, stops, in_turn, sent_log, tried_log, sent_call, tried_call, sender_stands, receiver_stands, told, AnswersThatAre, RunsThatAre, RunsThatAreNot}
+pub use Rattle.oneshot_bridge.specs.RunExamples.{RunsSay}
 pub use Rattle.oneshot_bridge.specs.RunOrder.{operator_of, operators_of, RunsAreInOrder, WorkedOrder, WrongOrder}
 pub use Rattle.oneshot_bridge.specs.Scripted.{SendsOnly, IsOfARun, SenderIsScripted, StatesAreOfRuns, ReceiverIsScripted}
-pub use Rattle.oneshot_bridge.specs.Walks.{may_see, answers_with, stands_after, opening_sender, opening_receiver, SenderStand, ReceiverStand, the_sender, the_receiver, Quiet, quiet, Operates, operates, Answered, Walk, begins, quietly, by_one, ReceiverWalk, SenderWalk, Stand, Walker}
+pub use Rattle.oneshot_bridge.specs.Walks.{may_see, answers_with, stands_after, opening_sender, opening_receiver, SenderStand, ReceiverStand, the_sender, the_receiver, Quiet, quiet, Operates}
+pub use Rattle.oneshot_bridge.specs.Walks.{operates, Answered, Walk, begins, quietly, by_one, ReceiverWalk, SenderWalk, Stand, Walker}
 pub use Rattle.oneshot_bridge.specs.Woken.{WakesNext, NobodyWaitsInARun, WakeIsNextInARun, found_it_gone, WasDropped, NobodyIsLeft}
 pub use Rattle.oneshot_laws.proofs.Coding.{Coding, listed, pairs, or_none}
 pub use Rattle.oneshot_laws.proofs.Glanced.{of_call}
@@ -34,12 +36,16 @@ pub use Rattle.oneshot_machine.specs.Exact.{none_yet, one_more, Accepts}
 pub use Rattle.oneshot_machine.specs.Logs.{Event, did, words, worded}
 pub use Rattle.oneshot_machine.specs.Noted.{Noted, saw, op_of}
 pub use Rattle.oneshot_machine.specs.Orders.{Reaches, has_row, nothing_made, InOrder, none_made, by_sender, by_receiver}
-pub use Rattle.oneshot_machine.specs.Phases.{ReceiverAt, here, looked, between, blocked, polled, again, full, at_once, waited, swapped, by_future, by_poll, unclosed, disconnected, resolved, receiver_moves, Share, none, empty, filled, Slots, Row, sending, dropping, SenderAt, fresh, owes, finished, late, overtaken, no_sender, storing, stopping, found_closed, closed_itself, claimed, withdrew, overdue, gone, ended, no_receiver, By, sender_next, receiver_next, phase_from, sender_moves}
+pub use Rattle.oneshot_machine.specs.Phases.{ReceiverAt, here, looked, between, blocked, polled, again, full, at_once, waited, swapped, by_future, by_poll, unclosed, disconnected, resolved}
+pub use Rattle.oneshot_machine.specs.Phases.{receiver_moves, Share, none, empty, filled, Slots, Row, sending, dropping, SenderAt, fresh, owes, finished, late, overtaken, no_sender, storing, stopping}
+pub use Rattle.oneshot_machine.specs.Phases.{found_closed, closed_itself, claimed, withdrew, overdue, gone, ended, no_receiver, By, sender_next, receiver_next, phase_from, sender_moves}
 pub use Rattle.oneshot_machine.specs.Receiver.{receiver_step, receiver_row, receiver_start, receiver_rows, receiver_opens, future_opens}
 pub use Rattle.oneshot_machine.specs.Runs.{Run, last, more}
 pub use Rattle.oneshot_machine.specs.Sender.{sender_step, sender_row, sender_start, sender_rows}
-pub use Rattle.oneshot_machine.specs.Slots.{Held, away, vacant, held, IsSlot, is_away, is_vacant, Turns, stays_away, stays_vacant, stays_held, gives_room, gives_thing, gets_room, gets_thing, In, ReceiverMay, may, ReceiverFinds, finds, head, tail}
-pub use Rattle.oneshot_machine.specs.Standing.{Standpoint, plainly, standpoint_row, standpoint_step, standpoint_follows, outcome_at, receiver_table, sights, onward, standpoint_number, Table, is_op, onward_all, moved, made_at, operations, standing, standing_from}
+pub use Rattle.oneshot_machine.specs.Slots.{Held, away, vacant, held, IsSlot, is_away, is_vacant, Turns, stays_away, stays_vacant, stays_held, gives_room, gives_thing, gets_room, gets_thing, In}
+pub use Rattle.oneshot_machine.specs.Slots.{ReceiverMay, may, ReceiverFinds, finds, head, tail}
+pub use Rattle.oneshot_machine.specs.Standing.{Standpoint, plainly, standpoint_row, standpoint_step, standpoint_follows, outcome_at, receiver_table, sights, onward, standpoint_number, Table, is_op}
+pub use Rattle.oneshot_machine.specs.Standing.{onward_all, moved, made_at, operations, standing, standing_from}
 pub use Rattle.oneshot_machine.specs.States.{word_after}
 pub use Rattle.oneshot_machine.specs.TableRows.{Outcome, Rows, row_for, is_same_seen, Goes, Answers}
 pub use Rattle.oneshot_machine.specs.declared.machine.End.{End}
@@ -60,7 +66,8 @@ pub use Rattle.oneshot_machine.specs.declared.machine.receiver.ReceiverStart.The
 pub use Rattle.oneshot_machine.specs.declared.machine.sender.SenderCall.{SenderCall}
 pub use Rattle.oneshot_machine.specs.declared.machine.sender.SenderCall.TheVariants.{Send}
 pub use Rattle.oneshot_machine.specs.declared.machine.sender.SenderPos.{SenderPos}
-pub use Rattle.oneshot_machine.specs.declared.machine.sender.SenderPos.TheVariants.{SendWrite, SendAdd, SendTakeWaker, SendFinal, SendWake, SendLateWake, DropXor, DropTakeWaker, DropFinal, DropWake, DropLateWake, DropFree}
+pub use Rattle.oneshot_machine.specs.declared.machine.sender.SenderPos.TheVariants.{SendWrite, SendAdd, SendTakeWaker, SendFinal, SendWake, SendLateWake, DropXor, DropTakeWaker, DropFinal, DropWake}
+pub use Rattle.oneshot_machine.specs.declared.machine.sender.SenderPos.TheVariants.{DropLateWake, DropFree}
 pub use Rattle.oneshot_machine.specs.declared.machine.timed.TimedPos.TheVariants.{TimedPark, LatePark, SumClock, TimedLoad, EndBack, LateLoad}
 pub use Rattle.oneshot_machine.specs.declared.machine.try_recv.TryPos.TheVariants.{TryLoad, Take, CloseOnly, Close}
 pub use Rattle.oneshot_machine.specs.declared.machine.value.ValuePos.TheVariants.{RecvPark, RecvLoad, RecvWrite, RecvSwap, RecvParkLoad, RecvTake, RecvFreeGot}
@@ -98,7 +105,8 @@ pub use Rattle.oneshot_world.specs.Effects.{seen_by, word_left, reply_of, sender
 pub use Rattle.oneshot_world.specs.Explore.{all_in}
 pub use Rattle.oneshot_world.specs.Reached.{IsReached}
 pub use Rattle.oneshot_world.specs.Scripts.{calls_of, receiver_call, async_call, receiver_calls, async_calls}
-pub use Rattle.oneshot_world.specs.State.{sender_fits, receiver_fits, sender_steps, receiver_steps, sender_stepped, receiver_stepped, is_in_cell, sender_turns_at, receiver_turns_at, made_entry, receiver_position}
+pub use Rattle.oneshot_world.specs.State.{sender_fits, receiver_fits, sender_steps, receiver_steps, sender_stepped, receiver_stepped, is_in_cell, sender_turns_at, receiver_turns_at, made_entry}
+pub use Rattle.oneshot_world.specs.State.{receiver_position}
 pub use Rattle.oneshot_world.specs.World.{World, turn, nothing_told, receiver_told, opening, Tells_from, side_of, by_end, turn_of, world_then, opening_place}
 pub use Rattle.oneshot_world.specs.declared.script.AsyncCall.{AsyncCall}
 pub use Rattle.oneshot_world.specs.declared.script.AsyncLast.{AsyncLast}

@@ -1,6 +1,8 @@
 -- At most one receive returns the message, and at most one entry frees the block, the last that uses it.
 use Rattle.std.proofs.Common.{◌≤◌, if◌then◌else◌, length}
-use Rattle.oneshot_bridge.proofs.Names.{arith, ◌≡◌, ℕ, ◌+◌, Bool, true, false, not, ◌&&◌, ◌||◌, List, [], ◌∷◌, ◌++◌, Option, Some, None, cond, refl, sym, ap, subst, filter, list_all, list_any, cons_option, option_map, and_parts, Receiver, Reply, Step, Free, Call, is_receive, only_if, is_same_end, is_same_reply, is_reply, is_word, is_on_a_cell, is_free, agrees, frees, uses_block, is_free_last, Mark, side, answers, answers_only, is_gone_after_got, gave_message, answered_at, answered_by, Answered}
+use Rattle.oneshot_bridge.proofs.Names.{arith, ◌≡◌, ℕ, ◌+◌, Bool, true, false, not, ◌&&◌, ◌||◌, List, [], ◌∷◌, ◌++◌, Option, Some, None, cond, refl, sym, ap, subst, filter, list_all, list_any}
+use Rattle.oneshot_bridge.proofs.Names.{cons_option, option_map, and_parts, Receiver, Reply, Step, Free, Call, is_receive, only_if, is_same_end, is_same_reply, is_reply, is_word, is_on_a_cell}
+use Rattle.oneshot_bridge.proofs.Names.{is_free, agrees, frees, uses_block, is_free_last, Mark, side, answers, answers_only, is_gone_after_got, gave_message, answered_at, answered_by, Answered}
 use Rattle.oneshot_machine.specs.declared.machine.Reply.TheVariants as R
 
 abbrev number_of : List Answered → ℕ

@@ -1,5 +1,7 @@
 -- The phases of both ends, distinguished by numbers while the checker explores.
-use Rattle.oneshot_bridge.proofs.Names.{◌≡◌, ℕ, List, [], ◌∷◌, Option, refl, get_or, sending, dropping, SenderAt, fresh, owes, finished, late, overtaken, no_sender, looked, between, blocked, polled, again, storing, stopping, at_once, waited, swapped, by_future, by_poll, found_closed, closed_itself, ReceiverAt, here, claimed, withdrew, overdue, full, unclosed, disconnected, resolved, gone, ended, no_receiver, Coding, listed, pairs, or_none}
+use Rattle.oneshot_bridge.proofs.Names.{◌≡◌, ℕ, List, [], ◌∷◌, Option, refl, get_or, sending, dropping, SenderAt, fresh, owes, finished, late, overtaken, no_sender, looked, between, blocked, polled}
+use Rattle.oneshot_bridge.proofs.Names.{again, storing, stopping, at_once, waited, swapped, by_future, by_poll, found_closed, closed_itself, ReceiverAt, here, claimed, withdrew, overdue, full}
+use Rattle.oneshot_bridge.proofs.Names.{unclosed, disconnected, resolved, gone, ended, no_receiver, Coding, listed, pairs, or_none}
 use Rattle.oneshot_machine.specs.Phases.{first, waits}
 
 abbrev senders : List SenderAt

@@ -1,6 +1,9 @@
 -- The checker explores phases and machines together, and in all that it finds the cells are as the rule has them.
 use Rattle.std.proofs.Common.{is_some}
-use Rattle.oneshot_bridge.proofs.Names.{◌≡◌, Bool, true, false, not, ◌&&◌, Option, Some, None, refl, End, Receiver, Done, Step, Wake, SenderPos, Noted, SenderAt, fresh, finished, no_sender, sender_next, ReceiverAt, gone, no_receiver, receiver_next, Share, none, empty, filled, sender_step, sender_row, Outcome, Answers, Call, all_in, is_in_cell, ReceiverState, SenderState, State, Made, is_end_of_sender, only_if, or_stray, Watched, Automaton, Explored, no_names, all_watched, message_home, waker_home, one_has_both, operation_of, found_it_gone}
+use Rattle.oneshot_bridge.proofs.Names.{◌≡◌, Bool, true, false, not, ◌&&◌, Option, Some, None, refl, End, Receiver, Done, Step, Wake, SenderPos, Noted, SenderAt, fresh, finished, no_sender}
+use Rattle.oneshot_bridge.proofs.Names.{sender_next, ReceiverAt, gone, no_receiver, receiver_next, Share, none, empty, filled, sender_step, sender_row, Outcome, Answers, Call, all_in, is_in_cell}
+use Rattle.oneshot_bridge.proofs.Names.{ReceiverState, SenderState, State, Made, is_end_of_sender, only_if, or_stray, Watched, Automaton, Explored, no_names, all_watched, message_home, waker_home}
+use Rattle.oneshot_bridge.proofs.Names.{one_has_both, operation_of, found_it_gone}
 use Rattle.oneshot_machine.specs.declared.machine.End.TheVariants.{Sender}
 use Rattle.oneshot_machine.specs.Phases.{first}
 use Rattle.oneshot_world.specs.declared.state.ReceiverState.TheVariants as RS

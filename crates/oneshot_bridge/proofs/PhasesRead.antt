@@ -1,5 +1,6 @@
 -- The reader of phases reads from a trace the phases of both its logs.
-use Rattle.oneshot_bridge.proofs.Names.{◌≡◌, ℕ, true, List, [], ◌∷◌, Option, Some, None, refl, ap, ◌∙◌, cons_option, End, Receiver, Noted, Reaches, SenderAt, no_sender, sender_next, ReceiverAt, no_receiver, receiver_next, phase_from, by_end, Entry, is_senders, is_receivers, sender_is, receiver_is, operation_of, log_of}
+use Rattle.oneshot_bridge.proofs.Names.{◌≡◌, ℕ, true, List, [], ◌∷◌, Option, Some, None, refl, ap, ◌∙◌, cons_option, End, Receiver, Noted, Reaches, SenderAt, no_sender, sender_next, ReceiverAt}
+use Rattle.oneshot_bridge.proofs.Names.{no_receiver, receiver_next, phase_from, by_end, Entry, is_senders, is_receivers, sender_is, receiver_is, operation_of, log_of}
 use Rattle.oneshot_machine.specs.declared.machine.End.TheVariants.{Sender}
 use Rattle.oneshot_machine.specs.Phases.{sender_at, receiver_at}
 use Rattle.oneshot_world.specs.declared.trace.Entry.TheVariants.{Idle, Made as Made_entry}

@@ -1,5 +1,8 @@
 -- The calls that a receiver has made are those of a walk whose script has just these calls.
-use Rattle.oneshot_bridge.proofs.Names.{◌≡◌, Bool, true, false, List, [], ◌∷◌, ◌++◌, Some, refl, sym, subst, append-nil, map-append, Reply, StartLoad, StartWrite, StartSwap, AsyncLoad, DropSwap, LookFull, ReceiverPos, Look, Try, Ref, Timed, Value, Future, AsyncDrop, ReceiverStart, SumClock, TryLoad, RecvLoad, Plain, Form, as_receiver, ReceiverCalled, not_called, called, became_future, Event, did, words, Noted, receiver_start, receiver_step, receiver_row, receiver_rows, Run, last, as_receiver_call, receiver_position, ReceiverScript, ReceiverState, in_script, receiver_answered, ReceiverStand, ReceiverWalk, the_receiver, opening_receiver, begins}
+use Rattle.oneshot_bridge.proofs.Names.{◌≡◌, Bool, true, false, List, [], ◌∷◌, ◌++◌, Some, refl, sym, subst, append-nil, map-append, Reply, StartLoad, StartWrite, StartSwap, AsyncLoad, DropSwap}
+use Rattle.oneshot_bridge.proofs.Names.{LookFull, ReceiverPos, Look, Try, Ref, Timed, Value, Future, AsyncDrop, ReceiverStart, SumClock, TryLoad, RecvLoad, Plain, Form, as_receiver, ReceiverCalled}
+use Rattle.oneshot_bridge.proofs.Names.{not_called, called, became_future, Event, did, words, Noted, receiver_start, receiver_step, receiver_row, receiver_rows, Run, last, as_receiver_call}
+use Rattle.oneshot_bridge.proofs.Names.{receiver_position, ReceiverScript, ReceiverState, in_script, receiver_answered, ReceiverStand, ReceiverWalk, the_receiver, opening_receiver, begins}
 use Rattle.oneshot_machine.specs.declared.machine.Reply.TheVariants as R
 use Rattle.oneshot_machine.specs.declared.machine.future.FuturePos.TheVariants as F
 use Rattle.oneshot_machine.specs.declared.machine.receiver.ReceiverPos.TheVariants.{Drop}

@@ -1,5 +1,9 @@
 -- For each log that an order allows the receiver, there are a script and a walk.
-use Rattle.oneshot_bridge.proofs.Names.{◌≡◌, ◌==◌, ℕ, Bool, true, false, not, ◌&&◌, ◌||◌, List, [], ◌∷◌, ◌++◌, Option, Some, None, refl, sym, ap, subst, All, list_all, list_any, flat_map, cons_option, and_parts, All-nil, All-cons, All-head, All-tail, All-contains, Seen, Step, ReceiverPos, Op, Accepts, Noted, op_of, saw, Reaches, has_row, nothing_made, receiver_step, receiver_row, receiver_rows, In, head, tail, Table, Standpoint, plainly, standpoint_row, standpoint_step, standpoint_number, outcome_at, receiver_table, is_op, onward, onward_all, moved, made_at, operations, standing, standing_from, Outcome, Goes, row_for, receiver_exact, each_passes, some_passes, ops_are_same, ReceiverScript, ReceiverIsScripted, ReceiverStand, ReceiverWalk, opening_receiver, begins}
+use Rattle.oneshot_bridge.proofs.Names.{◌≡◌, ◌==◌, ℕ, Bool, true, false, not, ◌&&◌, ◌||◌, List, [], ◌∷◌, ◌++◌, Option, Some, None, refl, sym, ap, subst, All, list_all, list_any, flat_map, cons_option}
+use Rattle.oneshot_bridge.proofs.Names.{and_parts, All-nil, All-cons, All-head, All-tail, All-contains, Seen, Step, ReceiverPos, Op, Accepts, Noted, op_of, saw, Reaches, has_row, nothing_made}
+use Rattle.oneshot_bridge.proofs.Names.{receiver_step, receiver_row, receiver_rows, In, head, tail, Table, Standpoint, plainly, standpoint_row, standpoint_step, standpoint_number, outcome_at}
+use Rattle.oneshot_bridge.proofs.Names.{receiver_table, is_op, onward, onward_all, moved, made_at, operations, standing, standing_from, Outcome, Goes, row_for, receiver_exact, each_passes}
+use Rattle.oneshot_bridge.proofs.Names.{some_passes, ops_are_same, ReceiverScript, ReceiverIsScripted, ReceiverStand, ReceiverWalk, opening_receiver, begins}
 use Rattle.std.specs.Prelude.{if◌then◌else◌, IsSome}
 use Rattle.oneshot_machine.specs.declared.machine.Step.TheVariants.{Word}
 use Rattle.oneshot_machine.specs.Orders.{sender_makes, receiver_makes}

@@ -1,5 +1,7 @@
 -- For each log that an order allows the receiver: a walk meets each standpoint that its table can reach by the log.
-use Rattle.oneshot_bridge.proofs.Names.{◌≡◌, ℕ, Bool, true, false, ◌&&◌, List, [], ◌∷◌, zero, suc, Option, Some, None, refl, sym, subst, list_all, flat_map, option_map, and_parts, Seen, ReceiverPos, Noted, op_of, receiver_step, receiver_row, In, Standpoint, plainly, standpoint_row, standpoint_step, standpoint_follows, outcome_at, receiver_table, sights, onward, Outcome, Goes, Answers, each_passes, may_see}
+use Rattle.oneshot_bridge.proofs.Names.{◌≡◌, ℕ, Bool, true, false, ◌&&◌, List, [], ◌∷◌, zero, suc, Option, Some, None, refl, sym, subst, list_all, flat_map, option_map, and_parts, Seen, ReceiverPos}
+use Rattle.oneshot_bridge.proofs.Names.{Noted, op_of, receiver_step, receiver_row, In, Standpoint, plainly, standpoint_row, standpoint_step, standpoint_follows, outcome_at, receiver_table, sights}
+use Rattle.oneshot_bridge.proofs.Names.{onward, Outcome, Goes, Answers, each_passes, may_see}
 use Rattle.std.specs.Prelude.{is_some, if◌then◌else◌}
 use Rattle.oneshot_machine.specs.Standing.{as_future}
 use Rattle.oneshot_bridge.proofs.Among.{only, AmongEach, in_each}

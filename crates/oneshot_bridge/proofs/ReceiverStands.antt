@@ -1,5 +1,8 @@
 -- A receiver in a call, under a script with any further calls: its walk after a step, a reply, or a next call.
-use Rattle.oneshot_bridge.proofs.Names.{◌≡◌, true, List, [], ◌∷◌, ◌++◌, Some, refl, subst, Reply, Seen, ReceiverPos, Op, Noted, receiver_start, receiver_step, receiver_row, Outcome, Goes, Answers, Call, Of_receiver, as_receiver_call, receiver_goes, receiver_call, async_call, receiver_calls, async_calls, receiver_position, AsyncCall, AsyncLast, ReceiverCall, ReceiverLast, ReceiverScript, ReceiverState, Answered, may_see, quietly, by_one, quiet, operates, stands_after, the_receiver, ReceiverStand, ReceiverWalk, begins}
+use Rattle.oneshot_bridge.proofs.Names.{◌≡◌, true, List, [], ◌∷◌, ◌++◌, Some, refl, subst, Reply, Seen, ReceiverPos, Op, Noted, receiver_start, receiver_step, receiver_row, Outcome, Goes, Answers}
+use Rattle.oneshot_bridge.proofs.Names.{Call, Of_receiver, as_receiver_call, receiver_goes, receiver_call, async_call, receiver_calls, async_calls, receiver_position, AsyncCall, AsyncLast}
+use Rattle.oneshot_bridge.proofs.Names.{ReceiverCall, ReceiverLast, ReceiverScript, ReceiverState, Answered, may_see, quietly, by_one, quiet, operates, stands_after, the_receiver, ReceiverStand}
+use Rattle.oneshot_bridge.proofs.Names.{ReceiverWalk, begins}
 use Rattle.oneshot_machine.specs.declared.machine.Step.TheVariants.{Word}
 use Rattle.oneshot_machine.specs.declared.machine.receiver.ReceiverStart.TheVariants as RC
 use Rattle.oneshot_world.specs.declared.script.AsyncLast.TheVariants as AL

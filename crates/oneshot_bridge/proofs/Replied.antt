@@ -1,6 +1,9 @@
 -- The calls that have replied in a trace that grows at its end, and those that its marks show.
 use Rattle.std.proofs.Common.{if◌then◌else◌}
-use Rattle.oneshot_bridge.proofs.Names.{◌≡◌, ℕ, ◌+◌, Bool, true, false, List, [], ◌∷◌, ◌++◌, Option, Some, None, refl, sym, ap, ◌∙◌, append_assoc, append-nil, cons_option, option_map, End, Receiver, Reply, Unanswered, left_by, calls_of, by_end, ReceiverScript, SenderScript, Entry, Made, is_same_end, Reading, read_by, call_under_way, marks, marks_from, until_reply, to_reply, mark_at, object_then, sender_reading, receiver_reading, Object, new_object, answered_by, Answered, answers_with, opening_sender, opening_receiver}
+use Rattle.oneshot_bridge.proofs.Names.{◌≡◌, ℕ, ◌+◌, Bool, true, false, List, [], ◌∷◌, ◌++◌, Option, Some, None, refl, sym, ap, ◌∙◌, append_assoc, append-nil, cons_option, option_map, End, Receiver}
+use Rattle.oneshot_bridge.proofs.Names.{Reply, Unanswered, left_by, calls_of, by_end, ReceiverScript, SenderScript, Entry, Made, is_same_end, Reading, read_by, call_under_way, marks, marks_from}
+use Rattle.oneshot_bridge.proofs.Names.{until_reply, to_reply, mark_at, object_then, sender_reading, receiver_reading, Object, new_object, answered_by, Answered, answers_with, opening_sender}
+use Rattle.oneshot_bridge.proofs.Names.{opening_receiver}
 use Rattle.oneshot_machine.specs.declared.machine.End.TheVariants.{Sender}
 use Rattle.oneshot_world.specs.declared.trace.Entry.TheVariants.{Idle, Made as Made_entry}
 

@@ -1,5 +1,8 @@
 -- A log that an order allows the receiver has words that its table may find, as the law of exact tables requires.
-use Rattle.oneshot_bridge.proofs.Names.{◌≡◌, ℕ, Bool, true, false, ◌&&◌, List, refl, list_all, and_parts, Op, none_yet, one_more, Noted, Reaches, has_row, nothing_made, ReceiverAt, here, looked, between, blocked, polled, again, full, at_once, waited, swapped, by_future, by_poll, unclosed, disconnected, resolved, receiver_moves, Share, none, empty, filled, Slots, Row, Held, away, vacant, held, IsSlot, is_away, is_vacant, Turns, stays_away, stays_vacant, stays_held, gives_room, gives_thing, gets_room, gets_thing, In, ReceiverMay, may, ReceiverFinds, finds, each_passes}
+use Rattle.oneshot_bridge.proofs.Names.{◌≡◌, ℕ, Bool, true, false, ◌&&◌, List, refl, list_all, and_parts, Op, none_yet, one_more, Noted, Reaches, has_row, nothing_made, ReceiverAt, here, looked}
+use Rattle.oneshot_bridge.proofs.Names.{between, blocked, polled, again, full, at_once, waited, swapped, by_future, by_poll, unclosed, disconnected, resolved, receiver_moves, Share, none, empty}
+use Rattle.oneshot_bridge.proofs.Names.{filled, Slots, Row, Held, away, vacant, held, IsSlot, is_away, is_vacant, Turns, stays_away, stays_vacant, stays_held, gives_room, gives_thing, gets_room}
+use Rattle.oneshot_bridge.proofs.Names.{gets_thing, In, ReceiverMay, may, ReceiverFinds, finds, each_passes}
 use Rattle.oneshot_machine.specs.Exact.{IsFound}
 use Rattle.oneshot_machine.specs.Orders.{sender_makes, receiver_makes}
 use Rattle.oneshot_machine.specs.Phases.{first, waits, receiver_at}

@@ -1,5 +1,9 @@
 -- The examples of runs: the worked one step by step, and what each field of the others states.
-use Rattle.oneshot_bridge.proofs.Names.{◌≡◌, ℕ, List, [], ◌∷◌, None, Some, refl, sym, ap, ◌∙◌, Done, Try, SendWrite, SendAdd, TryLoad, Close, Take, Load, Store, Add, Noted, Goes, Answers, orders_that_are, orders_that_are_not, calls_of, Entry, marks, is_right, View, Home, view, receiver_answered, sender_answered, is_at_rest, RunsCalls, worlds_by, world_by, scene_at, sends, HaveCome, InOrder, OfARun, maker_before, dealer_before, is_run, log_of, answered_by, RunsSo, RunsTo, tries, stops, in_turn, sent_log, tried_log, sent_call, tried_call, sender_stands, receiver_stands, told, AnswersThatAre, RunsThatAre, RunsThatAreNot, RunsSay, SendsOnly, begins, quietly, by_one, Quiet, quiet, Operates, operates, the_sender, SenderStand, ReceiverStand, SenderWalk}
+use Rattle.oneshot_bridge.proofs.Names.{◌≡◌, ℕ, List, [], ◌∷◌, None, Some, refl, sym, ap, ◌∙◌, Done, Try, SendWrite, SendAdd, TryLoad, Close, Take, Load, Store, Add, Noted, Goes, Answers}
+use Rattle.oneshot_bridge.proofs.Names.{orders_that_are, orders_that_are_not, calls_of, Entry, marks, is_right, View, Home, view, receiver_answered, sender_answered, is_at_rest, RunsCalls, worlds_by}
+use Rattle.oneshot_bridge.proofs.Names.{world_by, scene_at, sends, HaveCome, InOrder, OfARun, maker_before, dealer_before, is_run, log_of, answered_by, RunsSo, RunsTo, tries, stops, in_turn, sent_log}
+use Rattle.oneshot_bridge.proofs.Names.{tried_log, sent_call, tried_call, sender_stands, receiver_stands, told, AnswersThatAre, RunsThatAre, RunsThatAreNot, RunsSay, SendsOnly, begins, quietly}
+use Rattle.oneshot_bridge.proofs.Names.{by_one, Quiet, quiet, Operates, operates, the_sender, SenderStand, ReceiverStand, SenderWalk}
 use Rattle.oneshot_machine.specs.declared.machine.End.TheVariants as End
 use Rattle.oneshot_machine.specs.declared.machine.Reply.TheVariants as R
 use Rattle.oneshot_machine.specs.declared.machine.Seen.TheVariants.{Word}

@@ -1,5 +1,9 @@
 -- A run performs the operations of both its logs in an order, and logs have only one order.
-use Rattle.oneshot_bridge.proofs.Names.{◌≡◌, ℕ, ◌+◌, Bool, false, List, [], ◌∷◌, ◌++◌, Option, None, refl, sym, ap, ◌∙◌, subst, cons_option, option_map, append_assoc, append-nil, filter_map-append, End, Receiver, Seen, Step, Op, Load, Swap, Add, Noted, op_of, saw, InOrder, none_made, by_sender, by_receiver, receiver_step, sender_step, word_after, seen_by, word_left, World, opening, side_of, by_end, Tells_from, Move, ReceiverScript, SenderScript, State, Entry, Turned, sender_idle, sender_made, receiver_idle, receiver_made, turned, Scene, last_of, ends_of, order_is_one, sent, received, noted_of, log_of, RunsSo, operator_of, operators_of, RunsAreInOrder, WorkedOrder, WrongOrder}
+use Rattle.oneshot_bridge.proofs.Names.{◌≡◌, ℕ, ◌+◌, Bool, false, List, [], ◌∷◌, ◌++◌, Option, None, refl, sym, ap, ◌∙◌, subst, cons_option, option_map, append_assoc, append-nil, filter_map-append}
+use Rattle.oneshot_bridge.proofs.Names.{End, Receiver, Seen, Step, Op, Load, Swap, Add, Noted, op_of, saw, InOrder, none_made, by_sender, by_receiver, receiver_step, sender_step, word_after, seen_by}
+use Rattle.oneshot_bridge.proofs.Names.{word_left, World, opening, side_of, by_end, Tells_from, Move, ReceiverScript, SenderScript, State, Entry, Turned, sender_idle, sender_made, receiver_idle}
+use Rattle.oneshot_bridge.proofs.Names.{receiver_made, turned, Scene, last_of, ends_of, order_is_one, sent, received, noted_of, log_of, RunsSo, operator_of, operators_of, RunsAreInOrder, WorkedOrder}
+use Rattle.oneshot_bridge.proofs.Names.{WrongOrder}
 use Rattle.oneshot_machine.specs.declared.machine.End.TheVariants.{Sender}
 use Rattle.oneshot_machine.specs.declared.machine.Step.TheVariants.{Word}
 use Rattle.oneshot_bridge.proofs.Seen.{op_sees}

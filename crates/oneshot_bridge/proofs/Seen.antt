@@ -1,5 +1,6 @@
 -- What a step sees in a walk and in a world: the same, except a park, whose rows are alike with and without its token.
-use Rattle.oneshot_bridge.proofs.Names.{◌≡◌, Bool, true, false, Option, refl, sym, ◌∙◌, Seen, Step, Park, AsyncLoad, DropSwap, LookFull, TryLoad, ReceiverPos, Look, Try, Ref, Timed, Value, Future, AsyncDrop, SenderPos, TimedPark, LatePark, RecvPark, Op, Load, Store, saw, receiver_step, receiver_row, sender_step, sender_row, seen_by, State, may_see}
+use Rattle.oneshot_bridge.proofs.Names.{◌≡◌, Bool, true, false, Option, refl, sym, ◌∙◌, Seen, Step, Park, AsyncLoad, DropSwap, LookFull, TryLoad, ReceiverPos, Look, Try, Ref, Timed, Value, Future}
+use Rattle.oneshot_bridge.proofs.Names.{AsyncDrop, SenderPos, TimedPark, LatePark, RecvPark, Op, Load, Store, saw, receiver_step, receiver_row, sender_step, sender_row, seen_by, State, may_see}
 use Rattle.oneshot_machine.specs.declared.machine.Seen.TheVariants as S
 use Rattle.oneshot_machine.specs.declared.machine.Step.TheVariants as T
 use Rattle.oneshot_machine.specs.declared.machine.future.FuturePos.TheVariants as F

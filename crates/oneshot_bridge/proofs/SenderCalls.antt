@@ -1,5 +1,7 @@
 -- The call that a sender has made is that of a walk whose script has just this call.
-use Rattle.oneshot_bridge.proofs.Names.{◌≡◌, Bool, true, List, [], ◌∷◌, Some, refl, subst, Reply, SenderCall, SenderPos, SenderCalled, not_called_yet, called_once, Event, words, Noted, Run, sender_start, sender_step, sender_row, sender_rows, Call, Of_sender, left_by, SenderScript, sender_answered, is_at_rest, SendsOnly, SenderStand, SenderWalk, the_sender, opening_sender, begins}
+use Rattle.oneshot_bridge.proofs.Names.{◌≡◌, Bool, true, List, [], ◌∷◌, Some, refl, subst, Reply, SenderCall, SenderPos, SenderCalled, not_called_yet, called_once, Event, words, Noted, Run}
+use Rattle.oneshot_bridge.proofs.Names.{sender_start, sender_step, sender_row, sender_rows, Call, Of_sender, left_by, SenderScript, sender_answered, is_at_rest, SendsOnly, SenderStand, SenderWalk}
+use Rattle.oneshot_bridge.proofs.Names.{the_sender, opening_sender, begins}
 use Rattle.oneshot_machine.specs.declared.machine.End.TheVariants as End
 use Rattle.oneshot_machine.specs.declared.machine.Reply.TheVariants as R
 use Rattle.oneshot_machine.specs.declared.machine.sender.SenderCall.TheVariants as SC

@@ -1,5 +1,8 @@
 -- For each log that an order allows the sender, there are a script and a walk.
-use Rattle.oneshot_bridge.proofs.Names.{◌≡◌, ℕ, List, [], ◌∷◌, ◌++◌, refl, sym, subst, Done, SendWrite, SendAdd, SendTakeWaker, SendFinal, SendWake, SendLateWake, DropXor, DropTakeWaker, DropFinal, DropWake, DropLateWake, DropFree, Op, Swap, Add, Xor, Noted, saw, Reaches, has_row, nothing_made, By, sending, dropping, SenderAt, fresh, owes, sender_next, sender_moves, Slots, Row, In, head, tail, Goes, Answers, phase_from-snoc, SenderPos, SenderScript, SendsOnly, SenderIsScripted, begins, quietly, by_one, quiet, operates, opening_sender, SenderStand, SenderWalk}
+use Rattle.oneshot_bridge.proofs.Names.{◌≡◌, ℕ, List, [], ◌∷◌, ◌++◌, refl, sym, subst, Done, SendWrite, SendAdd, SendTakeWaker, SendFinal, SendWake, SendLateWake, DropXor, DropTakeWaker, DropFinal}
+use Rattle.oneshot_bridge.proofs.Names.{DropWake, DropLateWake, DropFree, Op, Swap, Add, Xor, Noted, saw, Reaches, has_row, nothing_made, By, sending, dropping, SenderAt, fresh, owes, sender_next}
+use Rattle.oneshot_bridge.proofs.Names.{sender_moves, Slots, Row, In, head, tail, Goes, Answers, phase_from-snoc, SenderPos, SenderScript, SendsOnly, SenderIsScripted, begins, quietly, by_one, quiet}
+use Rattle.oneshot_bridge.proofs.Names.{operates, opening_sender, SenderStand, SenderWalk}
 use Rattle.oneshot_machine.specs.declared.machine.Reply.TheVariants as R
 use Rattle.oneshot_machine.specs.declared.machine.Seen.TheVariants.{Word}
 use Rattle.oneshot_machine.specs.Orders.{sender_makes, receiver_makes}

@@ -1,5 +1,7 @@
 -- The standpoints of a receiver that its walks meet: which calls may follow at each, and that its number is its own.
-use Rattle.oneshot_bridge.proofs.Names.{◌≡◌, ◌==◌, Bool, true, false, List, refl, get_or, map, Reply, AsyncLoad, StartLoad, StartWrite, StartSwap, ParkLoad, DropSwap, LookFull, TryLoad, Take, CloseOnly, ReceiverPos, Look, Try, Ref, Timed, Value, Future, AsyncDrop, SumClock, TimedLoad, EndBack, LateLoad, RecvLoad, Noted, receiver_opens, future_opens, receiver_step, In, head, tail, Standpoint, plainly, receiver_table, standpoint_number, standpoint_follows, Answers, receiver_goes, ReceiverState, same_by}
+use Rattle.oneshot_bridge.proofs.Names.{◌≡◌, ◌==◌, Bool, true, false, List, refl, get_or, map, Reply, AsyncLoad, StartLoad, StartWrite, StartSwap, ParkLoad, DropSwap, LookFull, TryLoad, Take}
+use Rattle.oneshot_bridge.proofs.Names.{CloseOnly, ReceiverPos, Look, Try, Ref, Timed, Value, Future, AsyncDrop, SumClock, TimedLoad, EndBack, LateLoad, RecvLoad, Noted, receiver_opens, future_opens}
+use Rattle.oneshot_bridge.proofs.Names.{receiver_step, In, head, tail, Standpoint, plainly, receiver_table, standpoint_number, standpoint_follows, Answers, receiver_goes, ReceiverState, same_by}
 use Rattle.oneshot_machine.specs.declared.machine.Reply.TheVariants as R
 use Rattle.oneshot_machine.specs.declared.machine.future.FuturePos.TheVariants.{IntoFuture}
 use Rattle.oneshot_machine.specs.declared.machine.receiver.ReceiverPos.TheVariants.{Drop}

@@ -1,6 +1,9 @@
 -- One turn of a world by a row, and the logs of a trace with one more entry.
 use Rattle.std.proofs.Common.{if◌then◌else◌}
-use Rattle.oneshot_bridge.proofs.Names.{◌≡◌, ℕ, Bool, true, false, List, [], ◌∷◌, ◌++◌, Option, Some, None, refl, ap, ◌∙◌, append-nil, filter_map-append, cons_option, option_map, End, Receiver, Seen, Step, ReceiverPos, SenderPos, Noted, op_of, receiver_step, sender_step, Outcome, word_left, sender_steps, receiver_steps, sender_stepped, receiver_stepped, sender_turns_at, receiver_turns_at, made_entry, World, turn, turn_of, world_then, nothing_told, receiver_told, Entry, sender_world, receiver_world, noted_of, log_of, may_see}
+use Rattle.oneshot_bridge.proofs.Names.{◌≡◌, ℕ, Bool, true, false, List, [], ◌∷◌, ◌++◌, Option, Some, None, refl, ap, ◌∙◌, append-nil, filter_map-append, cons_option, option_map, End, Receiver, Seen}
+use Rattle.oneshot_bridge.proofs.Names.{Step, ReceiverPos, SenderPos, Noted, op_of, receiver_step, sender_step, Outcome, word_left, sender_steps, receiver_steps, sender_stepped, receiver_stepped}
+use Rattle.oneshot_bridge.proofs.Names.{sender_turns_at, receiver_turns_at, made_entry, World, turn, turn_of, world_then, nothing_told, receiver_told, Entry, sender_world, receiver_world, noted_of}
+use Rattle.oneshot_bridge.proofs.Names.{log_of, may_see}
 use Rattle.std.specs.Option.{IsSome}
 use Rattle.oneshot_machine.specs.declared.machine.End.TheVariants.{Sender}
 use Rattle.oneshot_machine.specs.declared.machine.Step.TheVariants as T

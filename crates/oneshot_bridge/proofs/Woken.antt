@@ -1,5 +1,10 @@
 -- Nobody waits once the sender's call has replied, or once it has made the wake that is next if it found the receiver.
-use Rattle.oneshot_bridge.proofs.Names.{◌≡◌, ℕ, ◌+◌, Bool, true, false, not, ◌&&◌, ◌||◌, List, [], ◌∷◌, ◌++◌, Option, Some, refl, sym, ap, ◌∙◌, subst, list_any, option_map, and_parts, End, Reply, Done, Step, Wake, SenderPos, Noted, By, finished, ReceiverAt, gone, sender_step, sender_row, Outcome, Answers, Call, all_alike, as_call, sender_under_way, seen_by, IsReached, calls_of, sender_fits, sender_stepped, World, opening, turn, nothing_told, side_of, Tells_from, Move, ReceiverScript, SenderScript, ReceiverState, SenderState, State, Entry, Made, sender_world, Turned, sender_idle, sender_made, receiver_idle, receiver_made, turned, is_end_of_sender, has_answered, marks, or_stray, call_under_way, of_call, class_is, IsRight, HasRun, told_at, Scene, last_of, is_right, goes_on, HaveCome, Reaches, answered_by, RunsTo, Answered, opening_sender, the_sender, SenderStand, ReceiverStand, NobodyWaitsInARun, WakeIsNextInARun, found_it_gone, WasDropped, NobodyIsLeft}
+use Rattle.oneshot_bridge.proofs.Names.{◌≡◌, ℕ, ◌+◌, Bool, true, false, not, ◌&&◌, ◌||◌, List, [], ◌∷◌, ◌++◌, Option, Some, refl, sym, ap, ◌∙◌, subst, list_any, option_map, and_parts, End, Reply}
+use Rattle.oneshot_bridge.proofs.Names.{Done, Step, Wake, SenderPos, Noted, By, finished, ReceiverAt, gone, sender_step, sender_row, Outcome, Answers, Call, all_alike, as_call, sender_under_way}
+use Rattle.oneshot_bridge.proofs.Names.{seen_by, IsReached, calls_of, sender_fits, sender_stepped, World, opening, turn, nothing_told, side_of, Tells_from, Move, ReceiverScript, SenderScript}
+use Rattle.oneshot_bridge.proofs.Names.{ReceiverState, SenderState, State, Entry, Made, sender_world, Turned, sender_idle, sender_made, receiver_idle, receiver_made, turned, is_end_of_sender}
+use Rattle.oneshot_bridge.proofs.Names.{has_answered, marks, or_stray, call_under_way, of_call, class_is, IsRight, HasRun, told_at, Scene, last_of, is_right, goes_on, HaveCome, Reaches, answered_by}
+use Rattle.oneshot_bridge.proofs.Names.{RunsTo, Answered, opening_sender, the_sender, SenderStand, ReceiverStand, NobodyWaitsInARun, WakeIsNextInARun, found_it_gone, WasDropped, NobodyIsLeft}
 use Rattle.oneshot_machine.specs.declared.machine.End.TheVariants.{Sender}
 use Rattle.oneshot_machine.specs.Phases.{sender_at, receiver_at}
 use Rattle.oneshot_machine.proofs.InOrders.{in_order}

@@ -1,5 +1,9 @@
 -- The model makes each step of a walk by one move.
-use Rattle.oneshot_bridge.proofs.Names.{◌≡◌, ℕ, ◌+◌, Bool, false, List, [], ◌∷◌, ◌++◌, Some, refl, ap, ◌∙◌, option_map, Receiver, ReceiverPos, SenderPos, Op, Noted, op_of, saw, receiver_step, receiver_row, sender_step, sender_row, word_after, Outcome, left_by, seen_by, word_left, reply_of, IsReached, sender_fits, receiver_fits, sender_steps, receiver_steps, sender_stepped, receiver_stepped, World, turn, nothing_told, receiver_told, opening, Move, ReceiverScript, SenderScript, State, Entry, sender_world, receiver_world, sender_row_reaches, receiver_row_reaches, opening_reached, message_of, Scene, goes_on, log_of, RunsSo, answers_with, stands_after, opening_sender, opening_receiver, SenderStand, ReceiverStand, the_sender, the_receiver, Quiet, quiet, Operates, operates}
+use Rattle.oneshot_bridge.proofs.Names.{◌≡◌, ℕ, ◌+◌, Bool, false, List, [], ◌∷◌, ◌++◌, Some, refl, ap, ◌∙◌, option_map, Receiver, ReceiverPos, SenderPos, Op, Noted, op_of, saw, receiver_step}
+use Rattle.oneshot_bridge.proofs.Names.{receiver_row, sender_step, sender_row, word_after, Outcome, left_by, seen_by, word_left, reply_of, IsReached, sender_fits, receiver_fits, sender_steps}
+use Rattle.oneshot_bridge.proofs.Names.{receiver_steps, sender_stepped, receiver_stepped, World, turn, nothing_told, receiver_told, opening, Move, ReceiverScript, SenderScript, State, Entry}
+use Rattle.oneshot_bridge.proofs.Names.{sender_world, receiver_world, sender_row_reaches, receiver_row_reaches, opening_reached, message_of, Scene, goes_on, log_of, RunsSo, answers_with, stands_after}
+use Rattle.oneshot_bridge.proofs.Names.{opening_sender, opening_receiver, SenderStand, ReceiverStand, the_sender, the_receiver, Quiet, quiet, Operates, operates}
 use Rattle.oneshot_machine.specs.declared.machine.End.TheVariants.{Sender}
 use Rattle.oneshot_world.specs.declared.script.Move.TheVariants as M
 use Rattle.oneshot_world.specs.declared.trace.Entry.TheVariants.{Made as Made_entry}

@@ -1,5 +1,9 @@
 -- What a ground may do at a phase, and its state after an operation, by the rows of the table.
-use Rattle.oneshot_drive.proofs.Names.{◌≡◌, ℕ, not, List, [], ◌∷◌, true, refl, sym, ap, ◌∙◌, subst, ◌==◌, eq-eqb, WriteWaker, Withdraw, Op, Event, Log, Grows, words, sender_of, receiver_of, took, handed, worded, SenderAt, no_sender, sender_moves, sender_at, ReceiverAt, no_receiver, receiver_moves, receiver_at, Share, empty, filled, Slots, Row, next_by, vacant, held, In, head, tail, May, may, Finds, finds, saw, is_same_op, same_op, differ, leads, words_stay, sender_moved, receiver_moved, put_in, emptied, as_before, turned, has_row, row_of, Landing, landings, landed, Each, each, among, is_among, differs, sender_apart, receiver_apart, GroundState, StandsWith, Stands, receiver_slots, SenderAsks, SenderMakes, ReceiverAsks, ReceiverMakes}
+use Rattle.oneshot_drive.proofs.Names.{◌≡◌, ℕ, not, List, [], ◌∷◌, true, refl, sym, ap, ◌∙◌, subst, ◌==◌, eq-eqb, WriteWaker, Withdraw, Op, Event, Log, Grows, words, sender_of, receiver_of, took}
+use Rattle.oneshot_drive.proofs.Names.{handed, worded, SenderAt, no_sender, sender_moves, sender_at, ReceiverAt, no_receiver, receiver_moves, receiver_at, Share, empty, filled, Slots, Row, next_by}
+use Rattle.oneshot_drive.proofs.Names.{vacant, held, In, head, tail, May, may, Finds, finds, saw, is_same_op, same_op, differ, leads, words_stay, sender_moved, receiver_moved, put_in, emptied}
+use Rattle.oneshot_drive.proofs.Names.{as_before, turned, has_row, row_of, Landing, landings, landed, Each, each, among, is_among, differs, sender_apart, receiver_apart, GroundState, StandsWith}
+use Rattle.oneshot_drive.proofs.Names.{Stands, receiver_slots, SenderAsks, SenderMakes, ReceiverAsks, ReceiverMakes}
 
 -- an operation that found this word landed at one of these
 pub record Lands {At T W : Type 0} (of : Log T W → At) (n : ℕ) (s : GroundState T W) (ls : List (Landing At))

@@ -1,5 +1,7 @@
 -- How the drop of a future takes its copy back, and the runs of the drop.
-use Rattle.oneshot_drive.proofs.Names.{◌≡◌, ℕ, true, [], ◌∷◌, Some, refl, AsyncDrop, AsyncLoad, AsyncExchange, AsyncBack, AsyncSwap, Load, Swap, Exchange, Log, Grows, receiver_of, handed, worded, ReceiverAt, waits, again, withdrew, receiver_moves, Slots, receiver_step, receiver_row, Goes, Ran, ReceiverRan, vacant, GroundState, Stands, ReceiverAsks, Path, has_row, landings}
+use Rattle.oneshot_drive.proofs.Names.{◌≡◌, ℕ, true, [], ◌∷◌, Some, refl, AsyncDrop, AsyncLoad, AsyncExchange, AsyncBack, AsyncSwap, Load, Swap, Exchange, Log, Grows, receiver_of, handed, worded}
+use Rattle.oneshot_drive.proofs.Names.{ReceiverAt, waits, again, withdrew, receiver_moves, Slots, receiver_step, receiver_row, Goes, Ran, ReceiverRan, vacant, GroundState, Stands, ReceiverAsks, Path}
+use Rattle.oneshot_drive.proofs.Names.{has_row, landings}
 use Rattle.oneshot_machine.specs.declared.machine.Reply.TheVariants as R
 use Rattle.oneshot_machine.specs.declared.machine.Seen.TheVariants as S
 use Rattle.oneshot_machine.specs.declared.machine.Step.TheVariants as Steps

@@ -1,6 +1,10 @@
 -- Proofs of the examples of ends, of what a call leaves, of replies and of hands.
-use Rattle.oneshot_drive.proofs.Names.{true, false, refl, closed_itself, found_closed, looked, between, blocked, waits, withdrew, is_late, is_overtaken, rests_new, rests_open, rests_closed, leaves_open, leaves_closed, left_received, left_closed, timed_received, timed_out, timed_closed, as_it_was, sender_took, came_back, returned, taken, sent, EndsThatAre, EndsThatAreNot, CallsThatLeave, CallsThatDoNot, RepliesThatAre, HandsThatAre, HandsThatAreNot, Polled, unpolled, left_copy, kept_copy, found_sender, has_resolved, leaves_resolved, leaves_gone, leaves_waiting, tried_resolved, tried_its_copy, is_disconnected}
-use Rattle.oneshot_drive.specs.BetweenCalls.{leaves_received, over_finished, over_late, over_overtaken, last_finished, last_overtaken, found_message, found_unclosed, found_no_sender, left_first, left_last}
+use Rattle.oneshot_drive.proofs.Names.{true, false, refl, closed_itself, found_closed, looked, between, blocked, waits, withdrew, is_late, is_overtaken, rests_new, rests_open, rests_closed}
+use Rattle.oneshot_drive.proofs.Names.{leaves_open, leaves_closed, left_received, left_closed, timed_received, timed_out, timed_closed, as_it_was, sender_took, came_back, returned, taken, sent}
+use Rattle.oneshot_drive.proofs.Names.{EndsThatAre, EndsThatAreNot, CallsThatLeave, CallsThatDoNot, RepliesThatAre, HandsThatAre, HandsThatAreNot, Polled, unpolled, left_copy, kept_copy, found_sender}
+use Rattle.oneshot_drive.proofs.Names.{has_resolved, leaves_resolved, leaves_gone, leaves_waiting, tried_resolved, tried_its_copy, is_disconnected}
+use Rattle.oneshot_drive.specs.BetweenCalls.{leaves_received, over_finished, over_late, over_overtaken, last_finished, last_overtaken, found_message, found_unclosed, found_no_sender, left_first}
+use Rattle.oneshot_drive.specs.BetweenCalls.{left_last}
 
 pub ends_that_are : EndsThatAre
 ends_that_are =

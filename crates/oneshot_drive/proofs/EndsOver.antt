@@ -1,5 +1,8 @@
 -- After its last call an end is over: by the rows of its last operation.
-use Rattle.oneshot_drive.proofs.Names.{◌≡◌, ℕ, false, List, [], ◌∷◌, refl, sym, ◌∙◌, subst, TakeWaker, Wake, Swap, Xor, Event, Log, Grows, words, sender_of, receiver_of, handed, worded, By, sending, dropping, SenderAt, fresh, owes, late, no_sender, sender_moves, ReceiverAt, first, here, looked, between, waits, claimed, withdrew, full, at_once, by_future, disconnected, receiver_moves, Slots, Held, In, finds, SenderFinds, leads, sender_moved, GroundState, StandsWith, SenderMakes, ReceiverMakes, EndsAt, landings, landings_of, landed, Each, each, sender_apart}
+use Rattle.oneshot_drive.proofs.Names.{◌≡◌, ℕ, false, List, [], ◌∷◌, refl, sym, ◌∙◌, subst, TakeWaker, Wake, Swap, Xor, Event, Log, Grows, words, sender_of, receiver_of, handed, worded, By, sending}
+use Rattle.oneshot_drive.proofs.Names.{dropping, SenderAt, fresh, owes, late, no_sender, sender_moves, ReceiverAt, first, here, looked, between, waits, claimed, withdrew, full, at_once, by_future}
+use Rattle.oneshot_drive.proofs.Names.{disconnected, receiver_moves, Slots, Held, In, finds, SenderFinds, leads, sender_moved, GroundState, StandsWith, SenderMakes, ReceiverMakes, EndsAt, landings}
+use Rattle.oneshot_drive.proofs.Names.{landings_of, landed, Each, each, sender_apart}
 use Rattle.std.proofs.Common.{Bool, true, ◌==◌, not, ◌++◌, ap}
 use Rattle.std.specs.List.{list_all}
 use Rattle.oneshot_machine.specs.declared.machine.Reply.{Reply}
@@ -11,7 +14,8 @@ use Rattle.oneshot_machine.proofs.RunsByRows.{next_passes}
 use Rattle.oneshot_drive.specs.Wakes.{finds_waiting, SenderWoke, wakes, wakes_none}
 use Rattle.oneshot_drive.specs.declared.waiting.Found.{Found}
 use Rattle.oneshot_drive.specs.declared.waiting.Found.TheVariants as F
-use Rattle.oneshot_drive.specs.BetweenCalls.{SenderIsOver, over_finished, over_late, over_overtaken, LastLeaves, last_finished, last_overtaken, FoundTheEnd, found_message, found_unclosed, found_no_sender, HasLeft, left_first, left_last}
+use Rattle.oneshot_drive.specs.BetweenCalls.{SenderIsOver, over_finished, over_late, over_overtaken, LastLeaves, last_finished, last_overtaken, FoundTheEnd, found_message, found_unclosed}
+use Rattle.oneshot_drive.specs.BetweenCalls.{found_no_sender, HasLeft, left_first, left_last}
 use Rattle.oneshot_drive.proofs.AfterOperations.{lone, at_word, one_of, sender_lands, lands, sender_still, still}
 use Rattle.oneshot_drive.proofs.SenderCalls.{is_swap}
 

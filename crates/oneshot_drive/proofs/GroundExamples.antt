@@ -1,5 +1,8 @@
 -- Proofs of the examples of grounds and of the wakers that a call passes on.
-use Rattle.oneshot_drive.proofs.Names.{◌≡◌, ℕ, true, List, [], ◌∷◌, None, refl, sym, subst, arith, Sent, Send, waking, Event, Grows, receiver_of, ReceiverAt, blocked, first, here, looked, disconnected, found_closed, waits, polled, is_away, is_vacant, IsSlot, runs_that_are, slots_that_are, slots_that_are_not, rests_new, rests_open, rests_closed, parks_waiting, parks_overdue, log_of, GroundsThatAre, GroundsThatAreNot, WakersThatAre, WakersThatAreNot, GroundState, StandsIn, receiver_slots, WritesCopies, WritesItsCopy, left_copy, wakers_handed, HandsNoWaker, Wakes, wakes, wakes_none, SenderWoke}
+use Rattle.oneshot_drive.proofs.Names.{◌≡◌, ℕ, true, List, [], ◌∷◌, None, refl, sym, subst, arith, Sent, Send, waking, Event, Grows, receiver_of, ReceiverAt, blocked, first, here, looked}
+use Rattle.oneshot_drive.proofs.Names.{disconnected, found_closed, waits, polled, is_away, is_vacant, IsSlot, runs_that_are, slots_that_are, slots_that_are_not, rests_new, rests_open, rests_closed}
+use Rattle.oneshot_drive.proofs.Names.{parks_waiting, parks_overdue, log_of, GroundsThatAre, GroundsThatAreNot, WakersThatAre, WakersThatAreNot, GroundState, StandsIn, receiver_slots, WritesCopies}
+use Rattle.oneshot_drive.proofs.Names.{WritesItsCopy, left_copy, wakers_handed, HandsNoWaker, Wakes, wakes, wakes_none, SenderWoke}
 use Rattle.std.proofs.Common.{false, ap, ◌∙◌, true≢false}
 use Rattle.oneshot_machine.specs.declared.machine.Step.TheVariants.{Wake}
 use Rattle.oneshot_machine.specs.Logs.{handed}

@@ -1,5 +1,8 @@
 -- What the swap that drops a receiver finds, and the runs that it ends.
-use Rattle.oneshot_drive.proofs.Names.{◌≡◌, ℕ, [], ◌∷◌, Some, refl, sym, ap, ◌∙◌, subst, ReceiverPos, AsyncDrop, AsyncSwap, Swap, Log, Grows, receiver_of, did, worded, ReceiverAt, first, here, looked, between, claimed, waits, blocked, withdrew, full, at_once, by_future, disconnected, receiver_moves, Share, none, empty, filled, Slots, receiver_step, receiver_row, Outcome, Goes, Answers, last, more, Ran, and_then, Held, IsSlot, ReceiverFinds, is_same_op, Each, landings, FoundSo, found_so, GroundState, Rests, rests_new, rests_open, rests_closed, AtRest}
+use Rattle.oneshot_drive.proofs.Names.{◌≡◌, ℕ, [], ◌∷◌, Some, refl, sym, ap, ◌∙◌, subst, ReceiverPos, AsyncDrop, AsyncSwap, Swap, Log, Grows, receiver_of, did, worded, ReceiverAt, first, here, looked}
+use Rattle.oneshot_drive.proofs.Names.{between, claimed, waits, blocked, withdrew, full, at_once, by_future, disconnected, receiver_moves, Share, none, empty, filled, Slots, receiver_step}
+use Rattle.oneshot_drive.proofs.Names.{receiver_row, Outcome, Goes, Answers, last, more, Ran, and_then, Held, IsSlot, ReceiverFinds, is_same_op, Each, landings, FoundSo, found_so, GroundState, Rests}
+use Rattle.oneshot_drive.proofs.Names.{rests_new, rests_open, rests_closed, AtRest}
 use Rattle.oneshot_machine.specs.declared.machine.Reply.TheVariants as R
 use Rattle.oneshot_machine.specs.declared.machine.Seen.TheVariants as S
 use Rattle.oneshot_machine.specs.declared.machine.Step.TheVariants as Steps

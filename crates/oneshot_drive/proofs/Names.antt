@@ -1,10 +1,17 @@
 -- The names of other crates and of this one's definitions that the proofs use, exported from one place.
 pub use Rattle.futures.specs.declared.task.Poll.TheVariants.{Ready, Pending}
-pub use Rattle.oneshot_drive.specs.BetweenCalls.{AtRest, rests_open, IsClosedAt, LeavesClosed, left_received, left_closed, LeavesTimed, timed_received, timed_out, timed_closed, IsReady, Hands, as_it_was, sender_took, came_back, rests_new, rests_closed, is_late, is_overtaken, leaves_open, leaves_closed, Rests, Leaves, finishing, LastFinds, finds_waiting, finds_overdue, finds_gone, Finishes, send_reply, IsFresh, IsError, IsLate, Owes, IsOvertaken, IsOpenAt}
-pub use Rattle.oneshot_drive.specs.Blocking.{Path, value_end, EndsAt, Returns, returned, taken, Refills, refilled, HandAt, Stretch, nothing, answers, onward, ReceiveBy, by_ref, by_value, load_of, write_of, wait_of, end_of, WaitedHand, parks_waiting, parks_overdue, asked_of, ref_end, Parks}
-pub use Rattle.oneshot_drive.specs.Examples.{sent, EndsThatAre, EndsThatAreNot, CallsThatLeave, CallsThatDoNot, RepliesThatAre, HandsThatAre, HandsThatAreNot, log_of, GroundsThatAre, GroundsThatAreNot, WakersThatAre, WakersThatAreNot}
+pub use Rattle.oneshot_drive.specs.BetweenCalls.{AtRest, rests_open, IsClosedAt, LeavesClosed, left_received, left_closed, LeavesTimed, timed_received, timed_out, timed_closed, IsReady, Hands}
+pub use Rattle.oneshot_drive.specs.BetweenCalls.{as_it_was, sender_took, came_back, rests_new, rests_closed, is_late, is_overtaken, leaves_open, leaves_closed, Rests, Leaves, finishing, LastFinds}
+pub use Rattle.oneshot_drive.specs.BetweenCalls.{finds_waiting, finds_overdue, finds_gone, Finishes, send_reply, IsFresh, IsError, IsLate, Owes, IsOvertaken, IsOpenAt}
+pub use Rattle.oneshot_drive.specs.Blocking.{Path, value_end, EndsAt, Returns, returned, taken, Refills, refilled, HandAt, Stretch, nothing, answers, onward, ReceiveBy, by_ref, by_value, load_of}
+pub use Rattle.oneshot_drive.specs.Blocking.{write_of, wait_of, end_of, WaitedHand, parks_waiting, parks_overdue, asked_of, ref_end, Parks}
+pub use Rattle.oneshot_drive.specs.Examples.{sent, EndsThatAre, EndsThatAreNot, CallsThatLeave, CallsThatDoNot, RepliesThatAre, HandsThatAre, HandsThatAreNot, log_of, GroundsThatAre}
+pub use Rattle.oneshot_drive.specs.Examples.{GroundsThatAreNot, WakersThatAre, WakersThatAreNot}
 pub use Rattle.oneshot_drive.specs.Grounds.{GroundState, StandsWith, Stands, receiver_slots, ReceiverAsks, ReceiverMakes, StandsIn, SenderMakes, SenderAsks}
-pub use Rattle.oneshot_drive.specs.Polls.{hand_after, WritesHand, WritesCopies, WroteCopies, Polled, unpolled, left_copy, kept_copy, found_sender, has_resolved, IsPolled, LeavesPolled, leaves_resolved, leaves_over, leaves_gone, leaves_uncopied, leaves_waiting, leaves_its_copy, leaves_claimed, EndsPoll, tried_resolved, tried_its_copy, is_disconnected, poll_end, MayLeave, WritesItsCopy, wakers_handed, HandsNoWaker, LeavesTried, tried_received, tried_closed, tried_uncopied, tried_claimed, is_registered}
+pub use Rattle.oneshot_drive.specs.Polls.{hand_after, WritesHand, WritesCopies, WroteCopies, Polled, unpolled, left_copy, kept_copy, found_sender, has_resolved, IsPolled, LeavesPolled}
+pub use Rattle.oneshot_drive.specs.Polls.{leaves_resolved, leaves_over, leaves_gone, leaves_uncopied, leaves_waiting, leaves_its_copy, leaves_claimed, EndsPoll, tried_resolved, tried_its_copy}
+pub use Rattle.oneshot_drive.specs.Polls.{is_disconnected, poll_end, MayLeave, WritesItsCopy, wakers_handed, HandsNoWaker, LeavesTried, tried_received, tried_closed, tried_uncopied, tried_claimed}
+pub use Rattle.oneshot_drive.specs.Polls.{is_registered}
 pub use Rattle.oneshot_drive.specs.Wakes.{wakes, wakes_none, SenderWoke, Wakes}
 pub use Rattle.oneshot_drive.specs.declared.waiting.Found.{Found}
 pub use Rattle.oneshot_errors.specs.declared.recv.RecvError.{RecvError}
@@ -14,17 +21,23 @@ pub use Rattle.oneshot_machine.proofs.CallBounds.{drop_few, send_few, async_try_
 pub use Rattle.oneshot_machine.proofs.Exactness.{leads, differ}
 pub use Rattle.oneshot_machine.proofs.ExampleRuns.{runs_that_are}
 pub use Rattle.oneshot_machine.proofs.GrownLogs.{receiver_moved, and_then, sender_moved, words_stay}
-pub use Rattle.oneshot_machine.proofs.Landings.{is_room, has_row, Each, landings, found_so, is_in, put_in, as_before, turned, message_kept, landings_of, landed, each, sender_apart, FoundSo, emptied, row_of, Landing, among, is_among, differs, receiver_apart, waker_kept}
+pub use Rattle.oneshot_machine.proofs.Landings.{is_room, has_row, Each, landings, found_so, is_in, put_in, as_before, turned, message_kept, landings_of, landed, each, sender_apart, FoundSo, emptied}
+pub use Rattle.oneshot_machine.proofs.Landings.{row_of, Landing, among, is_among, differs, receiver_apart, waker_kept}
 pub use Rattle.oneshot_machine.proofs.RowExamples.{slots_that_are, slots_that_are_not}
 pub use Rattle.oneshot_machine.proofs.Sameness.{same_op}
 pub use Rattle.oneshot_machine.specs.Examples.{waking}
-pub use Rattle.oneshot_machine.specs.Logs.{Log, Grows, receiver_of, did, took, clocked, worded, Event, handed, copied, wrote, sender_of, kept, parked, when_written, when_taken, messages_given, messages_got, words}
+pub use Rattle.oneshot_machine.specs.Logs.{Log, Grows, receiver_of, did, took, clocked, worded, Event, handed, copied, wrote, sender_of, kept, parked, when_written, when_taken, messages_given}
+pub use Rattle.oneshot_machine.specs.Logs.{messages_got, words}
 pub use Rattle.oneshot_machine.specs.Noted.{is_same_op, saw}
-pub use Rattle.oneshot_machine.specs.Phases.{between, ReceiverAt, here, full, Got, at_once, waited, swapped, by_future, by_poll, unclosed, Swapping, Closing, closed_itself, disconnected, receiver_moves, receiver_next, empty, filled, looked, waits, again, claimed, found_closed, resolved, word_of, blocked, withdrew, polled, Share, none, Slots, By, sending, dropping, SenderAt, fresh, owes, late, no_sender, sender_moves, storing, first, overdue, stopping, sender_at, no_receiver, receiver_at, Row, next_by}
+pub use Rattle.oneshot_machine.specs.Phases.{between, ReceiverAt, here, full, Got, at_once, waited, swapped, by_future, by_poll, unclosed, Swapping, Closing, closed_itself, disconnected}
+pub use Rattle.oneshot_machine.specs.Phases.{receiver_moves, receiver_next, empty, filled, looked, waits, again, claimed, found_closed, resolved, word_of, blocked, withdrew, polled, Share, none}
+pub use Rattle.oneshot_machine.specs.Phases.{Slots, By, sending, dropping, SenderAt, fresh, owes, late, no_sender, sender_moves, storing, first, overdue, stopping, sender_at, no_receiver, receiver_at}
+pub use Rattle.oneshot_machine.specs.Phases.{Row, next_by}
 pub use Rattle.oneshot_machine.specs.Receiver.{receiver_step, receiver_row, receiver_rows}
 pub use Rattle.oneshot_machine.specs.Runs.{last, more, Ran, ReceiverRan, SenderRan, Run}
 pub use Rattle.oneshot_machine.specs.Sender.{sender_step, sender_row}
-pub use Rattle.oneshot_machine.specs.Slots.{vacant, Held, held, IsSlot, is_held, ReceiverMay, ReceiverFinds, away, is_away, is_vacant, Turns, stays_away, stays_vacant, stays_held, gives_room, gives_thing, gets_room, gets_thing, In, finds, SenderMay, SenderFinds, head, tail, May, may, Finds}
+pub use Rattle.oneshot_machine.specs.Slots.{vacant, Held, held, IsSlot, is_held, ReceiverMay, ReceiverFinds, away, is_away, is_vacant, Turns, stays_away, stays_vacant, stays_held, gives_room}
+pub use Rattle.oneshot_machine.specs.Slots.{gives_thing, gets_room, gets_thing, In, finds, SenderMay, SenderFinds, head, tail, May, may, Finds}
 pub use Rattle.oneshot_machine.specs.TableRows.{Goes, Outcome, Answers, row_for}
 pub use Rattle.oneshot_machine.specs.declared.machine.Reply.{Reply}
 pub use Rattle.oneshot_machine.specs.declared.machine.Reply.TheVariants.{Sent}
@@ -32,13 +45,15 @@ pub use Rattle.oneshot_machine.specs.declared.machine.Step.TheVariants.{WakeOwn,
 pub use Rattle.oneshot_machine.specs.declared.machine.async_drop.AsyncDropPos.TheVariants.{AsyncLoad, AsyncSwap, AsyncExchange, AsyncBack}
 pub use Rattle.oneshot_machine.specs.declared.machine.by_ref.RefPos.TheVariants.{StartLoad, StartSwap, Park, ParkLoad}
 pub use Rattle.oneshot_machine.specs.declared.machine.drop.DropPos.TheVariants.{DropSwap}
-pub use Rattle.oneshot_machine.specs.declared.machine.future.FuturePos.TheVariants.{PollLoad, PollCopy, PollWrite, PollExchange, PollBackFull, PollBackClosed, AgainCopy, AgainExchange, AgainBack, PollOwn, AsyncTryLoad}
+pub use Rattle.oneshot_machine.specs.declared.machine.future.FuturePos.TheVariants.{PollLoad, PollCopy, PollWrite, PollExchange, PollBackFull, PollBackClosed, AgainCopy, AgainExchange, AgainBack}
+pub use Rattle.oneshot_machine.specs.declared.machine.future.FuturePos.TheVariants.{PollOwn, AsyncTryLoad}
 pub use Rattle.oneshot_machine.specs.declared.machine.receiver.ReceiverPos.{ReceiverPos}
 pub use Rattle.oneshot_machine.specs.declared.machine.receiver.ReceiverPos.TheVariants.{Try, Ref, Timed, Value, Future, AsyncDrop}
 pub use Rattle.oneshot_machine.specs.declared.machine.receiver.ReceiverStart.TheVariants.{Recv, RecvTimeout, TryRecv, AsyncTryRecv}
 pub use Rattle.oneshot_machine.specs.declared.machine.sender.SenderCall.TheVariants.{Send, IntoInner, DropError}
 pub use Rattle.oneshot_machine.specs.declared.machine.sender.SenderPos.{SenderPos}
-pub use Rattle.oneshot_machine.specs.declared.machine.sender.SenderPos.TheVariants.{SendAdd, SendTakeWaker, SendFinal, SendWake, SendLateWake, DropTakeWaker, DropFinal, DropWake, DropLateWake, IntoFree, ErrorFree}
+pub use Rattle.oneshot_machine.specs.declared.machine.sender.SenderPos.TheVariants.{SendAdd, SendTakeWaker, SendFinal, SendWake, SendLateWake, DropTakeWaker, DropFinal, DropWake, DropLateWake}
+pub use Rattle.oneshot_machine.specs.declared.machine.sender.SenderPos.TheVariants.{IntoFree, ErrorFree}
 pub use Rattle.oneshot_machine.specs.declared.machine.timed.TimedPos.TheVariants.{SumClock, Clock, TimedLoad, EndSwap, EndBack, LatePark, LateLoad}
 pub use Rattle.oneshot_machine.specs.declared.machine.try_recv.TryPos.TheVariants.{Close, Take, CloseOnly}
 pub use Rattle.oneshot_machine.specs.declared.machine.value.ValuePos.TheVariants.{RecvLoad, RecvTake, RecvFreeGot, RecvFreeGone, RecvSwap, RecvPark, RecvParkLoad}

@@ -1,5 +1,6 @@
 -- Proves step by step that a poll writes no waker but its own copy.
-use Rattle.oneshot_drive.proofs.Names.{◌≡◌, ℕ, List, [], ◌∷◌, ◌++◌, Option, Some, refl, sym, subst, WakeOwn, WriteWaker, Withdraw, Op, Event, Log, Grows, did, took, handed, copied, worded, and_then, hand_after, WritesHand, WritesCopies, WroteCopies}
+use Rattle.oneshot_drive.proofs.Names.{◌≡◌, ℕ, List, [], ◌∷◌, ◌++◌, Option, Some, refl, sym, subst, WakeOwn, WriteWaker, Withdraw, Op, Event, Log, Grows, did, took, handed, copied, worded, and_then}
+use Rattle.oneshot_drive.proofs.Names.{hand_after, WritesHand, WritesCopies, WroteCopies}
 use Rattle.oneshot_drive.proofs.Stretches.{stays}
 
 module _ {T W : Type 0} where

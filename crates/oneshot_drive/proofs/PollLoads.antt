@@ -1,5 +1,10 @@
 -- What a future between two calls finds by its load, and the run of a poll.
-use Rattle.oneshot_drive.proofs.Names.{◌≡◌, ℕ, true, [], ◌∷◌, Some, Ok, Err, refl, sym, ap, ◌∙◌, subst, Ready, Pending, RecvError, Found, ReceiverPos, Try, Future, AsyncDrop, Close, Take, PollLoad, AsyncLoad, AsyncSwap, Load, Store, Swap, Log, Grows, receiver_of, did, took, worded, ReceiverAt, here, looked, between, waits, again, claimed, full, Got, at_once, waited, swapped, by_future, by_poll, Closing, found_closed, closed_itself, disconnected, resolved, receiver_next, receiver_moves, empty, word_of, receiver_step, receiver_row, Outcome, Goes, Answers, last, more, ReceiverRan, and_then, GroundState, StandsWith, Stands, StandsIn, receiver_slots, ReceiverAsks, ReceiverMakes, Path, rests_new, rests_open, rests_closed, IsClosedAt, Polled, unpolled, left_copy, kept_copy, found_sender, has_resolved, IsPolled, LeavesPolled, leaves_resolved, leaves_over, leaves_gone, leaves_uncopied, leaves_waiting, leaves_its_copy, leaves_claimed, EndsPoll, has_row, Each, landings}
+use Rattle.oneshot_drive.proofs.Names.{◌≡◌, ℕ, true, [], ◌∷◌, Some, Ok, Err, refl, sym, ap, ◌∙◌, subst, Ready, Pending, RecvError, Found, ReceiverPos, Try, Future, AsyncDrop, Close, Take, PollLoad}
+use Rattle.oneshot_drive.proofs.Names.{AsyncLoad, AsyncSwap, Load, Store, Swap, Log, Grows, receiver_of, did, took, worded, ReceiverAt, here, looked, between, waits, again, claimed, full, Got}
+use Rattle.oneshot_drive.proofs.Names.{at_once, waited, swapped, by_future, by_poll, Closing, found_closed, closed_itself, disconnected, resolved, receiver_next, receiver_moves, empty, word_of}
+use Rattle.oneshot_drive.proofs.Names.{receiver_step, receiver_row, Outcome, Goes, Answers, last, more, ReceiverRan, and_then, GroundState, StandsWith, Stands, StandsIn, receiver_slots, ReceiverAsks}
+use Rattle.oneshot_drive.proofs.Names.{ReceiverMakes, Path, rests_new, rests_open, rests_closed, IsClosedAt, Polled, unpolled, left_copy, kept_copy, found_sender, has_resolved, IsPolled, LeavesPolled}
+use Rattle.oneshot_drive.proofs.Names.{leaves_resolved, leaves_over, leaves_gone, leaves_uncopied, leaves_waiting, leaves_its_copy, leaves_claimed, EndsPoll, has_row, Each, landings}
 use Rattle.oneshot_drive.specs.declared.waiting.Found.TheVariants as F
 use Rattle.oneshot_machine.specs.declared.machine.Reply.TheVariants as R
 use Rattle.oneshot_machine.specs.declared.machine.Seen.TheVariants as S

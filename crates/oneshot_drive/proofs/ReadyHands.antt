@@ -1,5 +1,6 @@
 -- After a call that does not end the receiver its hand is ready: it has a waker, or the receiver is closed.
-use Rattle.oneshot_drive.proofs.Names.{◌≡◌, ◌≢◌, Option, Result, Err, refl, IsClosedAt, IsOpenAt, Leaves, leaves_open, leaves_closed, LeavesClosed, left_received, left_closed, LeavesTimed, timed_received, timed_out, timed_closed, Hands, as_it_was, sender_took, came_back, IsReady, RecvError, RecvTimeoutError, TryRecvError, ReceiverAt}
+use Rattle.oneshot_drive.proofs.Names.{◌≡◌, ◌≢◌, Option, Result, Err, refl, IsClosedAt, IsOpenAt, Leaves, leaves_open, leaves_closed, LeavesClosed, left_received, left_closed, LeavesTimed}
+use Rattle.oneshot_drive.proofs.Names.{timed_received, timed_out, timed_closed, Hands, as_it_was, sender_took, came_back, IsReady, RecvError, RecvTimeoutError, TryRecvError, ReceiverAt}
 use Rattle.oneshot_drive.specs.BetweenCalls.{leaves_received}
 use Rattle.oneshot_errors.specs.declared.recv_timeout.RecvTimeoutError.TheVariants as Timed
 use Rattle.oneshot_errors.specs.declared.try_recv.TryRecvError.TheVariants as Tried

@@ -1,5 +1,11 @@
 -- The obligations of each receive that blocks after the word that decides it, and the runs that its steps make.
-use Rattle.oneshot_drive.proofs.Names.{◌≡◌, ℕ, Bool, true, false, List, [], ◌∷◌, Option, Result, Ok, Err, refl, sym, subst, RecvError, RecvTimeoutError, Found, Reply, ReceiverPos, Try, Ref, Timed, Value, Close, Take, CloseOnly, StartLoad, SumClock, RecvLoad, RecvTake, RecvFreeGot, RecvFreeGone, Recv, RecvTimeout, Store, Log, Grows, receiver_of, did, took, clocked, worded, between, ReceiverAt, here, full, Got, at_once, waited, swapped, by_future, by_poll, unclosed, Swapping, Closing, closed_itself, disconnected, receiver_moves, receiver_next, empty, filled, receiver_step, receiver_row, Goes, last, more, Ran, ReceiverRan, vacant, receiver_moved, and_then, GroundState, StandsWith, Stands, receiver_slots, ReceiverAsks, ReceiverMakes, Path, value_end, EndsAt, Returns, returned, taken, Refills, refilled, HandAt, AtRest, rests_open, IsClosedAt, LeavesClosed, left_received, left_closed, LeavesTimed, timed_received, timed_out, timed_closed, IsReady, Hands, as_it_was, sender_took, came_back, is_room, has_row, Each, landings}
+use Rattle.oneshot_drive.proofs.Names.{◌≡◌, ℕ, Bool, true, false, List, [], ◌∷◌, Option, Result, Ok, Err, refl, sym, subst, RecvError, RecvTimeoutError, Found, Reply, ReceiverPos, Try, Ref, Timed}
+use Rattle.oneshot_drive.proofs.Names.{Value, Close, Take, CloseOnly, StartLoad, SumClock, RecvLoad, RecvTake, RecvFreeGot, RecvFreeGone, Recv, RecvTimeout, Store, Log, Grows, receiver_of, did, took}
+use Rattle.oneshot_drive.proofs.Names.{clocked, worded, between, ReceiverAt, here, full, Got, at_once, waited, swapped, by_future, by_poll, unclosed, Swapping, Closing, closed_itself, disconnected}
+use Rattle.oneshot_drive.proofs.Names.{receiver_moves, receiver_next, empty, filled, receiver_step, receiver_row, Goes, last, more, Ran, ReceiverRan, vacant, receiver_moved, and_then, GroundState}
+use Rattle.oneshot_drive.proofs.Names.{StandsWith, Stands, receiver_slots, ReceiverAsks, ReceiverMakes, Path, value_end, EndsAt, Returns, returned, taken, Refills, refilled, HandAt, AtRest}
+use Rattle.oneshot_drive.proofs.Names.{rests_open, IsClosedAt, LeavesClosed, left_received, left_closed, LeavesTimed, timed_received, timed_out, timed_closed, IsReady, Hands, as_it_was, sender_took}
+use Rattle.oneshot_drive.proofs.Names.{came_back, is_room, has_row, Each, landings}
 use Rattle.oneshot_errors.specs.declared.recv_timeout.RecvTimeoutError.TheVariants as Timed
 use Rattle.oneshot_drive.specs.declared.waiting.Found.TheVariants as F
 use Rattle.oneshot_machine.specs.declared.machine.Reply.TheVariants as R

@@ -1,5 +1,8 @@
 -- What a receiver between two calls finds by its load, and the runs of `try_recv`.
-use Rattle.oneshot_drive.proofs.Names.{◌≡◌, ℕ, true, false, [], ◌∷◌, Ok, Err, refl, sym, ◌∙◌, subst, ◌==◌, eq-eqb, Try, Close, Take, TryRecv, Load, Store, Swap, Log, Grows, receiver_of, took, worded, ReceiverAt, here, looked, between, full, at_once, Closing, found_closed, closed_itself, disconnected, resolved, receiver_moves, empty, filled, last, more, ReceiverRan, Held, ReceiverFinds, is_same_op, and_then, GroundState, StandsWith, Stands, receiver_slots, ReceiverAsks, ReceiverMakes, Rests, rests_new, rests_open, rests_closed, AtRest, IsClosedAt, Leaves, leaves_open, leaves_closed, has_row, Each, landings, found_so}
+use Rattle.oneshot_drive.proofs.Names.{◌≡◌, ℕ, true, false, [], ◌∷◌, Ok, Err, refl, sym, ◌∙◌, subst, ◌==◌, eq-eqb, Try, Close, Take, TryRecv, Load, Store, Swap, Log, Grows, receiver_of, took, worded}
+use Rattle.oneshot_drive.proofs.Names.{ReceiverAt, here, looked, between, full, at_once, Closing, found_closed, closed_itself, disconnected, resolved, receiver_moves, empty, filled, last, more}
+use Rattle.oneshot_drive.proofs.Names.{ReceiverRan, Held, ReceiverFinds, is_same_op, and_then, GroundState, StandsWith, Stands, receiver_slots, ReceiverAsks, ReceiverMakes, Rests, rests_new}
+use Rattle.oneshot_drive.proofs.Names.{rests_open, rests_closed, AtRest, IsClosedAt, Leaves, leaves_open, leaves_closed, has_row, Each, landings, found_so}
 use Rattle.oneshot_errors.specs.declared.try_recv.TryRecvError.TheVariants as E
 use Rattle.oneshot_machine.specs.declared.machine.Reply.TheVariants as R
 use Rattle.oneshot_drive.specs.BetweenCalls.{leaves_received}

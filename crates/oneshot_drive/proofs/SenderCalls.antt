@@ -1,5 +1,9 @@
 -- The obligations of each call of the sender to its ground.
-use Rattle.oneshot_drive.proofs.Names.{◌≡◌, ℕ, Bool, true, false, not, [], ◌∷◌, refl, sym, ◌∙◌, subst, ◌==◌, TakeWaker, Wake, Op, Swap, Add, Xor, Log, Grows, sender_of, wrote, handed, worded, By, sending, dropping, SenderAt, fresh, owes, late, no_sender, sender_moves, Share, none, empty, filled, Slots, Held, away, vacant, held, IsSlot, is_away, is_vacant, is_held, Turns, stays_away, stays_vacant, stays_held, gives_room, gives_thing, gets_room, gets_thing, In, finds, SenderMay, SenderFinds, leads, and_then, sender_moved, GroundState, StandsWith, SenderMakes, IsFresh, IsError, IsLate, is_late, is_overtaken, Owes, LastFinds, finds_waiting, finds_overdue, finds_gone, Finishes, IsOvertaken, is_in, is_room, put_in, as_before, turned, has_row, landings_of, landed, Each, each, found_so, sender_apart}
+use Rattle.oneshot_drive.proofs.Names.{◌≡◌, ℕ, Bool, true, false, not, [], ◌∷◌, refl, sym, ◌∙◌, subst, ◌==◌, TakeWaker, Wake, Op, Swap, Add, Xor, Log, Grows, sender_of, wrote, handed, worded, By}
+use Rattle.oneshot_drive.proofs.Names.{sending, dropping, SenderAt, fresh, owes, late, no_sender, sender_moves, Share, none, empty, filled, Slots, Held, away, vacant, held, IsSlot, is_away, is_vacant}
+use Rattle.oneshot_drive.proofs.Names.{is_held, Turns, stays_away, stays_vacant, stays_held, gives_room, gives_thing, gets_room, gets_thing, In, finds, SenderMay, SenderFinds, leads, and_then}
+use Rattle.oneshot_drive.proofs.Names.{sender_moved, GroundState, StandsWith, SenderMakes, IsFresh, IsError, IsLate, is_late, is_overtaken, Owes, LastFinds, finds_waiting, finds_overdue, finds_gone}
+use Rattle.oneshot_drive.proofs.Names.{Finishes, IsOvertaken, is_in, is_room, put_in, as_before, turned, has_row, landings_of, landed, Each, each, found_so, sender_apart}
 use Rattle.oneshot_machine.specs.Phases.{finished}
 use Rattle.oneshot_drive.proofs.AfterOperations.{Lone, lone, unlisted, at_word, not_at, sender_asks, sender_lands, sender_still}
 

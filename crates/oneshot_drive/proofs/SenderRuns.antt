@@ -1,5 +1,8 @@
 -- The steps of each call of the sender are a run.
-use Rattle.oneshot_drive.proofs.Names.{◌≡◌, ℕ, Bool, true, false, [], ◌∷◌, Some, refl, TakeWaker, Wake, Free, Send, IntoInner, DropError, SendAdd, SendTakeWaker, SendFinal, SendWake, SendLateWake, DropTakeWaker, DropFinal, DropWake, DropLateWake, IntoFree, ErrorFree, SenderPos, Swap, Add, Xor, Log, Grows, did, wrote, took, handed, worded, Goes, Answers, last, more, SenderRan, sender_step, sender_row, and_then, wakes, wakes_none, SenderWoke, finishing, LastFinds, finds_waiting, finds_overdue, finds_gone, Finishes, send_reply}
+use Rattle.oneshot_drive.proofs.Names.{◌≡◌, ℕ, Bool, true, false, [], ◌∷◌, Some, refl, TakeWaker, Wake, Free, Send, IntoInner, DropError, SendAdd, SendTakeWaker, SendFinal, SendWake, SendLateWake}
+use Rattle.oneshot_drive.proofs.Names.{DropTakeWaker, DropFinal, DropWake, DropLateWake, IntoFree, ErrorFree, SenderPos, Swap, Add, Xor, Log, Grows, did, wrote, took, handed, worded, Goes, Answers}
+use Rattle.oneshot_drive.proofs.Names.{last, more, SenderRan, sender_step, sender_row, and_then, wakes, wakes_none, SenderWoke, finishing, LastFinds, finds_waiting, finds_overdue, finds_gone}
+use Rattle.oneshot_drive.proofs.Names.{Finishes, send_reply}
 use Rattle.oneshot_machine.specs.declared.machine.Reply.TheVariants as R
 use Rattle.oneshot_machine.specs.declared.machine.Seen.TheVariants as S
 use Rattle.oneshot_machine.specs.declared.machine.Step.TheVariants.{DropMessage}

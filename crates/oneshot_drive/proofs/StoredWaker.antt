@@ -1,5 +1,8 @@
 -- What a receive that blocks does before it waits: its load, its waker in the slot, and its first swap.
-use Rattle.oneshot_drive.proofs.Names.{◌≡◌, ℕ, Bool, true, false, [], ◌∷◌, Option, Some, None, refl, sym, ap, ◌∙◌, subst, Found, ReceiverPos, Ref, Value, StartSwap, RecvSwap, Load, Swap, Log, Grows, receiver_of, handed, worded, ReceiverAt, here, looked, waits, blocked, swapped, storing, unclosed, receiver_moves, none, empty, filled, receiver_step, receiver_row, Outcome, Goes, Held, vacant, held, IsSlot, ReceiverFinds, GroundState, StandsWith, Stands, ReceiverAsks, ReceiverMakes, IsReady, Path, ReceiveBy, by_ref, by_value, load_of, write_of, wait_of, end_of, EndsAt, Returns, returned, taken, refilled, HandAt, WaitedHand, landings}
+use Rattle.oneshot_drive.proofs.Names.{◌≡◌, ℕ, Bool, true, false, [], ◌∷◌, Option, Some, None, refl, sym, ap, ◌∙◌, subst, Found, ReceiverPos, Ref, Value, StartSwap, RecvSwap, Load, Swap, Log, Grows}
+use Rattle.oneshot_drive.proofs.Names.{receiver_of, handed, worded, ReceiverAt, here, looked, waits, blocked, swapped, storing, unclosed, receiver_moves, none, empty, filled, receiver_step}
+use Rattle.oneshot_drive.proofs.Names.{receiver_row, Outcome, Goes, Held, vacant, held, IsSlot, ReceiverFinds, GroundState, StandsWith, Stands, ReceiverAsks, ReceiverMakes, IsReady, Path, ReceiveBy}
+use Rattle.oneshot_drive.proofs.Names.{by_ref, by_value, load_of, write_of, wait_of, end_of, EndsAt, Returns, returned, taken, refilled, HandAt, WaitedHand, landings}
 use Rattle.oneshot_drive.specs.declared.waiting.Found.TheVariants as F
 use Rattle.oneshot_machine.specs.declared.machine.Seen.TheVariants as S
 use Rattle.oneshot_machine.specs.declared.machine.Step.TheVariants as Steps

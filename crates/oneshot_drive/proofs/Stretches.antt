@@ -1,5 +1,7 @@
 -- How stretches of a receive are joined to each other and to the steps that end it.
-use Rattle.oneshot_drive.proofs.Names.{◌≡◌, ℕ, Bool, true, false, List, [], ◌∷◌, ◌++◌, Some, None, refl, sym, ap, ◌∙◌, append-nil, filter_map-append, Reply, ReceiverPos, Op, Event, Log, Grows, kept, did, handed, parked, clocked, copied, worded, when_written, when_taken, messages_given, messages_got, receiver_step, receiver_row, Outcome, Goes, Answers, Run, last, more, Ran, saw, and_then, Stretch, nothing, answers, onward, Path}
+use Rattle.oneshot_drive.proofs.Names.{◌≡◌, ℕ, Bool, true, false, List, [], ◌∷◌, ◌++◌, Some, None, refl, sym, ap, ◌∙◌, append-nil, filter_map-append, Reply, ReceiverPos, Op, Event, Log, Grows, kept}
+use Rattle.oneshot_drive.proofs.Names.{did, handed, parked, clocked, copied, worded, when_written, when_taken, messages_given, messages_got, receiver_step, receiver_row, Outcome, Goes, Answers, Run}
+use Rattle.oneshot_drive.proofs.Names.{last, more, Ran, saw, and_then, Stretch, nothing, answers, onward, Path}
 use Rattle.oneshot_machine.specs.declared.machine.Seen.TheVariants as S
 use Rattle.oneshot_machine.specs.declared.machine.Step.TheVariants as Steps
 

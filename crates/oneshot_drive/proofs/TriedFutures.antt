@@ -1,5 +1,9 @@
 -- What `try_recv` of a future finds by its load, how it leaves the future, and its runs.
-use Rattle.oneshot_drive.proofs.Names.{◌≡◌, ℕ, [], ◌∷◌, Some, Result, Ok, Err, refl, sym, ap, ◌∙◌, subst, TryRecvError, Try, Future, Close, AsyncTryLoad, AsyncTryRecv, Load, Store, Log, Grows, receiver_of, took, worded, ReceiverAt, looked, between, full, Got, at_once, waited, swapped, by_future, by_poll, Closing, closed_itself, disconnected, resolved, receiver_next, receiver_moves, empty, receiver_row, Goes, Answers, ReceiverRan, and_then, GroundState, StandsWith, Stands, StandsIn, ReceiverMakes, rests_new, rests_open, rests_closed, Polled, unpolled, left_copy, kept_copy, found_sender, has_resolved, IsPolled, LeavesTried, tried_received, tried_resolved, tried_closed, tried_uncopied, tried_its_copy, tried_claimed, is_registered, HandsNoWaker, Each, landings}
+use Rattle.oneshot_drive.proofs.Names.{◌≡◌, ℕ, [], ◌∷◌, Some, Result, Ok, Err, refl, sym, ap, ◌∙◌, subst, TryRecvError, Try, Future, Close, AsyncTryLoad, AsyncTryRecv, Load, Store, Log, Grows}
+use Rattle.oneshot_drive.proofs.Names.{receiver_of, took, worded, ReceiverAt, looked, between, full, Got, at_once, waited, swapped, by_future, by_poll, Closing, closed_itself, disconnected, resolved}
+use Rattle.oneshot_drive.proofs.Names.{receiver_next, receiver_moves, empty, receiver_row, Goes, Answers, ReceiverRan, and_then, GroundState, StandsWith, Stands, StandsIn, ReceiverMakes, rests_new}
+use Rattle.oneshot_drive.proofs.Names.{rests_open, rests_closed, Polled, unpolled, left_copy, kept_copy, found_sender, has_resolved, IsPolled, LeavesTried, tried_received, tried_resolved}
+use Rattle.oneshot_drive.proofs.Names.{tried_closed, tried_uncopied, tried_its_copy, tried_claimed, is_registered, HandsNoWaker, Each, landings}
 use Rattle.oneshot_errors.specs.declared.try_recv.TryRecvError.TheVariants as E
 use Rattle.oneshot_machine.specs.declared.machine.Reply.TheVariants as R
 use Rattle.oneshot_machine.specs.declared.machine.Seen.TheVariants as S

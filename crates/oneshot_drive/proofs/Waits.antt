@@ -1,5 +1,9 @@
 -- What a receive does while its waker is stored: it reads the clock, parks and loads, until a word decides it.
-use Rattle.oneshot_drive.proofs.Names.{◌≡◌, ℕ, Bool, true, false, [], ◌∷◌, Some, refl, sym, ap, ◌∙◌, subst, Found, ReceiverPos, Ref, Timed, Value, Park, ParkLoad, Clock, TimedLoad, EndSwap, EndBack, LatePark, LateLoad, RecvPark, RecvParkLoad, Load, Swap, Log, Grows, receiver_of, handed, parked, clocked, worded, ReceiverAt, here, between, waits, blocked, overdue, waited, swapped, stopping, found_closed, receiver_moves, none, filled, receiver_row, receiver_rows, receiver_step, Outcome, Goes, row_for, vacant, GroundState, StandsWith, Stands, receiver_slots, ReceiverAsks, ReceiverMakes, Path, ReceiveBy, by_ref, by_value, wait_of, asked_of, ref_end, end_of, EndsAt, Parks, parks_waiting, parks_overdue, has_row, landings}
+use Rattle.oneshot_drive.proofs.Names.{◌≡◌, ℕ, Bool, true, false, [], ◌∷◌, Some, refl, sym, ap, ◌∙◌, subst, Found, ReceiverPos, Ref, Timed, Value, Park, ParkLoad, Clock, TimedLoad, EndSwap, EndBack}
+use Rattle.oneshot_drive.proofs.Names.{LatePark, LateLoad, RecvPark, RecvParkLoad, Load, Swap, Log, Grows, receiver_of, handed, parked, clocked, worded, ReceiverAt, here, between, waits, blocked}
+use Rattle.oneshot_drive.proofs.Names.{overdue, waited, swapped, stopping, found_closed, receiver_moves, none, filled, receiver_row, receiver_rows, receiver_step, Outcome, Goes, row_for, vacant}
+use Rattle.oneshot_drive.proofs.Names.{GroundState, StandsWith, Stands, receiver_slots, ReceiverAsks, ReceiverMakes, Path, ReceiveBy, by_ref, by_value, wait_of, asked_of, ref_end, end_of, EndsAt}
+use Rattle.oneshot_drive.proofs.Names.{Parks, parks_waiting, parks_overdue, has_row, landings}
 use Rattle.oneshot_drive.specs.declared.waiting.Found.TheVariants as F
 use Rattle.oneshot_machine.specs.declared.machine.Seen.TheVariants as S
 use Rattle.oneshot_machine.specs.declared.machine.Step.TheVariants as Steps

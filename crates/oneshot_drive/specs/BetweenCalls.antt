@@ -11,7 +11,8 @@ use Rattle.oneshot_machine.specs.declared.machine.Step.TheVariants.{TakeWaker, W
 use Rattle.oneshot_machine.specs.declared.states.Op.TheVariants.{Swap}
 use Rattle.oneshot_machine.specs.declared.states.TheConstants.{UNPARKING, DISCONNECTED, EMPTY}
 use Rattle.oneshot_machine.specs.Logs.{Event, Log, Grows, sender_of, handed, worded}
-use Rattle.oneshot_machine.specs.Phases.{By, SenderAt, fresh, finished, late, overtaken, Closing, closed_itself, Open, looked, between, Swapping, Got, ReceiverAt, first, here, waits, claimed, full, unclosed, disconnected, resolved, gone, ended}
+use Rattle.oneshot_machine.specs.Phases.{By, SenderAt, fresh, finished, late, overtaken, Closing, closed_itself, Open, looked, between, Swapping, Got, ReceiverAt, first, here, waits, claimed, full}
+use Rattle.oneshot_machine.specs.Phases.{unclosed, disconnected, resolved, gone, ended}
 use Rattle.oneshot_machine.specs.Slots.{Held, away, vacant, held, SenderMay}
 use Rattle.oneshot_drive.specs.Grounds.{GroundState, SenderStands, StandsIn}
 

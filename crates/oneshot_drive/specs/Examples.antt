@@ -11,9 +11,11 @@ use Rattle.oneshot_machine.specs.declared.states.Op.TheVariants.{Load, Swap, Exc
 use Rattle.oneshot_machine.specs.declared.states.TheConstants.{RECEIVING, UNPARKING, DISCONNECTED, EMPTY, MESSAGE}
 use Rattle.oneshot_machine.specs.Examples.{waking}
 use Rattle.oneshot_machine.specs.Logs.{Event, Log, did, handed, copied, worded}
-use Rattle.oneshot_machine.specs.Phases.{By, sending, dropping, fresh, owes, finished, late, overtaken, Closing, closed_itself, found_closed, Got, Open, looked, between, Swapping, polled, again, blocked, Waiting, first, here, waits, claimed, withdrew, overdue, full, unclosed, disconnected, resolved, gone, ended}
+use Rattle.oneshot_machine.specs.Phases.{By, sending, dropping, fresh, owes, finished, late, overtaken, Closing, closed_itself, found_closed, Got, Open, looked, between, Swapping, polled, again}
+use Rattle.oneshot_machine.specs.Phases.{blocked, Waiting, first, here, waits, claimed, withdrew, overdue, full, unclosed, disconnected, resolved, gone, ended}
 use Rattle.oneshot_machine.specs.Slots.{Held, away, vacant, held}
-use Rattle.oneshot_drive.specs.BetweenCalls.{IsFresh, IsError, IsLate, SenderIsOver, LastLeaves, FoundTheEnd, HasLeft, Rests, AtRest, IsClosedAt, IsOpenAt, Leaves, LeavesClosed, LeavesTimed, IsReady, Hands, send_reply, try_recv_reply, recv_reply, timed_reply, received}
+use Rattle.oneshot_drive.specs.BetweenCalls.{IsFresh, IsError, IsLate, SenderIsOver, LastLeaves, FoundTheEnd, HasLeft, Rests, AtRest, IsClosedAt, IsOpenAt, Leaves, LeavesClosed, LeavesTimed, IsReady}
+use Rattle.oneshot_drive.specs.BetweenCalls.{Hands, send_reply, try_recv_reply, recv_reply, timed_reply, received}
 use Rattle.oneshot_drive.specs.Blocking.{Parks, Returns}
 use Rattle.oneshot_drive.specs.Grounds.{GroundState, SenderAsks, SenderMakes, ReceiverAsks, ReceiverMakes}
 use Rattle.oneshot_drive.specs.Polls.{Polled, IsPolled, LeavesPolled, LeavesTried, StaysRegistered, IsDisconnected, WritesItsCopy, HandsNoWaker, poll_reply, poll_received}

@@ -1,6 +1,7 @@
 //! Examples of the definitions, stated by the contract of a function with an empty body.
 
-ghost use Rattle.oneshot_drive.specs.Examples.{EndsThatAre, EndsThatAreNot, CallsThatLeave, CallsThatDoNot, RepliesThatAre, HandsThatAre, HandsThatAreNot, GroundsThatAre, GroundsThatAreNot, WakersThatAre, WakersThatAreNot};
+ghost use Rattle.oneshot_drive.specs.Examples.{EndsThatAre, EndsThatAreNot, CallsThatLeave, CallsThatDoNot, RepliesThatAre, HandsThatAre, HandsThatAreNot, GroundsThatAre, GroundsThatAreNot};
+ghost use Rattle.oneshot_drive.specs.Examples.{WakersThatAre, WakersThatAreNot};
 
 /// States by examples which phases are open, closed or between calls, what a call may leave and reply, which
 /// hands and grounds it may have, and which wakers it may pass on.

@@ -19,7 +19,8 @@ ghost use Rattle.oneshot_drive.specs.declared.waiting.Found.TheVariants as F;
 ghost use Rattle.oneshot_drive.specs.Blocking.{Path};
 ghost use Rattle.oneshot_drive.specs.BetweenCalls.{IsClosedAt, HasLeft, try_recv_reply, received};
 ghost use Rattle.oneshot_drive.specs.Grounds.{Stands, ReceiverAsks};
-ghost use Rattle.oneshot_drive.specs.Polls.{IsPolled, LeavesPolled, LeavesTried, StaysRegistered, poll_reply, poll_received, poll_end, EndsPoll, MayLeave, IsDisconnected, WroteCopies, WritesItsCopy, HandsNoWaker};
+ghost use Rattle.oneshot_drive.specs.Polls.{IsPolled, LeavesPolled, LeavesTried, StaysRegistered, poll_reply, poll_received, poll_end, EndsPoll, MayLeave, IsDisconnected, WroteCopies, WritesItsCopy};
+ghost use Rattle.oneshot_drive.specs.Polls.{HandsNoWaker};
 
 use crate::ground::{ReceiverGround, TaskGround};
 use crate::waiting::Found;

@@ -1,7 +1,9 @@
 -- Each row of an end's phase needs a slot, which the end no longer has once it freed the block.
 use Rattle.std.proofs.Common.{◌≡◌, Bool, true, false, List, Option, Some, refl, subst}
 use Rattle.std.specs.List.{list_all}
-use Rattle.oneshot_machine.specs.Phases.{SenderAt, fresh, owes, finished, late, overtaken, no_sender, sending, dropping, sender_moves, ReceiverAt, first, here, looked, between, waits, blocked, polled, again, claimed, withdrew, overdue, full, at_once, waited, swapped, by_future, by_poll, unclosed, disconnected, resolved, gone, ended, no_receiver, receiver_moves, receiver_owns, Share, none, empty, filled, Row}
+use Rattle.oneshot_machine.specs.Phases.{SenderAt, fresh, owes, finished, late, overtaken, no_sender, sending, dropping, sender_moves, ReceiverAt, first, here, looked, between, waits, blocked, polled}
+use Rattle.oneshot_machine.specs.Phases.{again, claimed, withdrew, overdue, full, at_once, waited, swapped, by_future, by_poll, unclosed, disconnected, resolved, gone, ended, no_receiver}
+use Rattle.oneshot_machine.specs.Phases.{receiver_moves, receiver_owns, Share, none, empty, filled, Row}
 use Rattle.oneshot_machine.specs.Slots.{In}
 use Rattle.oneshot_machine.proofs.Sameness.{each_passes}
 use Rattle.oneshot_ends.specs.Grounds.{MayBeFreed}

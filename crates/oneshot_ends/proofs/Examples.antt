@@ -27,7 +27,8 @@ use Rattle.oneshot_machine.specs.TableRows.{Goes, Answers}
 use Rattle.oneshot_machine.proofs.FirstSteps.{tries_once, tries_in_vain, sends_with}
 use Rattle.oneshot_word.proofs.Between.{between}
 use Rattle.oneshot_ends.specs.Ends.{Waking, SenderGrew, ReceiverGrew}
-use Rattle.oneshot_ends.specs.Examples.{ran_out, EndsThatAre, EndsThatAreNot, CallsThatGrow, CallsThatDoNot, DeadlinesThatAre, DeadlinesThatAreNot, CopiesThatAre, CopiesThatAreNot, GroundsThatAre, GroundsThatAreNot, OrdersThatAre, OrdersThatAreNot}
+use Rattle.oneshot_ends.specs.Examples.{ran_out, EndsThatAre, EndsThatAreNot, CallsThatGrow, CallsThatDoNot, DeadlinesThatAre, DeadlinesThatAreNot, CopiesThatAre, CopiesThatAreNot, GroundsThatAre}
+use Rattle.oneshot_ends.specs.Examples.{GroundsThatAreNot, OrdersThatAre, OrdersThatAreNot}
 use Rattle.oneshot_ends.proofs.CallsAnswered.{one_more, was_refused}
 use Rattle.oneshot_ends.proofs.Endless.{never_runs_out}
 

@@ -8,7 +8,8 @@ use Rattle.oneshot_machine.specs.declared.machine.Seen.TheVariants.{Word}
 use Rattle.oneshot_machine.specs.declared.states.Op.{Op}
 use Rattle.oneshot_machine.specs.Noted.{Noted, saw}
 use Rattle.oneshot_machine.specs.Orders.{Reaches, nothing_made, sender_makes, receiver_makes, has_row}
-use Rattle.oneshot_machine.specs.Phases.{Share, none, empty, filled, Slots, Row, SenderAt, fresh, sender_moves, sender_at, ReceiverAt, first, waits, claimed, overdue, receiver_at, receiver_next, receiver_moves}
+use Rattle.oneshot_machine.specs.Phases.{Share, none, empty, filled, Slots, Row, SenderAt, fresh, sender_moves, sender_at, ReceiverAt, first, waits, claimed, overdue, receiver_at, receiver_next}
+use Rattle.oneshot_machine.specs.Phases.{receiver_moves}
 use Rattle.oneshot_machine.specs.Slots.{In}
 use Rattle.oneshot_machine.specs.TableRows.{is_same_seen}
 use Rattle.oneshot_drive.specs.Wakes.{finds_waiting}

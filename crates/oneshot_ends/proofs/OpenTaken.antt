@@ -7,7 +7,8 @@ use Rattle.oneshot_machine.specs.declared.machine.Seen.{Seen}
 use Rattle.oneshot_machine.specs.declared.machine.Seen.TheVariants.{Word}
 use Rattle.oneshot_machine.specs.declared.states.Op.{Op}
 use Rattle.oneshot_machine.specs.Noted.{Noted, saw, is_same_op}
-use Rattle.oneshot_machine.specs.Phases.{Row, looked, blocked, storing, at_once, waited, swapped, by_future, by_poll, found_closed, ReceiverAt, first, here, waits, claimed, withdrew, overdue, full, unclosed, disconnected, resolved, gone, ended, no_receiver, receiver_moves, receiver_next, next_by, phase_from, receiver_at}
+use Rattle.oneshot_machine.specs.Phases.{Row, looked, blocked, storing, at_once, waited, swapped, by_future, by_poll, found_closed, ReceiverAt, first, here, waits, claimed, withdrew, overdue, full}
+use Rattle.oneshot_machine.specs.Phases.{unclosed, disconnected, resolved, gone, ended, no_receiver, receiver_moves, receiver_next, next_by, phase_from, receiver_at}
 use Rattle.oneshot_machine.specs.TableRows.{is_same_seen}
 use Rattle.oneshot_drive.specs.BetweenCalls.{is_open_at}
 use Rattle.oneshot_ends.specs.Taken.{has_found, TookAsFound}

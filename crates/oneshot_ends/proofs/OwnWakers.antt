@@ -9,7 +9,8 @@ use Rattle.oneshot_machine.proofs.GrownLogs.{phase_from-snoc}
 use Rattle.oneshot_machine.proofs.Sameness.{each_passes}
 use Rattle.oneshot_machine.specs.declared.states.Op.{Op}
 use Rattle.oneshot_machine.specs.Noted.{saw}
-use Rattle.oneshot_machine.specs.Phases.{Share, none, Row, ReceiverAt, first, here, looked, between, waits, blocked, full, swapped, storing, unclosed, disconnected, resolved, found_closed, receiver_at, receiver_next, receiver_moves}
+use Rattle.oneshot_machine.specs.Phases.{Share, none, Row, ReceiverAt, first, here, looked, between, waits, blocked, full, swapped, storing, unclosed, disconnected, resolved, found_closed}
+use Rattle.oneshot_machine.specs.Phases.{receiver_at, receiver_next, receiver_moves}
 use Rattle.oneshot_machine.specs.Slots.{IsSlot, is_away, is_vacant, Held, away, held, Finds, finds, Turns, stays_away, stays_vacant, stays_held, gives_room, gives_thing, gets_room, gets_thing}
 use Rattle.oneshot_drive.specs.BetweenCalls.{AtRest, Rests, rests_new, rests_open, rests_closed}
 use Rattle.oneshot_drive.specs.Grounds.{receiver_slots}

@@ -6,7 +6,8 @@ use Rattle.oneshot_errors.specs.declared.recv.RecvError.{RecvError}
 use Rattle.oneshot_errors.specs.declared.try_recv.TryRecvError.{TryRecvError}
 use Rattle.oneshot_errors.specs.declared.try_recv.TryRecvError.TheVariants as Tried
 use Rattle.oneshot_drive.specs.BetweenCalls.{IsClosedAt, IsOpenAt}
-use Rattle.oneshot_drive.specs.Polls.{LeavesPolled, leaves_received, leaves_resolved, leaves_over, leaves_gone, leaves_uncopied, leaves_waiting, leaves_its_copy, leaves_claimed, LeavesTried, tried_received, tried_resolved, tried_closed, tried_uncopied, tried_its_copy, tried_claimed, is_registered, StaysRegistered}
+use Rattle.oneshot_drive.specs.Polls.{LeavesPolled, leaves_received, leaves_resolved, leaves_over, leaves_gone, leaves_uncopied, leaves_waiting, leaves_its_copy, leaves_claimed, LeavesTried}
+use Rattle.oneshot_drive.specs.Polls.{tried_received, tried_resolved, tried_closed, tried_uncopied, tried_its_copy, tried_claimed, is_registered, StaysRegistered}
 use Rattle.oneshot_machine.specs.Noted.{Noted}
 use Rattle.oneshot_machine.specs.Phases.{ReceiverAt, receiver_at}
 

@@ -4,7 +4,8 @@ use Rattle.std.proofs.lemmas.List.{map-append}
 use Rattle.oneshot_machine.specs.declared.states.Op.{Op}
 use Rattle.oneshot_machine.specs.Logs.{Event, Grows, words, kept}
 use Rattle.oneshot_machine.specs.Phases.{ReceiverAt, receiver_at, Share}
-use Rattle.oneshot_machine.specs.Slots.{Held, away, vacant, held, IsSlot, is_away, is_vacant, is_held, Turns, stays_away, stays_vacant, stays_held, gives_room, gives_thing, gets_room, gets_thing, may, finds, ReceiverMay, ReceiverFinds}
+use Rattle.oneshot_machine.specs.Slots.{Held, away, vacant, held, IsSlot, is_away, is_vacant, is_held, Turns, stays_away, stays_vacant, stays_held, gives_room, gives_thing, gets_room, gets_thing, may}
+use Rattle.oneshot_machine.specs.Slots.{finds, ReceiverMay, ReceiverFinds}
 use Rattle.oneshot_drive.specs.Grounds.{StandsIn, ReceiverAsks, ReceiverMakes}
 use Rattle.oneshot_word.specs.Side.{Side}
 use Rattle.oneshot_ends.specs.declared.ground.task.Copied.{Copied}

@@ -18,7 +18,8 @@ use Rattle.oneshot_machine.specs.declared.machine.receiver.ReceiverPos.TheVarian
 use Rattle.oneshot_machine.specs.declared.machine.try_recv.TryPos.TheVariants.{TryLoad, Close, Take, CloseOnly}
 use Rattle.oneshot_machine.specs.declared.machine.by_ref.RefPos.TheVariants.{StartLoad, StartWrite, StartSwap, BackFull, BackClosed, Park, ParkLoad}
 use Rattle.oneshot_machine.specs.declared.machine.timed.TimedPos.TheVariants.{SumClock, Clock, TimedPark, TimedLoad, EndSwap, EndBack, LatePark, LateLoad}
-use Rattle.oneshot_machine.specs.declared.machine.future.FuturePos.TheVariants.{IntoFuture, PollLoad, PollCopy, PollWrite, PollExchange, PollBackFull, PollBackClosed, AgainCopy, AgainExchange, AgainBack, PollOwn, AsyncTryLoad}
+use Rattle.oneshot_machine.specs.declared.machine.future.FuturePos.TheVariants.{IntoFuture, PollLoad, PollCopy, PollWrite, PollExchange, PollBackFull, PollBackClosed, AgainCopy, AgainExchange}
+use Rattle.oneshot_machine.specs.declared.machine.future.FuturePos.TheVariants.{AgainBack, PollOwn, AsyncTryLoad}
 use Rattle.oneshot_machine.specs.declared.states.Op.{Op}
 use Rattle.oneshot_machine.specs.Called.{Form, as_receiver, as_future, stays}
 use Rattle.oneshot_machine.specs.Noted.{Noted, op_of, saw}

@@ -3,7 +3,8 @@ use Rattle.std.proofs.Common.{◌≡◌, ℕ, suc, ◌+◌, Bool, true, false, L
 use Rattle.std.specs.Prelude.{if◌then◌else◌, ◌≤◌}
 use Rattle.oneshot_ends.specs.declared.token.Half.{Half}
 use Rattle.oneshot_ends.specs.declared.token.Half.TheVariants.{Both, Parking, Waking}
-use Rattle.oneshot_ends.specs.Tokens.{TokenIs, undivided, to_come, there, taken, Act, divides, gives, takes, Turn, was_divided, was_given, was_taken, was_missed, Life, made, and_then, given_by, taken_by, times_given, times_taken, LivesLeadToStates, TokensAreGivenOnce}
+use Rattle.oneshot_ends.specs.Tokens.{TokenIs, undivided, to_come, there, taken, Act, divides, gives, takes, Turn, was_divided, was_given, was_taken, was_missed, Life, made, and_then, given_by}
+use Rattle.oneshot_ends.specs.Tokens.{taken_by, times_given, times_taken, LivesLeadToStates, TokensAreGivenOnce}
 use Rattle.oneshot_ends.proofs.Tokens.{Has, has, undivided_has, to_come_waking, there_parking}
 
 -- how often the token was given and taken, in each state

@@ -26,7 +26,8 @@ use Rattle.oneshot_ends.specs.declared.copies.TaskCopy.{TaskCopy}
 use Rattle.oneshot_ends.specs.declared.deadline.Deadline.TheVariants.{At, Passed, Never}
 use Rattle.oneshot_ends.specs.Copies.{HasMade, HasNoneOf}
 use Rattle.oneshot_ends.specs.Deadlines.{IsOver, IsFar, has_end, IsAfter, HasEnd}
-use Rattle.oneshot_ends.specs.Ends.{Channel, EndOf, FutureEndOf, channel_at, Failed, SenderGrew, ReceiverGrew, TimeoutRan, TimeoutGrew, HasCalls, SenderIsOrdered, ReceiverIsOrdered, WasRefused, IsClosed, IsOpen, IsDone, IsUnfinished}
+use Rattle.oneshot_ends.specs.Ends.{Channel, EndOf, FutureEndOf, channel_at, Failed, SenderGrew, ReceiverGrew, TimeoutRan, TimeoutGrew, HasCalls, SenderIsOrdered, ReceiverIsOrdered, WasRefused}
+use Rattle.oneshot_ends.specs.Ends.{IsClosed, IsOpen, IsDone, IsUnfinished}
 use Rattle.oneshot_ends.specs.Grounds.{channel_of, slot_of, state_of, lent, left_of, MayBeFreed, IsNewSender, IsNewReceiver}
 use Rattle.oneshot_ends.specs.Polling.{token_of, polled_state}
 

@@ -12,7 +12,8 @@ use Rattle.oneshot_laws.specs.Bounds.{are_calls_bounded, is_soon_answered}
 use Rattle.oneshot_law_examples.specs.Notation.{Example, sender, receiver, replying, twice}
 use Rattle.oneshot_law_examples.specs.LawExamples.{marks_in}
 use Rattle.oneshot_law_examples.specs.Traces.{sent_then_taken, waited_for_message, sent_before_waiting, woken_by_drop, sent_at_its_deadline}
-use Rattle.oneshot_law_examples.specs.FutureTraces.{dropped_while_finishing, dropped_once_finished, polled_while_finishing, sent_while_polling, sent_while_replacing, dropped_while_pending, both_dropped_while_pending, tried_while_pending, sent_to_one_that_left, dropped_to_one_that_left, polled_over_the_sender}
+use Rattle.oneshot_law_examples.specs.FutureTraces.{dropped_while_finishing, dropped_once_finished, polled_while_finishing, sent_while_polling, sent_while_replacing, dropped_while_pending}
+use Rattle.oneshot_law_examples.specs.FutureTraces.{both_dropped_while_pending, tried_while_pending, sent_to_one_that_left, dropped_to_one_that_left, polled_over_the_sender}
 
 abbrev pub is_bounded_in : Example → Bool
 is_bounded_in x = are_calls_bounded (marks_in x)

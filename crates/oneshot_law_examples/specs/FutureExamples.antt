@@ -14,13 +14,16 @@ use Rattle.oneshot_world.specs.declared.trace.WakerName.TheVariants.{Parker, Cop
 use Rattle.oneshot_world.specs.declared.trace.WakerPlace.TheVariants as W
 use Rattle.oneshot_laws.specs.WakerPlaces.{is_cell_kept}
 use Rattle.oneshot_laws.specs.Replies.{is_gone_after_got, is_got_after_full, is_gone_after_closed, is_nothing_only_if_open, is_dropped_once}
-use Rattle.oneshot_law_examples.specs.Notation.{Example, receiver, frees, without_block, carrying, replying, up_to, without, twice, put_behind, put_before, answered_by, unmoved_by, uncarried_by, carried_by}
+use Rattle.oneshot_law_examples.specs.Notation.{Example, receiver, frees, without_block, carrying, replying, up_to, without, twice, put_behind, put_before, answered_by, unmoved_by, uncarried_by}
+use Rattle.oneshot_law_examples.specs.Notation.{carried_by}
 use Rattle.oneshot_law_examples.specs.HistoryExamples.{acting_in, is_legal_trace}
 use Rattle.oneshot_law_examples.specs.LawExamples.{are_wakers_right, marks_in, is_block_right, are_lone_replies_right, fails_at, is_right}
 use Rattle.oneshot_law_examples.specs.WaitExamples.{told_by}
 use Rattle.oneshot_law_examples.specs.TimedExamples.{received_by}
 use Rattle.oneshot_law_examples.specs.UnwokenExamples.{up, aheads_by}
-use Rattle.oneshot_law_examples.specs.FutureTraces.{dropped_while_finishing, dropped_once_finished, polled_while_finishing, copy_refused, polled_by_another_task, sent_before_pending, sent_while_polling, sent_while_replacing, dropped_while_pending, woken_then_ready, both_dropped_while_pending, tried_while_pending, tried_beside_a_drop, sent_to_one_that_left, dropped_to_one_that_left, polled_over_the_sender}
+use Rattle.oneshot_law_examples.specs.FutureTraces.{dropped_while_finishing, dropped_once_finished, polled_while_finishing, copy_refused, polled_by_another_task, sent_before_pending}
+use Rattle.oneshot_law_examples.specs.FutureTraces.{sent_while_polling, sent_while_replacing, dropped_while_pending, woken_then_ready, both_dropped_while_pending, tried_while_pending}
+use Rattle.oneshot_law_examples.specs.FutureTraces.{tried_beside_a_drop, sent_to_one_that_left, dropped_to_one_that_left, polled_over_the_sender}
 
 -- THE RUNS: each trace is that of its scripts under its moves
 abbrev pub FuturesAreTold : Type 0

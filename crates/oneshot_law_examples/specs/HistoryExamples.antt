@@ -7,7 +7,8 @@ use Rattle.oneshot_machine.specs.declared.machine.Step.TheVariants as T
 use Rattle.oneshot_machine.specs.declared.states.Op.TheVariants as O
 use Rattle.oneshot_machine.specs.declared.states.TheConstants.{EMPTY}
 use Rattle.oneshot_world.specs.declared.trace.Entry.TheVariants as E
-use Rattle.oneshot_laws.specs.Object.{Action, Send, Sender_gone, Take, Take_and_go, Look_receiver_gone, Receiver_gone, Answer, Accepted, Returned, Message, Gone, Nothing_yet, Yes, Finished, Object, new_object, object_after, answer_of}
+use Rattle.oneshot_laws.specs.Object.{Action, Send, Sender_gone, Take, Take_and_go, Look_receiver_gone, Receiver_gone, Answer, Accepted, Returned, Message, Gone, Nothing_yet, Yes, Finished, Object}
+use Rattle.oneshot_laws.specs.Object.{new_object, object_after, answer_of}
 use Rattle.oneshot_laws.specs.Marks.{marks}
 use Rattle.oneshot_laws.specs.History.{history, has_legal_history}
 use Rattle.oneshot_laws.specs.Idle.{is_idle_right}

@@ -20,7 +20,9 @@ use Rattle.oneshot_laws.specs.Replies.{is_gone_after_got, is_got_after_full, is_
 use Rattle.oneshot_laws.specs.Alone.{are_lone_calls_right}
 use Rattle.oneshot_law_examples.specs.Notation.{Example, without, exchanged, twice, answered_by, unmoved_by, moved_by, finding_at, operating_at, up_to, sender, frees}
 use Rattle.oneshot_law_examples.specs.FutureTraces.{dropped_while_finishing, sent_to_one_that_left}
-use Rattle.oneshot_law_examples.specs.Traces.{sent_then_taken, nothing_moved, nothing_to_do, sent_to_nobody, both_dropped, dropped_then_tried, looked_at_both_ends, taken_from_the_error, dropped_with_the_error, dropped_unread, tried_again, closed_then_tried, sent_though_closed, received_at_once, waited_for_message, sent_before_waiting, dropped_before_waiting, woken_by_drop, still_waiting}
+use Rattle.oneshot_law_examples.specs.Traces.{sent_then_taken, nothing_moved, nothing_to_do, sent_to_nobody, both_dropped, dropped_then_tried, looked_at_both_ends, taken_from_the_error}
+use Rattle.oneshot_law_examples.specs.Traces.{dropped_with_the_error, dropped_unread, tried_again, closed_then_tried, sent_though_closed, received_at_once, waited_for_message, sent_before_waiting}
+use Rattle.oneshot_law_examples.specs.Traces.{dropped_before_waiting, woken_by_drop, still_waiting}
 
 abbrev pub marks_in : Example → List Mark
 marks_in x = marks x.calls x.entries

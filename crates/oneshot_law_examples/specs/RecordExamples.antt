@@ -28,7 +28,8 @@ use Rattle.oneshot_replay.specs.TraceView.{TraceView, IsReplayed}
 use Rattle.oneshot_replay.specs.declared.rest.Rest.{Rest}
 use Rattle.oneshot_replay.specs.declared.rest.Rest.TheVariants.{NotSent, Delivered, Dropped}
 use Rattle.oneshot_law_examples.specs.Notation.{Example, move_in, up_to, without, exchanged, twice, answered_by, unmoved_by, moved_by, uncarried_by}
-use Rattle.oneshot_law_examples.specs.Traces.{sent_then_taken, nothing_moved, dropped_unread, looked_at_both_ends, tried_again, closed_then_tried, sent_though_closed, waited_for_message, still_waiting}
+use Rattle.oneshot_law_examples.specs.Traces.{sent_then_taken, nothing_moved, dropped_unread, looked_at_both_ends, tried_again, closed_then_tried, sent_though_closed, waited_for_message}
+use Rattle.oneshot_law_examples.specs.Traces.{still_waiting}
 use Rattle.oneshot_law_examples.specs.FutureTraces.{dropped_while_pending}
 use Rattle.oneshot_law_examples.specs.BoundExamples.{tried_then_received}
 use Rattle.oneshot_law_examples.specs.LawExamples.{are_wakers_right}

@@ -12,7 +12,9 @@ use Rattle.oneshot_world.specs.declared.trace.WakerPlace.TheVariants as W
 use Rattle.oneshot_law_examples.specs.Notation.{Example, sender, receiver, moving, carrying, waking_own, replying, up_to, answered_by, changed_at}
 use Rattle.oneshot_law_examples.specs.LawExamples.{is_right}
 use Rattle.oneshot_law_examples.specs.UnwokenExamples.{up, is_woken_in, is_unwoken_behind}
-use Rattle.oneshot_law_examples.specs.FutureTraces.{dropped_while_finishing, dropped_once_finished, polled_while_finishing, copy_refused, polled_by_another_task, sent_before_pending, sent_while_polling, sent_while_replacing, dropped_while_pending, woken_then_ready, both_dropped_while_pending, tried_while_pending, tried_beside_a_drop, sent_to_one_that_left, dropped_to_one_that_left, polled_over_the_sender}
+use Rattle.oneshot_law_examples.specs.FutureTraces.{dropped_while_finishing, dropped_once_finished, polled_while_finishing, copy_refused, polled_by_another_task, sent_before_pending}
+use Rattle.oneshot_law_examples.specs.FutureTraces.{sent_while_polling, sent_while_replacing, dropped_while_pending, woken_then_ready, both_dropped_while_pending, tried_while_pending}
+use Rattle.oneshot_law_examples.specs.FutureTraces.{tried_beside_a_drop, sent_to_one_that_left, dropped_to_one_that_left, polled_over_the_sender}
 use Rattle.oneshot_law_examples.specs.FutureExamples.{kept_the_old_waker, refused_and_silent}
 
 -- The second poll replies "pending", and leaves the first task's waker, which the sender then uses.

@@ -14,7 +14,8 @@ use Rattle.oneshot_law_examples.specs.HistoryExamples.{acting_in, is_legal_trace
 use Rattle.oneshot_law_examples.specs.LawExamples.{are_wakers_right, marks_in, fails_at, is_right, are_lone_replies_right}
 use Rattle.oneshot_laws.specs.Replies.{is_gone_after_got, is_got_after_full, is_gone_after_closed, is_nothing_only_if_open}
 use Rattle.oneshot_law_examples.specs.Notation.{Example, receiver, replying, up_to, without, answered_by, uncarried_by}
-use Rattle.oneshot_law_examples.specs.Traces.{waited_past_its_deadline, sent_at_its_deadline, ran_out_then_taken, never_ran_out, ran_out_then_dropped, sent_before_its_deadline, dropped_at_its_deadline, tried_in_vain, looked_at_both_ends, closed_then_tried}
+use Rattle.oneshot_law_examples.specs.Traces.{waited_past_its_deadline, sent_at_its_deadline, ran_out_then_taken, never_ran_out, ran_out_then_dropped, sent_before_its_deadline}
+use Rattle.oneshot_law_examples.specs.Traces.{dropped_at_its_deadline, tried_in_vain, looked_at_both_ends, closed_then_tried}
 use Rattle.oneshot_law_examples.specs.WaitExamples.{told_by}
 
 -- THE RUNS: each trace is that of its scripts under its moves

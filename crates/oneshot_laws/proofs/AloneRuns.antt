@@ -1,5 +1,6 @@
 -- In each run, a call during which the other end makes no step does just what the object does.
-use Rattle.oneshot_laws.proofs.Names.{◌≡◌, Bool, true, false, not, ◌&&◌, ◌||◌, List, [], ◌∷◌, Option, Some, None, is_some, map, refl, if◌then◌else◌, End, and_right, both, only_if, is_same_end, Object, is_same_object, action_of, stepped, Mark, side, ends, agrees, lone_reply, is_lone_call, are_lone_calls_right}
+use Rattle.oneshot_laws.proofs.Names.{◌≡◌, Bool, true, false, not, ◌&&◌, ◌||◌, List, [], ◌∷◌, Option, Some, None, is_some, map, refl, if◌then◌else◌, End, and_right, both, only_if, is_same_end, Object}
+use Rattle.oneshot_laws.proofs.Names.{is_same_object, action_of, stepped, Mark, side, ends, agrees, lone_reply, is_lone_call, are_lone_calls_right}
 use Rattle.oneshot_laws.proofs.Coding.{pairs, by_parts, or_none, both_ends}
 use Rattle.oneshot_laws.proofs.Glanced.{Law, Passes, Nameless, nameless_of, LawExplored, all_glanced, passed, holds_by}
 use Rattle.oneshot_laws.proofs.Glances.{Glance, glance_of}

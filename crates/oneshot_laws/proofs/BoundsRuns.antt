@@ -1,9 +1,12 @@
 -- Each call performs at most its bound of operations on the word: the reader counts what each end's call has left.
-use Rattle.oneshot_laws.proofs.Names.{◌≡◌, ℕ, zero, suc, Bool, true, false, not, ◌&&◌, ◌||◌, List, [], ◌∷◌, map, Option, Some, None, refl, ◌∙◌, ap, if◌then◌else◌, End, Sender, Receiver, Call, Classes, as_call, as_made, Made, and_left, and_right, both, is_same_end, is_same_flag, Mark, side, call_marks, until_reply, at_most, operates, bound_of, is_within, is_bounded, are_calls_bounded}
+use Rattle.oneshot_laws.proofs.Names.{◌≡◌, ℕ, zero, suc, Bool, true, false, not, ◌&&◌, ◌||◌, List, [], ◌∷◌, map, Option, Some, None, refl, ◌∙◌, ap, if◌then◌else◌, End, Sender, Receiver, Call, Classes}
+use Rattle.oneshot_laws.proofs.Names.{as_call, as_made, Made, and_left, and_right, both, is_same_end, is_same_flag, Mark, side, call_marks, until_reply, at_most, operates, bound_of, is_within}
+use Rattle.oneshot_laws.proofs.Names.{is_bounded, are_calls_bounded}
 use Rattle.oneshot_laws.proofs.Glanced.{Passes, Nameless, of_call, LawExplored, all_glanced, passed, holds_by}
 use Rattle.oneshot_laws.proofs.Glances.{glance_of}
 use Rattle.oneshot_laws.proofs.WatchedRuns.{EachRun}
-use Rattle.oneshot_laws.proofs.Budgets.{Left, Resting, Unbounded, Counted, counted, begun, under_way, is_resting, can, spend, may_make, spent, left_then, Budget, left_by, left_at, fits, budget_then, at_rest, budget_law}
+use Rattle.oneshot_laws.proofs.Budgets.{Left, Resting, Unbounded, Counted, counted, begun, under_way, is_resting, can, spend, may_make, spent, left_then, Budget, left_by, left_at, fits, budget_then}
+use Rattle.oneshot_laws.proofs.Budgets.{at_rest, budget_law}
 
 -- one more mark of a call
 pub pay : (test : Mark → Bool) (n : ℕ) (m : Mark) (later : List Mark) → can n (test m) ≡ true

@@ -1,5 +1,7 @@
 -- After the sender's last operation each call of the receiver replies soon: the reader counts what it has left.
-use Rattle.oneshot_laws.proofs.Names.{◌≡◌, ℕ, zero, suc, Bool, true, false, not, ◌&&◌, ◌||◌, List, [], ◌∷◌, map, Some, None, refl, ap, subst, if◌then◌else◌, End, Sender, Receiver, Classes, as_made, Made, and_left, and_right, both, is_same_end, is_word, Mark, finishes, call_marks, until_reply, at_most, operates, is_senders_last, each_move, answers_soon, is_soon_answered}
+use Rattle.oneshot_laws.proofs.Names.{◌≡◌, ℕ, zero, suc, Bool, true, false, not, ◌&&◌, ◌||◌, List, [], ◌∷◌, map, Some, None, refl, ap, subst, if◌then◌else◌, End, Sender, Receiver, Classes, as_made}
+use Rattle.oneshot_laws.proofs.Names.{Made, and_left, and_right, both, is_same_end, is_word, Mark, finishes, call_marks, until_reply, at_most, operates, is_senders_last, each_move, answers_soon}
+use Rattle.oneshot_laws.proofs.Names.{is_soon_answered}
 use Rattle.oneshot_laws.proofs.Budgets.{can, spend}
 use Rattle.oneshot_laws.proofs.BoundsRuns.{pay, no_more}
 use Rattle.oneshot_laws.proofs.Coding.{pairs, by_parts, flags, numbers_below}

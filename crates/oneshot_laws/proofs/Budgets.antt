@@ -1,5 +1,6 @@
 -- The operations on the word that each end's call has left, as a reader of the trace counts them.
-use Rattle.oneshot_laws.proofs.Names.{◌≡◌, ℕ, zero, suc, Bool, true, false, not, ◌&&◌, Option, Some, None, refl, if◌then◌else◌, End, Sender, Receiver, Call, Made, bound_of, is_word, is_same_flag, until_reply}
+use Rattle.oneshot_laws.proofs.Names.{◌≡◌, ℕ, zero, suc, Bool, true, false, not, ◌&&◌, Option, Some, None, refl, if◌then◌else◌, End, Sender, Receiver, Call, Made, bound_of, is_word, is_same_flag}
+use Rattle.oneshot_laws.proofs.Names.{until_reply}
 use Rattle.oneshot_laws.proofs.Coding.{Coding, pairs, by_parts, or_none, numbers_below}
 use Rattle.oneshot_laws.proofs.Glanced.{Law}
 use Rattle.oneshot_laws.proofs.Glances.{Glance}

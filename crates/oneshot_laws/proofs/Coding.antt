@@ -1,5 +1,7 @@
 -- Codes that sort the values of a type while the checker explores, and tests that only equal values pass.
-use Rattle.oneshot_laws.proofs.Names.{◌≡◌, ℕ, ◌+◌, ◌*◌, ◌==◌, Bool, true, false, ◌&&◌, List, [], ◌∷◌, Option, Some, None, refl, sym, ◌∙◌, ap, get_or, eqb-true, End, Sender, Receiver, Reply, bool_code, Place, NotSent, InCell, InError, Delivered, FromError, and_left, and_right, same_by, reply_code, place_code, Content, Open, Full, Closed, content_code, is_same_flag}
+use Rattle.oneshot_laws.proofs.Names.{◌≡◌, ℕ, ◌+◌, ◌*◌, ◌==◌, Bool, true, false, ◌&&◌, List, [], ◌∷◌, Option, Some, None, refl, sym, ◌∙◌, ap, get_or, eqb-true, End, Sender, Receiver, Reply, bool_code}
+use Rattle.oneshot_laws.proofs.Names.{Place, NotSent, InCell, InError, Delivered, FromError, and_left, and_right, same_by, reply_code, place_code, Content, Open, Full, Closed, content_code}
+use Rattle.oneshot_laws.proofs.Names.{is_same_flag}
 use Rattle.oneshot_machine.specs.declared.machine.Reply.TheVariants as R
 use Rattle.oneshot_world.specs.declared.trace.Place.TheVariants.{Dropped}
 

@@ -1,5 +1,7 @@
 -- Claims on what a trace has shown once both ends and the error have ended, for any state kept and any classes.
-use Rattle.oneshot_laws.proofs.Names.{◌≡◌, Bool, true, false, ◌&&◌, ◌||◌, List, [], ◌∷◌, Option, is_some, map, refl, ◌∙◌, ap, subst, Call, calls_of, Classes, all_alike, World, Tells, opening, opening_place, Move, ReceiverScript, SenderScript, Entry, Place, and_left, and_right, only_if, is_reply, is_end_of_sender, is_end_of_receiver, is_end_of_error, Mark, marks, has_answered, is_refused, all_ended}
+use Rattle.oneshot_laws.proofs.Names.{◌≡◌, Bool, true, false, ◌&&◌, ◌||◌, List, [], ◌∷◌, Option, is_some, map, refl, ◌∙◌, ap, subst, Call, calls_of, Classes, all_alike, World, Tells, opening}
+use Rattle.oneshot_laws.proofs.Names.{opening_place, Move, ReceiverScript, SenderScript, Entry, Place, and_left, and_right, only_if, is_reply, is_end_of_sender, is_end_of_receiver, is_end_of_error}
+use Rattle.oneshot_laws.proofs.Names.{Mark, marks, has_answered, is_refused, all_ended}
 use Rattle.oneshot_machine.specs.declared.machine.Reply.TheVariants as R
 use Rattle.oneshot_laws.proofs.Coding.{Coding, pairs, by_parts, flags}
 use Rattle.oneshot_laws.proofs.Glanced.{Law, Passes, as_glance, of_call, Passed}

@@ -1,5 +1,6 @@
 -- A copy that an entry does not make is not named by that entry.
-use Rattle.oneshot_laws.proofs.Names.{◌≡◌, ℕ, ◌==◌, if◌then◌else◌, Bool, true, false, Option, Some, None, refl, eq-eqb, option_map, Step, WakerMove, waker_move, back_to, told_with, WakerName, Parker, Copy, Wakers}
+use Rattle.oneshot_laws.proofs.Names.{◌≡◌, ℕ, ◌==◌, if◌then◌else◌, Bool, true, false, Option, Some, None, refl, eq-eqb, option_map, Step, WakerMove, waker_move, back_to, told_with, WakerName, Parker}
+use Rattle.oneshot_laws.proofs.Names.{Copy, Wakers}
 use Rattle.oneshot_machine.specs.declared.machine.Step.TheVariants as T
 use Rattle.oneshot_machine.specs.declared.states.Op.TheVariants as O
 use Rattle.oneshot_world.specs.declared.trace.WakerPlace.TheVariants as W

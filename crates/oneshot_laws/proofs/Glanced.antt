@@ -1,5 +1,7 @@
 -- Laws as readers of glances, which the checker explores with the world and the reader of histories, by classes.
-use Rattle.oneshot_laws.proofs.Names.{◌≡◌, ℕ, Bool, true, ◌&&◌, List, [], ◌∷◌, map, Option, refl, sym, ◌∙◌, ap, subst, End, Sender, Receiver, Call, Of_sender, Of_receiver, Poll, Unanswered, calls_of, Classes, all_alike, as_call, as_made, Tree, World, Tells, opening, opening_place, by_end, Move, ReceiverScript, SenderScript, Entry, Made, Place, and_left, and_right, Mark, marks, call_under_way, Object}
+use Rattle.oneshot_laws.proofs.Names.{◌≡◌, ℕ, Bool, true, ◌&&◌, List, [], ◌∷◌, map, Option, refl, sym, ◌∙◌, ap, subst, End, Sender, Receiver, Call, Of_sender, Of_receiver, Poll, Unanswered, calls_of}
+use Rattle.oneshot_laws.proofs.Names.{Classes, all_alike, as_call, as_made, Tree, World, Tells, opening, opening_place, by_end, Move, ReceiverScript, SenderScript, Entry, Made, Place, and_left}
+use Rattle.oneshot_laws.proofs.Names.{and_right, Mark, marks, call_under_way, Object}
 use Rattle.oneshot_machine.specs.declared.machine.receiver.ReceiverStart.TheVariants as RC
 use Rattle.oneshot_machine.specs.declared.machine.sender.SenderCall.TheVariants as SC
 use Rattle.oneshot_world.specs.declared.trace.Entry.TheVariants.{Idle, Made as Made_entry}

@@ -1,5 +1,6 @@
 -- Glances: the part of a mark that looks only back, from the mark and as the reader of histories sees it.
-use Rattle.oneshot_laws.proofs.Names.{Bool, not, ◌&&◌, ◌||◌, List, [], ◌∷◌, Sender, Receiver, Call, Unanswered, by_end, Entry, Made, Object, is_end_of_sender, is_end_of_receiver, Mark, call_under_way, object_then, acts_last}
+use Rattle.oneshot_laws.proofs.Names.{Bool, not, ◌&&◌, ◌||◌, List, [], ◌∷◌, Sender, Receiver, Call, Unanswered, by_end, Entry, Made, Object, is_end_of_sender, is_end_of_receiver, Mark, call_under_way}
+use Rattle.oneshot_laws.proofs.Names.{object_then, acts_last}
 use Rattle.oneshot_world.specs.declared.trace.Entry.TheVariants.{Idle, Made as Made_entry}
 use Rattle.oneshot_laws.proofs.HistoryReader.{kind, Watch, Reader, hits, object_by, watch_at, reads}
 use Rattle.oneshot_laws.proofs.Watched.{left_after}

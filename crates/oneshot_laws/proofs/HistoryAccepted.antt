@@ -1,5 +1,9 @@
 -- A trace that the reader accepts has a legal history, whatever made it: this file has no table and no world.
-use Rattle.oneshot_laws.proofs.Names.{◌≡◌, ℕ, ◌+◌, Bool, true, false, not, ◌&&◌, ◌||◌, List, [], ◌∷◌, ◌++◌, map, Option, Some, None, is_some, refl, sym, ◌∙◌, ap, subst, if◌then◌else◌, list_all, End, Sender, Receiver, Reply, Call, Of_sender, Of_receiver, Poll, Stray, Unanswered, is_none_left, left_by, by_end, Entry, Made, and_left, and_right, both, only_if, Object, nothing_yet_of, fixed_reply_of, is_stray, is_end_of_sender, is_end_of_receiver, rule, works_on_word, until_reply, to_reply, Reading, read_by, Mark, mark_at, marks_from, call_under_way, object_then, ends, agrees, object_reply, is_object_step, is_legal, is_complete, is_right_outside, is_covered, history, has_legal_history, acts_last}
+use Rattle.oneshot_laws.proofs.Names.{◌≡◌, ℕ, ◌+◌, Bool, true, false, not, ◌&&◌, ◌||◌, List, [], ◌∷◌, ◌++◌, map, Option, Some, None, is_some, refl, sym, ◌∙◌, ap, subst, if◌then◌else◌, list_all, End}
+use Rattle.oneshot_laws.proofs.Names.{Sender, Receiver, Reply, Call, Of_sender, Of_receiver, Poll, Stray, Unanswered, is_none_left, left_by, by_end, Entry, Made, and_left, and_right, both, only_if}
+use Rattle.oneshot_laws.proofs.Names.{Object, nothing_yet_of, fixed_reply_of, is_stray, is_end_of_sender, is_end_of_receiver, rule, works_on_word, until_reply, to_reply, Reading, read_by, Mark}
+use Rattle.oneshot_laws.proofs.Names.{mark_at, marks_from, call_under_way, object_then, ends, agrees, object_reply, is_object_step, is_legal, is_complete, is_right_outside, is_covered, history}
+use Rattle.oneshot_laws.proofs.Names.{has_legal_history, acts_last}
 use Rattle.oneshot_machine.specs.declared.machine.receiver.ReceiverStart.TheVariants as RC
 use Rattle.oneshot_machine.specs.declared.machine.sender.SenderCall.TheVariants as SC
 use Rattle.oneshot_world.specs.declared.trace.Entry.TheVariants.{Idle, Made as Made_entry}

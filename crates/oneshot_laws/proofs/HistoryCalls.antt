@@ -1,5 +1,7 @@
 -- What the definition states of an entry that the reader accepts, by the kind of its call.
-use Rattle.oneshot_laws.proofs.Names.{◌≡◌, Bool, true, false, not, ◌&&◌, ◌||◌, List, [], Option, Some, None, is_some, refl, list_any, Reply, Call, Of_sender, Of_receiver, Poll, Stray, Made, and_left, and_right, only_if, is_nothing_yet, Object, nothing_yet_of, First, Never, rule, receive_rule, works_on_word, finds_full_or_closed, until_reply, reply_among, loads, finishes, swaps_closed_in, agrees, is_object_step}
+use Rattle.oneshot_laws.proofs.Names.{◌≡◌, Bool, true, false, not, ◌&&◌, ◌||◌, List, [], Option, Some, None, is_some, refl, list_any, Reply, Call, Of_sender, Of_receiver, Poll, Stray, Made, and_left}
+use Rattle.oneshot_laws.proofs.Names.{and_right, only_if, is_nothing_yet, Object, nothing_yet_of, First, Never, rule, receive_rule, works_on_word, finds_full_or_closed, until_reply, reply_among}
+use Rattle.oneshot_laws.proofs.Names.{loads, finishes, swaps_closed_in, agrees, is_object_step}
 use Rattle.oneshot_machine.specs.declared.machine.receiver.ReceiverStart.TheVariants as RC
 use Rattle.oneshot_machine.specs.declared.machine.sender.SenderCall.TheVariants as SC
 use Rattle.oneshot_laws.proofs.HistoryReader.{Receives, kind, Watch, due, hits, owed, owes_then, object_if, object_by, pays, pays_receive, may_owe, has_reply, accepts_call}

@@ -1,5 +1,7 @@
 -- What the definition states of one entry that the reader accepts, without table and world.
-use Rattle.oneshot_laws.proofs.Names.{◌≡◌, Bool, true, false, not, ◌&&◌, ◌||◌, List, [], ◌∷◌, ◌++◌, Option, Some, None, is_some, refl, sym, ◌∙◌, ap, subst, list_any, Reply, Call, Of_receiver, Poll, is_none_left, Made, and_left, and_right, only_if, says_nothing_yet, is_nothing_yet, Object, Content, Open, Full, Closed, Take, is_open_content, object_after, action_of, nothing_yet_of, reply_on, stepped, Rule, First, Last, acts, has_acted, receive_rule, works_on_word, finds_full_or_closed, agrees, is_object_step}
+use Rattle.oneshot_laws.proofs.Names.{◌≡◌, Bool, true, false, not, ◌&&◌, ◌||◌, List, [], ◌∷◌, ◌++◌, Option, Some, None, is_some, refl, sym, ◌∙◌, ap, subst, list_any, Reply, Call, Of_receiver, Poll}
+use Rattle.oneshot_laws.proofs.Names.{is_none_left, Made, and_left, and_right, only_if, says_nothing_yet, is_nothing_yet, Object, Content, Open, Full, Closed, Take, is_open_content, object_after}
+use Rattle.oneshot_laws.proofs.Names.{action_of, nothing_yet_of, reply_on, stepped, Rule, First, Last, acts, has_acted, receive_rule, works_on_word, finds_full_or_closed, agrees, is_object_step}
 use Rattle.oneshot_machine.specs.declared.machine.receiver.ReceiverStart.TheVariants as RC
 use Rattle.oneshot_laws.proofs.HistoryReader.{kind, Watch, due, hit, owed, object_if, may_say, pays_receive, may_owe, has_reply}
 use Rattle.oneshot_laws.proofs.HistoryOwed.{fine_as, not_owed}

@@ -1,8 +1,11 @@
 -- What a call owes since it acted is its reply, if it replies; a receive's "nothing yet" is the reply of its kind.
-use Rattle.oneshot_laws.proofs.Names.{◌≡◌, Bool, true, false, not, ◌&&◌, ◌||◌, List, [], ◌∷◌, Option, Some, None, is_some, refl, ◌∙◌, ap, subst, End, Sender, Receiver, Reply, Call, Unanswered, by_end, Entry, Made, and_left, and_right, is_same_end, says_nothing_yet, is_nothing_yet, Object, Content, nothing_yet_of, until_reply, to_reply, reply_among, call_under_way, works_on_word, finds_full_or_closed, agrees}
+use Rattle.oneshot_laws.proofs.Names.{◌≡◌, Bool, true, false, not, ◌&&◌, ◌||◌, List, [], ◌∷◌, Option, Some, None, is_some, refl, ◌∙◌, ap, subst, End, Sender, Receiver, Reply, Call, Unanswered, by_end}
+use Rattle.oneshot_laws.proofs.Names.{Entry, Made, and_left, and_right, is_same_end, says_nothing_yet, is_nothing_yet, Object, Content, nothing_yet_of, until_reply, to_reply, reply_among}
+use Rattle.oneshot_laws.proofs.Names.{call_under_way, works_on_word, finds_full_or_closed, agrees}
 use Rattle.oneshot_world.specs.declared.trace.Entry.TheVariants.{Idle, Made as Made_entry}
 use Rattle.oneshot_laws.proofs.Coding.{replies}
-use Rattle.oneshot_laws.proofs.HistoryReader.{histories, Kind, Acts_first, Receives, Answers_always, Is_none, kind, Watch, Reader, due, hit, owed, owes_then, watch_at, pays, may_say, pays_receive, may_owe, has_reply, accepts_as, accepts_call, accepts, reads, hits}
+use Rattle.oneshot_laws.proofs.HistoryReader.{histories, Kind, Acts_first, Receives, Answers_always, Is_none, kind, Watch, Reader, due, hit, owed, owes_then, watch_at, pays, may_say, pays_receive}
+use Rattle.oneshot_laws.proofs.HistoryReader.{may_owe, has_reply, accepts_as, accepts_call, accepts, reads, hits}
 use Rattle.oneshot_laws.proofs.Watched.{Accepts, left_after}
 
 abbrev pub Accepted : Reader → Unanswered → Unanswered → List Entry → Type 0

@@ -1,6 +1,9 @@
 -- A reader of the trace, entry by entry, with finitely many states: the object, and what the call under way
 -- at each end owes since it acted.
-use Rattle.oneshot_laws.proofs.Names.{◌≡◌, ℕ, Bool, true, false, not, ◌&&◌, ◌||◌, Option, Some, None, is_some, refl, ap, End, Sender, Receiver, Reply, Call, Of_sender, Of_receiver, Poll, Stray, Classes, as_call, as_made, Made, is_same_reply, says_nothing_yet, Action, Send, Sender_gone, Take, Take_and_go, Look_full, Look_closed, Look_receiver_gone, Receiver_gone, Object, Content, new_object, is_open_content, action_of, nothing_yet_of, reply_on, stepped, fixed_reply_of, loads, finishes, swaps_closed_in, works_on_word, finds_full_or_closed, until_reply, agrees}
+use Rattle.oneshot_laws.proofs.Names.{◌≡◌, ℕ, Bool, true, false, not, ◌&&◌, ◌||◌, Option, Some, None, is_some, refl, ap, End, Sender, Receiver, Reply, Call, Of_sender, Of_receiver, Poll, Stray}
+use Rattle.oneshot_laws.proofs.Names.{Classes, as_call, as_made, Made, is_same_reply, says_nothing_yet, Action, Send, Sender_gone, Take, Take_and_go, Look_full, Look_closed, Look_receiver_gone}
+use Rattle.oneshot_laws.proofs.Names.{Receiver_gone, Object, Content, new_object, is_open_content, action_of, nothing_yet_of, reply_on, stepped, fixed_reply_of, loads, finishes, swaps_closed_in}
+use Rattle.oneshot_laws.proofs.Names.{works_on_word, finds_full_or_closed, until_reply, agrees}
 use Rattle.oneshot_machine.specs.declared.machine.receiver.ReceiverStart.TheVariants as RC
 use Rattle.oneshot_machine.specs.declared.machine.sender.SenderCall.TheVariants as SC
 use Rattle.oneshot_laws.proofs.Coding.{Coding, pairs, by_parts, or_none, flags, replies, contents}

@@ -1,5 +1,6 @@
 -- Each run has a legal history: the reader accepts it, as the checker computes over world and reader together.
-use Rattle.oneshot_laws.proofs.Names.{◌≡◌, true, List, [], refl, Unanswered, calls_of, all_alike, World, Tells, opening, Move, ReceiverScript, SenderScript, Entry, marks, sender_reading, receiver_reading, call_under_way, has_legal_history}
+use Rattle.oneshot_laws.proofs.Names.{◌≡◌, true, List, [], refl, Unanswered, calls_of, all_alike, World, Tells, opening, Move, ReceiverScript, SenderScript, Entry, marks, sender_reading}
+use Rattle.oneshot_laws.proofs.Names.{receiver_reading, call_under_way, has_legal_history}
 use Rattle.oneshot_laws.proofs.HistoryReader.{new_reader, new_watch, histories, histories_nameless}
 use Rattle.oneshot_laws.proofs.HistoryEntries.{FollowsAt}
 use Rattle.oneshot_laws.proofs.HistoryAccepted.{MarksRight, all_right, legal}

@@ -1,6 +1,8 @@
 -- Only holders use the block, its last holder frees it, nothing uses it afterwards, and once all have ended
 -- it is freed.
-use Rattle.oneshot_laws.proofs.Names.{◌≡◌, Bool, true, false, not, ◌&&◌, ◌||◌, List, [], ◌∷◌, map, refl, subst, list_any, list_all, calls_of, by_end, and_left, and_right, both, only_if, is_word, is_on_a_cell, is_free, Mark, marks, after_each, all_ended, Holders, both_hold, holds, other, is_here, uses_block, frees, is_held, is_free_last, is_freed, is_freed_at_end, is_freed_right}
+use Rattle.oneshot_laws.proofs.Names.{◌≡◌, Bool, true, false, not, ◌&&◌, ◌||◌, List, [], ◌∷◌, map, refl, subst, list_any, list_all, calls_of, by_end, and_left, and_right, both, only_if, is_word}
+use Rattle.oneshot_laws.proofs.Names.{is_on_a_cell, is_free, Mark, marks, after_each, all_ended, Holders, both_hold, holds, other, is_here, uses_block, frees, is_held, is_free_last, is_freed}
+use Rattle.oneshot_laws.proofs.Names.{is_freed_at_end, is_freed_right}
 use Rattle.oneshot_laws.proofs.Coding.{Coding, pairs, by_parts, flags}
 use Rattle.oneshot_laws.proofs.EndedRuns.{Ending, kept, own_after, nothing_asked, at_the_end, or_more}
 use Rattle.oneshot_laws.proofs.Glanced.{Law, Passes, Nameless, nameless_of, Passed, holds_by}

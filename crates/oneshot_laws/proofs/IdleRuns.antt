@@ -1,5 +1,9 @@
 -- In each run an end is idle only if its script has nothing left.
-use Rattle.oneshot_laws.proofs.Names.{◌≡◌, ℕ, ◌+◌, Bool, true, false, List, [], ◌∷◌, Option, None, refl, ap, option_and_then, receiver_step, sender_step, End, Sender, Receiver, Call, Of_sender, Of_receiver, first, is_none_left, left_by, as_sender_call, as_receiver_call, calls_of, sender_has, receiver_has, IsReached, sender_position, receiver_position, reply_of, World, Tells_from, Tells, opening, side_of, receiver_told, Move, ReceiverScript, SenderScript, ReceiverState, SenderState, Entry, Place, both, sender_world, receiver_world, opening_reached, Turned, sender_idle, sender_made, receiver_idle, receiver_made, turned, turned_reaches, is_idle_right_from, is_idle_right, Reading, sender_reading, receiver_reading}
+use Rattle.oneshot_laws.proofs.Names.{◌≡◌, ℕ, ◌+◌, Bool, true, false, List, [], ◌∷◌, Option, None, refl, ap, option_and_then, receiver_step, sender_step, End, Sender, Receiver, Call, Of_sender}
+use Rattle.oneshot_laws.proofs.Names.{Of_receiver, first, is_none_left, left_by, as_sender_call, as_receiver_call, calls_of, sender_has, receiver_has, IsReached, sender_position, receiver_position}
+use Rattle.oneshot_laws.proofs.Names.{reply_of, World, Tells_from, Tells, opening, side_of, receiver_told, Move, ReceiverScript, SenderScript, ReceiverState, SenderState, Entry, Place, both}
+use Rattle.oneshot_laws.proofs.Names.{sender_world, receiver_world, opening_reached, Turned, sender_idle, sender_made, receiver_idle, receiver_made, turned, turned_reaches, is_idle_right_from}
+use Rattle.oneshot_laws.proofs.Names.{is_idle_right, Reading, sender_reading, receiver_reading}
 use Rattle.oneshot_world.specs.declared.state.ReceiverState.TheVariants as RS
 use Rattle.oneshot_world.specs.declared.state.SenderState.TheVariants as SS
 

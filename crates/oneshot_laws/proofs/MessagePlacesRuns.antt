@@ -1,6 +1,9 @@
 -- The message is always in one place: it begins as not sent, makes only allowed moves, and ends with somebody
 -- once all have ended.
-use Rattle.oneshot_laws.proofs.Names.{◌≡◌, ℕ, zero, suc, ◌+◌, Bool, true, false, ◌&&◌, ◌||◌, List, [], ◌∷◌, ◌++◌, Option, Some, None, is_some, map, replicate, refl, sym, ◌∙◌, ap, subst, list_any, filter_map, cons_option, Call, Of_sender, calls_of, sender_last, Classes, World, Tells, opening, opening_place, Move, ReceiverScript, SenderLast, SenderScript, Entry, Place, NotSent, both, only_if, Object, is_send, Reading, Mark, marks, marks_from, all_ended, is_path, last_place, is_same_place, is_message_move, message_moves, is_message_followed, last_message_place, is_message_end, is_message_ended}
+use Rattle.oneshot_laws.proofs.Names.{◌≡◌, ℕ, zero, suc, ◌+◌, Bool, true, false, ◌&&◌, ◌||◌, List, [], ◌∷◌, ◌++◌, Option, Some, None, is_some, map, replicate, refl, sym, ◌∙◌, ap, subst, list_any}
+use Rattle.oneshot_laws.proofs.Names.{filter_map, cons_option, Call, Of_sender, calls_of, sender_last, Classes, World, Tells, opening, opening_place, Move, ReceiverScript, SenderLast, SenderScript}
+use Rattle.oneshot_laws.proofs.Names.{Entry, Place, NotSent, both, only_if, Object, is_send, Reading, Mark, marks, marks_from, all_ended, is_path, last_place, is_same_place, is_message_move}
+use Rattle.oneshot_laws.proofs.Names.{message_moves, is_message_followed, last_message_place, is_message_end, is_message_ended}
 use Rattle.oneshot_machine.specs.declared.machine.sender.SenderCall.TheVariants as SC
 use Rattle.oneshot_world.specs.declared.script.SenderLast.TheVariants as SL
 use Rattle.oneshot_world.specs.declared.trace.Entry.TheVariants.{Idle, Made as Made_entry}

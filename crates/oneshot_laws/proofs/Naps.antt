@@ -1,5 +1,7 @@
 -- What the definition states of the last poll of a number is the last state of a reader of that number.
-use Rattle.oneshot_laws.proofs.Names.{◌≡◌, ℕ, ◌==◌, Bool, true, false, not, ◌&&◌, ◌||◌, List, [], ◌∷◌, map, Option, Some, None, is_some, refl, ◌∙◌, ap, if◌then◌else◌, eq-eqb, list_any, number_of, and_left, and_right, both, is_reply, is_drop_of_receiver, Mark, uses_copy_of, is_own, wakes, is_poll, begins_poll_or_drop, answers_pending, is_left_by, waits_in_task}
+use Rattle.oneshot_laws.proofs.Names.{◌≡◌, ℕ, ◌==◌, Bool, true, false, not, ◌&&◌, ◌||◌, List, [], ◌∷◌, map, Option, Some, None, is_some, refl, ◌∙◌, ap, if◌then◌else◌, eq-eqb, list_any, number_of}
+use Rattle.oneshot_laws.proofs.Names.{and_left, and_right, both, is_reply, is_drop_of_receiver, Mark, uses_copy_of, is_own, wakes, is_poll, begins_poll_or_drop, answers_pending, is_left_by}
+use Rattle.oneshot_laws.proofs.Names.{waits_in_task}
 use Rattle.oneshot_machine.specs.declared.machine.Reply.TheVariants as R
 use Rattle.oneshot_laws.proofs.EndedRuns.{own_after}
 use Rattle.oneshot_laws.proofs.Glances.{Glance, glance_of}

@@ -1,5 +1,6 @@
 -- One reply fixes later ones: gone after the message or after closed, refused once the receiver is gone.
-use Rattle.oneshot_laws.proofs.Names.{Bool, ◌&&◌, Some, refl, Reply, Call, only_if, is_reply, is_receive, is_send, is_sender_look, is_closed_look, agrees, is_gone_after_got, is_gone_after_closed, is_refused_after_closed}
+use Rattle.oneshot_laws.proofs.Names.{Bool, ◌&&◌, Some, refl, Reply, Call, only_if, is_reply, is_receive, is_send, is_sender_look, is_closed_look, agrees, is_gone_after_got, is_gone_after_closed}
+use Rattle.oneshot_laws.proofs.Names.{is_refused_after_closed}
 use Rattle.oneshot_machine.specs.declared.machine.Reply.TheVariants as R
 use Rattle.oneshot_laws.proofs.Glanced.{Law, Nameless, nameless_of, Passed}
 use Rattle.oneshot_laws.proofs.Glances.{Glance}

@@ -1,5 +1,6 @@
 -- A message that was sent and never taken is dropped once, by the receiver's drop.
-use Rattle.oneshot_laws.proofs.Names.{◌≡◌, ℕ, Bool, true, false, not, ◌&&◌, ◌||◌, List, [], ◌∷◌, Some, None, map, filter, get_or, is_some, refl, subst, if◌then◌else◌, list_any, only_if, is_receive, is_send, is_drop_of_receiver, Mark, has_answered, answers, is_dropped, is_dropping, is_one_by_receiver, is_dropped_once}
+use Rattle.oneshot_laws.proofs.Names.{◌≡◌, ℕ, Bool, true, false, not, ◌&&◌, ◌||◌, List, [], ◌∷◌, Some, None, map, filter, get_or, is_some, refl, subst, if◌then◌else◌, list_any, only_if, is_receive}
+use Rattle.oneshot_laws.proofs.Names.{is_send, is_drop_of_receiver, Mark, has_answered, answers, is_dropped, is_dropping, is_one_by_receiver, is_dropped_once}
 use Rattle.oneshot_machine.specs.declared.machine.Reply.TheVariants as R
 use Rattle.oneshot_laws.proofs.RepliesAfterwards.{told}
 use Rattle.oneshot_laws.proofs.Coding.{Coding, listed, pairs, by_parts, flags}

@@ -1,5 +1,6 @@
 -- After `has_message` returned true, the receiver's next receive that replies returns the message.
-use Rattle.oneshot_laws.proofs.Names.{◌≡◌, Bool, true, false, ◌&&◌, ◌||◌, List, [], ◌∷◌, is_some, map, refl, both, only_if, is_reply, is_receive, is_full_look, Mark, next_receive_gets, is_got_after_full}
+use Rattle.oneshot_laws.proofs.Names.{◌≡◌, Bool, true, false, ◌&&◌, ◌||◌, List, [], ◌∷◌, is_some, map, refl, both, only_if, is_reply, is_receive, is_full_look, Mark, next_receive_gets}
+use Rattle.oneshot_laws.proofs.Names.{is_got_after_full}
 use Rattle.oneshot_machine.specs.declared.machine.Reply.TheVariants as R
 use Rattle.oneshot_laws.proofs.RepliesAfterwards.{told}
 use Rattle.oneshot_laws.proofs.Coding.{flags}

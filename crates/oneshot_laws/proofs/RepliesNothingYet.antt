@@ -1,5 +1,6 @@
 -- A call replies "nothing yet" only if the object was open at one of its entries.
-use Rattle.oneshot_laws.proofs.Names.{◌≡◌, Bool, true, false, not, ◌&&◌, ◌||◌, List, [], ◌∷◌, Some, None, map, refl, list_any, End, Sender, Receiver, Reply, both, only_if, is_nothing_yet, is_same_end, is_open_content, Mark, side, call_marks, until_reply, is_nothing_only_if_open}
+use Rattle.oneshot_laws.proofs.Names.{◌≡◌, Bool, true, false, not, ◌&&◌, ◌||◌, List, [], ◌∷◌, Some, None, map, refl, list_any, End, Sender, Receiver, Reply, both, only_if, is_nothing_yet, is_same_end}
+use Rattle.oneshot_laws.proofs.Names.{is_open_content, Mark, side, call_marks, until_reply, is_nothing_only_if_open}
 use Rattle.oneshot_laws.proofs.Coding.{Coding, pairs, by_parts, flags}
 use Rattle.oneshot_laws.proofs.Glanced.{Law, Passes, Nameless, nameless_of, Passed, holds_by}
 use Rattle.oneshot_laws.proofs.Glances.{Glance, glance_of}

@@ -1,5 +1,7 @@
 -- No receiver waits unwoken in a park, in any pair of world and reader that the checker found.
-use Rattle.oneshot_laws.proofs.Names.{◌≡◌, Bool, true, false, not, ◌&&◌, ◌||◌, Option, Some, None, is_some, refl, ap, option_map, option_and_then, receiver_step, End, ReceiverStart, Call, first, as_receiver_call, all_alike, Control, control_of, as_control, all_in, receiver_position, World, ReceiverState, Made, passes_where_found, is_end_of_sender, Ahead, is_some_park, ahead_of, waits_in_park}
+use Rattle.oneshot_laws.proofs.Names.{◌≡◌, Bool, true, false, not, ◌&&◌, ◌||◌, Option, Some, None, is_some, refl, ap, option_map, option_and_then, receiver_step, End, ReceiverStart, Call, first}
+use Rattle.oneshot_laws.proofs.Names.{as_receiver_call, all_alike, Control, control_of, as_control, all_in, receiver_position, World, ReceiverState, Made, passes_where_found, is_end_of_sender, Ahead}
+use Rattle.oneshot_laws.proofs.Names.{is_some_park, ahead_of, waits_in_park}
 use Rattle.oneshot_machine.specs.declared.machine.receiver.ReceiverStart.TheVariants as RC
 use Rattle.oneshot_world.specs.declared.state.ReceiverState.TheVariants as RS
 use Rattle.oneshot_laws.proofs.Coding.{flags}

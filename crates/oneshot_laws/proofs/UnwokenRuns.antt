@@ -1,6 +1,10 @@
 -- No receiver waits unwoken: in each run, once the sender's send or drop has replied, a receiver about to
 -- park has its token, and no task waits.
-use Rattle.oneshot_laws.proofs.Names.{◌≡◌, ℕ, ◌+◌, Bool, true, false, not, ◌&&◌, ◌||◌, List, [], ◌∷◌, map, refl, sym, ◌∙◌, ap, subst, receiver_step, End, Sender, Receiver, Unanswered, left_by, calls_of, all_alike, as_made, as_entry, IsReached, sender_step, sender_stepped, receiver_stepped, reply_of, World, Tells_from, Tells, opening, side_of, by_end, nothing_told, receiver_told, Move, ReceiverScript, SenderScript, Entry, Made, both, sender_world, receiver_world, opening_reached, Turned, sender_idle, sender_made, receiver_idle, receiver_made, turned, turned_reaches, Object, is_end_of_sender, Reading, read, Mark, marks, marks_from, sender_reading, receiver_reading, call_under_way, has_answered, ahead_of, waits_in_park, waits_in_task, is_unwoken, is_never_unwoken, NeverUnwoken}
+use Rattle.oneshot_laws.proofs.Names.{◌≡◌, ℕ, ◌+◌, Bool, true, false, not, ◌&&◌, ◌||◌, List, [], ◌∷◌, map, refl, sym, ◌∙◌, ap, subst, receiver_step, End, Sender, Receiver, Unanswered, left_by}
+use Rattle.oneshot_laws.proofs.Names.{calls_of, all_alike, as_made, as_entry, IsReached, sender_step, sender_stepped, receiver_stepped, reply_of, World, Tells_from, Tells, opening, side_of, by_end}
+use Rattle.oneshot_laws.proofs.Names.{nothing_told, receiver_told, Move, ReceiverScript, SenderScript, Entry, Made, both, sender_world, receiver_world, opening_reached, Turned, sender_idle}
+use Rattle.oneshot_laws.proofs.Names.{sender_made, receiver_idle, receiver_made, turned, turned_reaches, Object, is_end_of_sender, Reading, read, Mark, marks, marks_from, sender_reading}
+use Rattle.oneshot_laws.proofs.Names.{receiver_reading, call_under_way, has_answered, ahead_of, waits_in_park, waits_in_task, is_unwoken, is_never_unwoken, NeverUnwoken}
 use Rattle.oneshot_world.specs.declared.trace.Entry.TheVariants.{Idle, Made as Made_entry}
 use Rattle.oneshot_laws.proofs.EndedRuns.{or_more, or_false}
 use Rattle.oneshot_laws.proofs.Watched.{class_under_way, class_is, reads_entry}

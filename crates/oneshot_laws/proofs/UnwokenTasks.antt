@@ -1,6 +1,8 @@
 -- No task waits unwoken: in each run, once the sender's send or drop has replied, the last poll that left
 -- its task was woken.
-use Rattle.oneshot_laws.proofs.Names.{◌≡◌, ℕ, ◌==◌, Bool, true, false, not, ◌&&◌, ◌||◌, List, [], ◌∷◌, map, Option, Some, None, is_some, get_or, refl, sym, ◌∙◌, ap, option_map, Call, Poll, number_of, calls_of, Classes, as_call, as_move, bool_code, WakerMove, World, Tells, opening, Move, ReceiverScript, SenderScript, Entry, Parker, Copy, is_listed, is_end_of_sender, is_drop_of_receiver, Mark, marks, has_answered, uses_copy_of, is_own, is_poll, waits_in_task}
+use Rattle.oneshot_laws.proofs.Names.{◌≡◌, ℕ, ◌==◌, Bool, true, false, not, ◌&&◌, ◌||◌, List, [], ◌∷◌, map, Option, Some, None, is_some, get_or, refl, sym, ◌∙◌, ap, option_map, Call, Poll, number_of}
+use Rattle.oneshot_laws.proofs.Names.{calls_of, Classes, as_call, as_move, bool_code, WakerMove, World, Tells, opening, Move, ReceiverScript, SenderScript, Entry, Parker, Copy, is_listed}
+use Rattle.oneshot_laws.proofs.Names.{is_end_of_sender, is_drop_of_receiver, Mark, marks, has_answered, uses_copy_of, is_own, is_poll, waits_in_task}
 use Rattle.oneshot_world.specs.declared.trace.WakerPlace.TheVariants as W
 use Rattle.oneshot_laws.proofs.Coding.{listed, pairs, by_parts, flags}
 use Rattle.oneshot_laws.proofs.EndedRuns.{own_after, or_more, or_false}

@@ -1,5 +1,6 @@
 -- A waker is written into its cell only while none is there.
-use Rattle.oneshot_laws.proofs.Names.{◌≡◌, Bool, true, false, not, List, [], ◌∷◌, Option, Some, None, map, refl, sym, subst, cons_option, option_map, calls_of, Classes, as_move, WakerMove, World, Tells, opening, Move, ReceiverScript, SenderScript, Entry, both, only_if, Mark, marks, is_cell, cell_then, is_cell_right, is_cell_kept}
+use Rattle.oneshot_laws.proofs.Names.{◌≡◌, Bool, true, false, not, List, [], ◌∷◌, Option, Some, None, map, refl, sym, subst, cons_option, option_map, calls_of, Classes, as_move, WakerMove, World}
+use Rattle.oneshot_laws.proofs.Names.{Tells, opening, Move, ReceiverScript, SenderScript, Entry, both, only_if, Mark, marks, is_cell, cell_then, is_cell_right, is_cell_kept}
 use Rattle.oneshot_laws.proofs.Coding.{flags}
 use Rattle.oneshot_laws.proofs.Glanced.{Law, Passes, Nameless, Passed, passes_run}
 use Rattle.oneshot_laws.proofs.Glances.{Glance, glance_of}

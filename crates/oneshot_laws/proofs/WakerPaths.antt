@@ -1,5 +1,8 @@
 -- A waker that is followed by its class is on a path of allowed moves by its name.
-use Rattle.oneshot_laws.proofs.Names.{◌≡◌, ℕ, ◌+◌, Bool, true, false, ◌&&◌, List, [], ◌∷◌, Option, Some, None, map, get_or, refl, sym, ◌∙◌, ap, subst, if◌then◌else◌, filter_map, cons_option, option_map, calls_of, Classes, as_name, as_move, WakerMove, is_same_waker, ReceiverScript, SenderScript, Entry, WakerName, WakerPlace, New, Hand, Cell, SenderHand, Used, both, only_if, Object, Reading, Mark, marks, marks_from, all_ended, is_path, last_place, waker_place_code, is_same_waker_place, is_waker_move, first_waker_place, waker_moves, moves_of_waker, is_waker_followed, is_waker_end, is_waker_ended}
+use Rattle.oneshot_laws.proofs.Names.{◌≡◌, ℕ, ◌+◌, Bool, true, false, ◌&&◌, List, [], ◌∷◌, Option, Some, None, map, get_or, refl, sym, ◌∙◌, ap, subst, if◌then◌else◌, filter_map, cons_option}
+use Rattle.oneshot_laws.proofs.Names.{option_map, calls_of, Classes, as_name, as_move, WakerMove, is_same_waker, ReceiverScript, SenderScript, Entry, WakerName, WakerPlace, New, Hand, Cell}
+use Rattle.oneshot_laws.proofs.Names.{SenderHand, Used, both, only_if, Object, Reading, Mark, marks, marks_from, all_ended, is_path, last_place, waker_place_code, is_same_waker_place, is_waker_move}
+use Rattle.oneshot_laws.proofs.Names.{first_waker_place, waker_moves, moves_of_waker, is_waker_followed, is_waker_end, is_waker_ended}
 use Rattle.oneshot_world.specs.declared.trace.Entry.TheVariants.{Idle, Made as Made_entry}
 use Rattle.oneshot_world.specs.declared.trace.WakerPlace.TheVariants.{Dropped}
 use Rattle.oneshot_laws.proofs.Coding.{listed}

@@ -1,5 +1,8 @@
 -- Each waker, by its name, is always in one place, and has ended once all have.
-use Rattle.oneshot_laws.proofs.Names.{arith, ◌≡◌, ℕ, ◌+◌, ◌==◌, Bool, true, false, ◌&&◌, ◌||◌, List, [], ◌∷◌, Option, Some, None, nat_lt, refl, if◌then◌else◌, eqb-true, ne_eqb, ltb-true, lt-ltb, option_map, calls_of, Classes, all_alike, as_name, as_move, bool_code, one_poll, WakerMove, is_same_waker, World, Tells, opening, Move, ReceiverScript, SenderScript, Entry, WakerName, Parker, Copy, WakerPlace, New, Hand, Cell, SenderHand, Used, and_left, and_right, or_right, is_listed, marks, is_same_waker_place, is_waker_move, is_waker_end, AreWakersRight}
+use Rattle.oneshot_laws.proofs.Names.{arith, ◌≡◌, ℕ, ◌+◌, ◌==◌, Bool, true, false, ◌&&◌, ◌||◌, List, [], ◌∷◌, Option, Some, None, nat_lt, refl, if◌then◌else◌, eqb-true, ne_eqb, ltb-true, lt-ltb}
+use Rattle.oneshot_laws.proofs.Names.{option_map, calls_of, Classes, all_alike, as_name, as_move, bool_code, one_poll, WakerMove, is_same_waker, World, Tells, opening, Move, ReceiverScript}
+use Rattle.oneshot_laws.proofs.Names.{SenderScript, Entry, WakerName, Parker, Copy, WakerPlace, New, Hand, Cell, SenderHand, Used, and_left, and_right, or_right, is_listed, marks, is_same_waker_place}
+use Rattle.oneshot_laws.proofs.Names.{is_waker_move, is_waker_end, AreWakersRight}
 use Rattle.oneshot_world.specs.declared.trace.WakerPlace.TheVariants.{Dropped}
 use Rattle.oneshot_laws.proofs.EndedRuns.{Ending, PassesEnding, kept, asked_run, ended_run}
 use Rattle.oneshot_laws.proofs.Glanced.{with_history, LawExplored, all_glanced, passes_by, Passed}

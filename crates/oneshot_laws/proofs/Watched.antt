@@ -1,5 +1,7 @@
 -- Readers of traces: the checker explores each together with the world, by classes of copies and polls.
-use Rattle.oneshot_laws.proofs.Names.{◌≡◌, ℕ, Bool, true, false, ◌&&◌, List, [], ◌∷◌, Option, Some, None, refl, sym, ◌∙◌, ap, subst, list_all, filter_map, option_map, End, Sender, Receiver, Reply, Call, Unanswered, first, left_by, Classes, as_call, as_made, Control, Begin, begins, control_turn, control_code, is_same_control, opening_control, one_poll, one_copy, Tree, reach, is_in, all_in, by_end, Entry, Made, Place, NotSent, control_is, or_stray, call_under_way}
+use Rattle.oneshot_laws.proofs.Names.{◌≡◌, ℕ, Bool, true, false, ◌&&◌, List, [], ◌∷◌, Option, Some, None, refl, sym, ◌∙◌, ap, subst, list_all, filter_map, option_map, End, Sender, Receiver, Reply}
+use Rattle.oneshot_laws.proofs.Names.{Call, Unanswered, first, left_by, Classes, as_call, as_made, Control, Begin, begins, control_turn, control_code, is_same_control, opening_control, one_poll}
+use Rattle.oneshot_laws.proofs.Names.{one_copy, Tree, reach, is_in, all_in, by_end, Entry, Made, Place, NotSent, control_is, or_stray, call_under_way}
 use Rattle.oneshot_world.specs.declared.trace.Entry.TheVariants.{Idle, Made as Made_entry}
 use Rattle.oneshot_laws.proofs.Coding.{Coding, pairs, by_parts}
 

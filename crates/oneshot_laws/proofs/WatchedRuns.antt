@@ -1,5 +1,9 @@
 -- A reader that the checker explored with the world accepts each run of two scripts.
-use Rattle.oneshot_laws.proofs.Names.{◌≡◌, ℕ, ◌+◌, Bool, true, false, List, [], ◌∷◌, None, refl, sym, subst, list_all, option_and_then, receiver_step, sender_step, End, Sender, Receiver, Call, first, number_of, calls_of, Classes, all_alike, as_made, as_entry, Control, control_of, begins, control_turn, as_control, IsReached, sender_stepped, receiver_stepped, World, Tells_from, Tells, opening, opening_place, side_of, by_end, nothing_told, receiver_told, Move, ReceiverScript, SenderLast, SenderScript, Entry, Made, and_left, and_right, passes_where_found, is_listed, sender_passes, receiver_passes, sender_world, receiver_world, sender_control_is, receiver_control_is, opening_reached, Turned, sender_idle, sender_made, receiver_idle, receiver_made, turned, turned_reaches, Mark, marks}
+use Rattle.oneshot_laws.proofs.Names.{◌≡◌, ℕ, ◌+◌, Bool, true, false, List, [], ◌∷◌, None, refl, sym, subst, list_all, option_and_then, receiver_step, sender_step, End, Sender, Receiver, Call, first}
+use Rattle.oneshot_laws.proofs.Names.{number_of, calls_of, Classes, all_alike, as_made, as_entry, Control, control_of, begins, control_turn, as_control, IsReached, sender_stepped, receiver_stepped}
+use Rattle.oneshot_laws.proofs.Names.{World, Tells_from, Tells, opening, opening_place, side_of, by_end, nothing_told, receiver_told, Move, ReceiverScript, SenderLast, SenderScript, Entry, Made}
+use Rattle.oneshot_laws.proofs.Names.{and_left, and_right, passes_where_found, is_listed, sender_passes, receiver_passes, sender_world, receiver_world, sender_control_is, receiver_control_is}
+use Rattle.oneshot_laws.proofs.Names.{opening_reached, Turned, sender_idle, sender_made, receiver_idle, receiver_made, turned, turned_reaches, Mark, marks}
 use Rattle.oneshot_world.specs.declared.script.SenderLast.TheVariants as SL
 use Rattle.oneshot_laws.proofs.Fresh.{is_fresh, move_fresh}
 use Rattle.oneshot_laws.proofs.Watched.{Watched, no_names, Automaton, watched_coding, reads_entry, begins_beside, opening_watched, is_watched_in, passes_on, Explored, class_under_way, Accepts_by}

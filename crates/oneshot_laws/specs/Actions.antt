@@ -7,7 +7,8 @@ use Rattle.oneshot_machine.specs.declared.machine.receiver.ReceiverStart.TheVari
 use Rattle.oneshot_machine.specs.declared.machine.sender.SenderCall.{SenderCall}
 use Rattle.oneshot_machine.specs.declared.machine.sender.SenderCall.TheVariants as SC
 use Rattle.oneshot_world.specs.Calls.{Call, Of_sender, Of_receiver, Poll, Stray}
-use Rattle.oneshot_laws.specs.Object.{Action, Send as Send_step, Sender_gone, Take, Take_and_go, Look_full, Look_closed, Look_receiver_gone, Receiver_gone, Answer, Accepted, Returned, Message, Gone, Nothing_yet, Yes, No, Finished, Object, answer_of, object_after}
+use Rattle.oneshot_laws.specs.Object.{Action, Send as Send_step, Sender_gone, Take, Take_and_go, Look_full, Look_closed, Look_receiver_gone, Receiver_gone, Answer, Accepted, Returned, Message, Gone}
+use Rattle.oneshot_laws.specs.Object.{Nothing_yet, Yes, No, Finished, Object, answer_of, object_after}
 
 -- each call as a step of the object; the error's calls and `into_future` are none
 abbrev pub sender_action : SenderCall → Option Action

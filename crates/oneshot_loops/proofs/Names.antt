@@ -8,7 +8,8 @@ use Rattle.oneshot_loops.specs.declared.channels.Channel.TheVariants.{Oneshot, F
 use Rattle.oneshot_loops.specs.declared.channels.TheConstants.{CHANNELS}
 use Rattle.oneshot_loops.specs.declared.loops.Awaited.TheVariants.{MakeSendBlockOn, MakeSendAwait, PollPending, JoinTwo, RoundTripAwait}
 use Rattle.oneshot_loops.specs.declared.loops.Loop.{Loop}
-use Rattle.oneshot_loops.specs.declared.loops.Loop.TheVariants.{MakeSendReceiveDrop, MakeDrop, MakeSendRecv, MakePollSendPoll, MakeSendReceiveDropLarge, MakeDropLarge, MakeSendRecvLarge, MakePollSendPollLarge, MakeAnswerWait, RoundTrip, Awaited}
+use Rattle.oneshot_loops.specs.declared.loops.Loop.TheVariants.{MakeSendReceiveDrop, MakeDrop, MakeSendRecv, MakePollSendPoll, MakeSendReceiveDropLarge, MakeDropLarge, MakeSendRecvLarge}
+use Rattle.oneshot_loops.specs.declared.loops.Loop.TheVariants.{MakePollSendPollLarge, MakeAnswerWait, RoundTrip, Awaited}
 use Rattle.oneshot_loops.specs.declared.loops.TheConstants.{LOOPS}
 use Rattle.oneshot_loops.specs.Channel.{channel_name}
 use Rattle.oneshot_loops.specs.Loop.{name_of}

@@ -3,7 +3,8 @@ use Rattle.std.specs.Prelude.{ℕ, List, codes}
 use Rattle.oneshot_loops.specs.declared.loops.Awaited.{Awaited as AwaitedLoop}
 use Rattle.oneshot_loops.specs.declared.loops.Awaited.TheVariants.{MakeSendBlockOn, MakeSendAwait, PollPending, JoinTwo, RoundTripAwait}
 use Rattle.oneshot_loops.specs.declared.loops.Loop.{Loop}
-use Rattle.oneshot_loops.specs.declared.loops.Loop.TheVariants.{MakeSendReceiveDrop, MakeDrop, MakeSendRecv, MakePollSendPoll, MakeSendReceiveDropLarge, MakeDropLarge, MakeSendRecvLarge, MakePollSendPollLarge, MakeAnswerWait, RoundTrip, Awaited}
+use Rattle.oneshot_loops.specs.declared.loops.Loop.TheVariants.{MakeSendReceiveDrop, MakeDrop, MakeSendRecv, MakePollSendPoll, MakeSendReceiveDropLarge, MakeDropLarge, MakeSendRecvLarge}
+use Rattle.oneshot_loops.specs.declared.loops.Loop.TheVariants.{MakePollSendPollLarge, MakeAnswerWait, RoundTrip, Awaited}
 
 abbrev pub awaited_name : AwaitedLoop → List ℕ
 awaited_name MakeSendBlockOn = codes "make_send_block_on"

@@ -11,7 +11,9 @@ use Rattle.oneshot_machine.specs.declared.machine.future.FuturePos.TheVariants a
 use Rattle.oneshot_machine.specs.declared.machine.sender.SenderPos.{SenderPos}
 use Rattle.oneshot_machine.specs.declared.machine.sender.SenderPos.TheVariants.{SendAdd, SendFinal, DropXor, DropFinal}
 use Rattle.std.specs.Prelude.{true, false}
-use Rattle.oneshot_machine.specs.Phases.{sending, dropping, SenderAt, fresh, owes, finished, late, overtaken, no_sender, sender_moves, ReceiverAt, first, here, looked, between, blocked, polled, again, waits, claimed, withdrew, overdue, storing, stopping, at_once, waited, swapped, by_future, by_poll, full, unclosed, disconnected, resolved, gone, ended, no_receiver, receiver_moves}
+use Rattle.oneshot_machine.specs.Phases.{sending, dropping, SenderAt, fresh, owes, finished, late, overtaken, no_sender, sender_moves, ReceiverAt, first, here, looked, between, blocked, polled, again}
+use Rattle.oneshot_machine.specs.Phases.{waits, claimed, withdrew, overdue, storing, stopping, at_once, waited, swapped, by_future, by_poll, full, unclosed, disconnected, resolved, gone, ended}
+use Rattle.oneshot_machine.specs.Phases.{no_receiver, receiver_moves}
 use Rattle.oneshot_machine.specs.Standing.{Standpoint, plainly, as_future, sender_table, receiver_table}
 use Rattle.oneshot_machine.specs.Exact.{SenderIsExact, ReceiverIsExact}
 use Rattle.oneshot_machine.proofs.Exactness.{IsExactAt, is_exact}

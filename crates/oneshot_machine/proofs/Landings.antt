@@ -3,8 +3,11 @@ use Rattle.std.proofs.Common.{◌≡◌, ℕ, Bool, true, false, not, List, [], 
 use Rattle.std.specs.Prelude.{⊤, ◌==◌, ◌&&◌, if◌then◌else◌}
 use Rattle.std.proofs.lemmas.Bool.{and_parts, eqb-true}
 use Rattle.oneshot_machine.specs.declared.states.Op.{Op}
-use Rattle.oneshot_machine.specs.Phases.{SenderAt, fresh, owes, finished, late, overtaken, sending, dropping, no_sender, sender_moves, ReceiverAt, first, here, looked, between, waits, blocked, polled, again, claimed, withdrew, overdue, full, at_once, waited, swapped, by_future, by_poll, unclosed, disconnected, resolved, gone, ended, no_receiver, receiver_moves, Share, empty, filled, Slots, Row}
-use Rattle.oneshot_machine.specs.Slots.{Held, vacant, held, IsSlot, is_away, is_vacant, is_held, Turns, stays_away, stays_vacant, stays_held, gives_room, gives_thing, gets_room, gets_thing, In, head, tail, Finds, finds}
+use Rattle.oneshot_machine.specs.Phases.{SenderAt, fresh, owes, finished, late, overtaken, sending, dropping, no_sender, sender_moves, ReceiverAt, first, here, looked, between, waits, blocked, polled}
+use Rattle.oneshot_machine.specs.Phases.{again, claimed, withdrew, overdue, full, at_once, waited, swapped, by_future, by_poll, unclosed, disconnected, resolved, gone, ended, no_receiver}
+use Rattle.oneshot_machine.specs.Phases.{receiver_moves, Share, empty, filled, Slots, Row}
+use Rattle.oneshot_machine.specs.Slots.{Held, vacant, held, IsSlot, is_away, is_vacant, is_held, Turns, stays_away, stays_vacant, stays_held, gives_room, gives_thing, gets_room, gets_thing, In, head}
+use Rattle.oneshot_machine.specs.Slots.{tail, Finds, finds}
 use Rattle.oneshot_machine.specs.Noted.{is_same_op}
 use Rattle.oneshot_machine.proofs.Sameness.{ops_are_same, is_same_share, shares_are_same}
 use Rattle.oneshot_machine.proofs.Exactness.{differ}

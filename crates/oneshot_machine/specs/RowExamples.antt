@@ -6,7 +6,8 @@ use Rattle.oneshot_machine.specs.declared.machine.sender.SenderPos.{SenderPos}
 use Rattle.oneshot_machine.specs.declared.machine.sender.SenderPos.TheVariants.{SendAdd, SendWake}
 use Rattle.oneshot_machine.specs.declared.states.Op.TheVariants.{Load, Store, Swap, Exchange, Add, Xor}
 use Rattle.oneshot_machine.specs.declared.states.TheConstants.{RECEIVING, DISCONNECTED, EMPTY, MESSAGE}
-use Rattle.oneshot_machine.specs.Phases.{sending, dropping, fresh, owes, finished, late, no_sender, first, here, looked, waits, blocked, again, claimed, full, at_once, disconnected, found_closed, gone, no_receiver}
+use Rattle.oneshot_machine.specs.Phases.{sending, dropping, fresh, owes, finished, late, no_sender, first, here, looked, waits, blocked, again, claimed, full, at_once, disconnected, found_closed}
+use Rattle.oneshot_machine.specs.Phases.{gone, no_receiver}
 use Rattle.oneshot_machine.specs.Slots.{Held, away, vacant, held, SenderMay, SenderFinds, SenderOwns, ReceiverMay, ReceiverFinds, ReceiverOwns}
 use Rattle.oneshot_machine.specs.TableRows.{Goes, Answers, outcome, leads}
 

@@ -8,7 +8,8 @@ use Rattle.oneshot_machine.specs.declared.machine.Seen.{Seen}
 use Rattle.oneshot_machine.specs.declared.states.Op.{Op}
 use Rattle.oneshot_machine.specs.Noted.{saw, is_same_op}
 use Rattle.oneshot_machine.specs.Phases.{Share, none, empty, filled, Slots, Row}
-use Rattle.oneshot_machine.specs.Slots.{vacant, held, IsSlot, is_away, is_vacant, is_held, Turns, stays_away, stays_vacant, stays_held, gives_room, gives_thing, gets_room, gets_thing, In, May, may, Finds, finds}
+use Rattle.oneshot_machine.specs.Slots.{vacant, held, IsSlot, is_away, is_vacant, is_held, Turns, stays_away, stays_vacant, stays_held, gives_room, gives_thing, gets_room, gets_thing, In, May, may}
+use Rattle.oneshot_machine.specs.Slots.{Finds, finds}
 use Rattle.oneshot_machine.specs.States.{word_after}
 use Rattle.oneshot_machine.proofs.Sameness.{each_passes, Passing, some_passes, ops_are_same, is_same_share, shares_are_same}
 use Rattle.oneshot_memory.specs.Memory.{Memory, memory_of, codes, is_code}

@@ -5,7 +5,8 @@ use Rattle.oneshot_machine.specs.declared.states.Op.{Op}
 use Rattle.oneshot_machine.specs.declared.states.Op.TheVariants.{Load, Store, Swap, Exchange, Add, Xor}
 use Rattle.oneshot_machine.specs.Logs.{Grows, words, receiver_of, worded}
 use Rattle.oneshot_machine.specs.Noted.{saw}
-use Rattle.oneshot_machine.specs.Phases.{looked, between, blocked, polled, again, storing, stopping, at_once, waited, swapped, by_future, by_poll, ReceiverAt, first, here, waits, claimed, withdrew, overdue, full, unclosed, disconnected, resolved, gone, ended, no_receiver, receiver_moves, receiver_owns, receiver_next, receiver_at}
+use Rattle.oneshot_machine.specs.Phases.{looked, between, blocked, polled, again, storing, stopping, at_once, waited, swapped, by_future, by_poll, ReceiverAt, first, here, waits, claimed, withdrew}
+use Rattle.oneshot_machine.specs.Phases.{overdue, full, unclosed, disconnected, resolved, gone, ended, no_receiver, receiver_moves, receiver_owns, receiver_next, receiver_at}
 use Rattle.oneshot_machine.specs.Slots.{vacant, held, In, head, tail, ReceiverMay, ReceiverFinds}
 use Rattle.oneshot_machine.specs.States.{word_after}
 use Rattle.oneshot_machine.proofs.GrownLogs.{receiver_moved}
@@ -15,7 +16,8 @@ use Rattle.oneshot_memory.specs.declared.receiver.Act.{Act}
 use Rattle.oneshot_memory.specs.declared.receiver.Act.TheVariants as A
 use Rattle.oneshot_memory.specs.Memory.{Memory, memory_of, lies_in}
 use Rattle.oneshot_memory.specs.Events.{slot_if_own, logged_event, logged}
-use Rattle.oneshot_memory.specs.Receiver.{Plan, Receiving, receiving_of, receiver_has, receiver_matches, ReceiverMatches, keeps_message, keeps_waker, overtakes, waker_after, lies, is_quiet, both_here, word_after_act, message_after_act}
+use Rattle.oneshot_memory.specs.Receiver.{Plan, Receiving, receiving_of, receiver_has, receiver_matches, ReceiverMatches, keeps_message, keeps_waker, overtakes, waker_after, lies, is_quiet, both_here}
+use Rattle.oneshot_memory.specs.Receiver.{word_after_act, message_after_act}
 use Rattle.oneshot_memory.proofs.Memory.{IsSteady, comes_about, Operated, operates, slot_held}
 use Rattle.oneshot_memory.proofs.Events.{words_same}
 

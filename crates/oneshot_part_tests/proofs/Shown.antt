@@ -4,8 +4,10 @@ use Rattle.std.specs.List.{list_all}
 use Rattle.oneshot_machine.specs.declared.states.Op.{Op}
 use Rattle.oneshot_machine.specs.declared.states.Op.TheVariants.{Store, Swap}
 use Rattle.oneshot_machine.specs.Noted.{saw, is_same_op}
-use Rattle.oneshot_machine.specs.Phases.{Share, filled, Got, at_once, full, here, looked, waits, blocked, SenderAt, fresh, sender_next, sender_at, ReceiverAt, first, receiver_moves, receiver_next, receiver_at}
-use Rattle.oneshot_machine.specs.Slots.{Held, away, vacant, held, is_held, is_vacant, Turns, stays_vacant, stays_held, gets_thing, head, tail, may, finds, SenderMay, SenderFinds, ReceiverMay, ReceiverFinds, not_its_own, owns, SenderOwns}
+use Rattle.oneshot_machine.specs.Phases.{Share, filled, Got, at_once, full, here, looked, waits, blocked, SenderAt, fresh, sender_next, sender_at, ReceiverAt, first, receiver_moves, receiver_next}
+use Rattle.oneshot_machine.specs.Phases.{receiver_at}
+use Rattle.oneshot_machine.specs.Slots.{Held, away, vacant, held, is_held, is_vacant, Turns, stays_vacant, stays_held, gets_thing, head, tail, may, finds, SenderMay, SenderFinds, ReceiverMay}
+use Rattle.oneshot_machine.specs.Slots.{ReceiverFinds, not_its_own, owns, SenderOwns}
 use Rattle.oneshot_machine.proofs.Sameness.{each_passes}
 use Rattle.oneshot_machine.proofs.GrownLogs.{phase_from-snoc}
 use Rattle.oneshot_word.specs.Side.{Side, SenderCan, SenderDid, ReceiverCan, ReceiverDid}

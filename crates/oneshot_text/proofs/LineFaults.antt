@@ -1,5 +1,6 @@
 -- The fault of a line at its next word, and a fault of the words after it as one of all words.
-use Rattle.std.proofs.Common.{◌≡◌, ◌≢◌, ℕ, ◌+◌, ◌^◌, ◌<◌, List, [], ◌∷◌, ◌++◌, Result, Ok, Err, Option, Some, None, length, slice_get, decimal, refl, sym, ap, subst, ◌∙◌, append_assoc, length-append, arith, lit<}
+use Rattle.std.proofs.Common.{◌≡◌, ◌≢◌, ℕ, ◌+◌, ◌^◌, ◌<◌, List, [], ◌∷◌, ◌++◌, Result, Ok, Err, Option, Some, None, length, slice_get, decimal, refl, sym, ap, subst, ◌∙◌, append_assoc, length-append}
+use Rattle.std.proofs.Common.{arith, lit<}
 use Rattle.std.specs.Result.{IsErrAnd, IsOk}
 use Rattle.std.proofs.Math.Nat.{add-zero}
 use Rattle.oneshot_text.specs.declared.fault.Malformed.{Malformed}

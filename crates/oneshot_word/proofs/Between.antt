@@ -1,6 +1,8 @@
 -- What follows from an order of both logs: the word for both phases, and what each log shows.
 use Rattle.std.proofs.Common.{◌≡◌, ℕ, Bool, true, List, [], ◌∷◌, refl}
-use Rattle.oneshot_word.proofs.Names.{◌++◌, sym, subst, ◌==◌, list_all, eqb-true, Op, Noted, saw, has_row, Reaches, nothing_made, sender_makes, receiver_makes, Row, Slots, sending, dropping, SenderAt, fresh, owes, sender_at, sender_next, sender_moves, blocked, storing, swapped, found_closed, ReceiverAt, first, here, full, unclosed, disconnected, resolved, receiver_at, receiver_next, receiver_moves, Held, In, Finds, finds, word_after, each_passes, phase_from-snoc}
+use Rattle.oneshot_word.proofs.Names.{◌++◌, sym, subst, ◌==◌, list_all, eqb-true, Op, Noted, saw, has_row, Reaches, nothing_made, sender_makes, receiver_makes, Row, Slots, sending, dropping, SenderAt}
+use Rattle.oneshot_word.proofs.Names.{fresh, owes, sender_at, sender_next, sender_moves, blocked, storing, swapped, found_closed, ReceiverAt, first, here, full, unclosed, disconnected, resolved}
+use Rattle.oneshot_word.proofs.Names.{receiver_at, receiver_next, receiver_moves, Held, In, Finds, finds, word_after, each_passes, phase_from-snoc}
 use Rattle.oneshot_machine.specs.Phases.{looked, waits}
 use Rattle.oneshot_word.proofs.KeptRows.{stepped}
 use Rattle.oneshot_word.proofs.RuleKept.{sender_leaves, receiver_leaves}

@@ -1,7 +1,10 @@
 -- An order of two logs of real ends is an order by the rows of both phases' tables.
 use Rattle.std.proofs.Common.{◌≡◌, ℕ, Bool, true, false, List, [], ◌∷◌, Option, Some, None, refl}
 use Rattle.std.specs.Prelude.{if◌then◌else◌}
-use Rattle.oneshot_word.proofs.Names.{◌++◌, sym, ap, ◌∙◌, subst, true≢false, ◌==◌, list_all, and_parts, eqb-true, End, Seen, Op, Load, Store, Swap, Exchange, Add, Xor, Noted, saw, is_same_op, is_same_seen, InOrder, none_made, by_sender, by_receiver, HasRow, has_row, Reaches, nothing_made, sender_makes, receiver_makes, Row, sending, dropping, SenderAt, fresh, owes, finished, no_sender, sender_at, sender_next, sender_moves, blocked, ReceiverAt, storing, swapped, first, here, full, unclosed, no_receiver, receiver_at, receiver_next, receiver_moves, is_row_for, next_by, In, head, tail, each_passes, ops_are_same, Passing, phase_from-snoc, ends_of}
+use Rattle.oneshot_word.proofs.Names.{◌++◌, sym, ap, ◌∙◌, subst, true≢false, ◌==◌, list_all, and_parts, eqb-true, End, Seen, Op, Load, Store, Swap, Exchange, Add, Xor, Noted, saw, is_same_op}
+use Rattle.oneshot_word.proofs.Names.{is_same_seen, InOrder, none_made, by_sender, by_receiver, HasRow, has_row, Reaches, nothing_made, sender_makes, receiver_makes, Row, sending, dropping, SenderAt}
+use Rattle.oneshot_word.proofs.Names.{fresh, owes, finished, no_sender, sender_at, sender_next, sender_moves, blocked, ReceiverAt, storing, swapped, first, here, full, unclosed, no_receiver}
+use Rattle.oneshot_word.proofs.Names.{receiver_at, receiver_next, receiver_moves, is_row_for, next_by, In, head, tail, each_passes, ops_are_same, Passing, phase_from-snoc, ends_of}
 use Rattle.oneshot_machine.specs.declared.machine.End.TheVariants.{Sender, Receiver}
 use Rattle.oneshot_machine.specs.Phases.{looked, waits}
 use Rattle.oneshot_word.proofs.Between.{between}

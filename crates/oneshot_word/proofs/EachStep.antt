@@ -2,7 +2,10 @@
 use Rattle.std.proofs.Common.{◌≡◌, ℕ, Bool, Option, Some, None, List, [], ◌∷◌, refl}
 use mathlib.Core.Option as maybe
 use Rattle.oneshot_machine.specs.TableRows.{is_same_seen}
-use Rattle.oneshot_word.proofs.Names.{Word, ◌++◌, get_or, set, sym, ◌∙◌, subst, State, Me, Act, Valid, Allows, homes_after, carried_after, Op, Noted, saw, Reaches, fresh, sender_at, sender_owns, sender_next, sender_moves, first, receiver_at, receiver_owns, receiver_next, receiver_moves, Held, away, SenderMay, ReceiverMay, Finds, finds, phase_from-snoc, AnyWaker, Slot, Message, View, IsPut, IsClaimed, Home, message_home, waker_home, Lies, IsGiven, IsTaken, Tied, runs, view, any, unsaid, with_waker, message_in, waker_in, Front, waker_first, message_first, SeatOf, GivesOnce, HoldsTaken, HoldsClaimed, gave, took, SenderSeat, ReceiverSeat, SenderStepped, ReceiverStepped}
+use Rattle.oneshot_word.proofs.Names.{Word, ◌++◌, get_or, set, sym, ◌∙◌, subst, State, Me, Act, Valid, Allows, homes_after, carried_after, Op, Noted, saw, Reaches, fresh, sender_at, sender_owns}
+use Rattle.oneshot_word.proofs.Names.{sender_next, sender_moves, first, receiver_at, receiver_owns, receiver_next, receiver_moves, Held, away, SenderMay, ReceiverMay, Finds, finds, phase_from-snoc}
+use Rattle.oneshot_word.proofs.Names.{AnyWaker, Slot, Message, View, IsPut, IsClaimed, Home, message_home, waker_home, Lies, IsGiven, IsTaken, Tied, runs, view, any, unsaid, with_waker, message_in}
+use Rattle.oneshot_word.proofs.Names.{waker_in, Front, waker_first, message_first, SeatOf, GivesOnce, HoldsTaken, HoldsClaimed, gave, took, SenderSeat, ReceiverSeat, SenderStepped, ReceiverStepped}
 use Rattle.oneshot_word.specs.declared.rule.Role.TheVariants.{Sender, Receiver}
 use Rattle.oneshot_word.proofs.Sits.{Sits, sender_sits, receiver_sits, sits, knows}
 use Rattle.oneshot_word.proofs.KeptRows.{stepped}
@@ -11,7 +14,8 @@ use Rattle.oneshot_word.proofs.Between.{between, sender_told, sender_reaches, re
 use Rattle.oneshot_word.proofs.SlotReads.{as_read, as_seat, reads}
 use Rattle.oneshot_word.proofs.Meets.{meet}
 use Rattle.oneshot_word.proofs.Hands.{seat_fits, fits_so, rests_as, put_what_rests, holds_put, holds_claimed, claims_put, still_claimed, gets_taken, gets_put, none_made, made_more}
-use Rattle.oneshot_word.proofs.Passes.{lies_as, seat_as, seat_keeps, gave_no, Offers, gave_what_lies, gives_once, none_taken, holds_given, holds_taken, takes_given, keeps_its_slot, stays_taken, finds_it_so, takes_as_found}
+use Rattle.oneshot_word.proofs.Passes.{lies_as, seat_as, seat_keeps, gave_no, Offers, gave_what_lies, gives_once, none_taken, holds_given, holds_taken, takes_given, keeps_its_slot, stays_taken}
+use Rattle.oneshot_word.proofs.Passes.{finds_it_so, takes_as_found}
 
 module _ {T H K P : Type 0} (keeps : P → T → Type 0) (q : P) where
   abbrev pub Holds : State (Slot T H K) (View T H K P) → Type 0

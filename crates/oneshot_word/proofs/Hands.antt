@@ -2,7 +2,11 @@
 use Rattle.std.proofs.Common.{◌≡◌, ℕ, Bool, true, false, List, [], ◌∷◌, Option, Some, refl}
 use Rattle.std.specs.Prelude.{if◌then◌else◌}
 use Rattle.oneshot_machine.specs.Phases.{looked, waits}
-use Rattle.oneshot_word.proofs.Names.{◌++◌, ◌||◌, not, list_all, eq-eqb, each_passes, sym, ap, ◌∙◌, subst, Op, Noted, Share, none, empty, filled, Slots, Row, In, SenderAt, fresh, sender_owns, blocked, storing, swapped, found_closed, ReceiverAt, here, full, unclosed, disconnected, resolved, receiver_owns, receiver_moves, Held, away, vacant, held, Turns, stays_away, stays_vacant, stays_held, gives_room, gives_thing, gets_room, gets_thing, AnyWaker, with_waker, Home, has_slots, waker_left, waker_home, Lies, lies_out, IsPut, has_made, IsClaimed, claimed_none, claimed_it, Carried, Front, slot_vacant, slot_held, not_carried, carried, SeatOf, seat_of, HoldsClaimed, claims_no_slot, claims_none, claims_it, gave, took}
+use Rattle.oneshot_word.proofs.Names.{◌++◌, ◌||◌, not, list_all, eq-eqb, each_passes, sym, ap, ◌∙◌, subst, Op, Noted, Share, none, empty, filled, Slots, Row, In, SenderAt, fresh, sender_owns, blocked}
+use Rattle.oneshot_word.proofs.Names.{storing, swapped, found_closed, ReceiverAt, here, full, unclosed, disconnected, resolved, receiver_owns, receiver_moves, Held, away, vacant, held, Turns}
+use Rattle.oneshot_word.proofs.Names.{stays_away, stays_vacant, stays_held, gives_room, gives_thing, gets_room, gets_thing, AnyWaker, with_waker, Home, has_slots, waker_left, waker_home, Lies}
+use Rattle.oneshot_word.proofs.Names.{lies_out, IsPut, has_made, IsClaimed, claimed_none, claimed_it, Carried, Front, slot_vacant, slot_held, not_carried, carried, SeatOf, seat_of, HoldsClaimed}
+use Rattle.oneshot_word.proofs.Names.{claims_no_slot, claims_none, claims_it, gave, took}
 use Rattle.oneshot_word.proofs.Alike.{is_word}
 use Rattle.oneshot_word.proofs.Meets.{word_between, Is, is, SenderSays, says_none, says_owes, says_last, says_late, says_overtaken}
 use Rattle.oneshot_word.proofs.RuleKept.{senders, is_sender}

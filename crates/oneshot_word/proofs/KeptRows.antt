@@ -1,6 +1,8 @@
 -- The test of one end's rows: each operation leaves the word and the slots as the rule has them.
 use Rattle.std.proofs.Common.{◌≡◌, ℕ, Bool, true, false, List, Option, Some, None}
-use Rattle.oneshot_word.proofs.Names.{◌&&◌, ◌+◌, ◌%◌, ◌^◌, bit_xor, sym, subst, leb, ◌==◌, list_all, and_parts, either, Seen, Op, Load, Store, Swap, Exchange, Add, Xor, saw, Share, Slots, Row, SenderAt, sender_moves, sender_owns, sender_next, ReceiverAt, receiver_moves, receiver_owns, receiver_next, In, each_passes, Front, message_first, waker_first, message_home, waker_home}
+use Rattle.oneshot_word.proofs.Names.{◌&&◌, ◌+◌, ◌%◌, ◌^◌, bit_xor, sym, subst, leb, ◌==◌, list_all, and_parts, either, Seen, Op, Load, Store, Swap, Exchange, Add, Xor, saw, Share, Slots, Row}
+use Rattle.oneshot_word.proofs.Names.{SenderAt, sender_moves, sender_owns, sender_next, ReceiverAt, receiver_moves, receiver_owns, receiver_next, In, each_passes, Front, message_first, waker_first}
+use Rattle.oneshot_word.proofs.Names.{message_home, waker_home}
 use Rattle.oneshot_word.proofs.Alike.{is_bool, is_word, words_are}
 use Rattle.oneshot_word.proofs.FoundRow.{row_of}
 use Rattle.oneshot_word.proofs.SlotMoves.{is_owned, is_turn, is_act}

@@ -1,6 +1,7 @@
 -- An owner of a share of the table, and of a seat at it, owns a sender's side. Assumes `Logic`.
 use Rattle.atomic_table.proofs.Names.{◌≡◌, List, [], ◌∷◌, refl, RattleType, owns}
-use Rattle.oneshot_word.proofs.Names.{Val, vstruct, vcons, vnil, fsep, ftrue, ‵, ◌$◌, ◌∵◌, !, qed, move, fjoin, fpack, feq_i, Valss, nothing, Ura, ent, done, Logic, sem, shape, within, arc_value, Ghosts, IsAt, SenderSeat, side_of}
+use Rattle.oneshot_word.proofs.Names.{Val, vstruct, vcons, vnil, fsep, ftrue, ‵, ◌$◌, ◌∵◌, !, qed, move, fjoin, fpack, feq_i, Valss, nothing, Ura, ent, done, Logic, sem, shape, within, arc_value}
+use Rattle.oneshot_word.proofs.Names.{Ghosts, IsAt, SenderSeat, side_of}
 use Rattle.oneshot_word.specs.contracts.sender.SenderSide as side
 use Rattle.oneshot_word.specs.contracts.sender.SenderSide.TheInside as Inside
 use Rattle.oneshot_word.proofs.Crosses.{Shared, WordSeat}

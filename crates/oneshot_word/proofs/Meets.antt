@@ -1,6 +1,8 @@
 -- What the rule implies phase by phase: the word for each pair of phases, and what each log shows.
 use Rattle.std.specs.Prelude.{◌≡◌, ℕ, Bool, true, false, List, [], Option, Some, None}
-use Rattle.oneshot_word.proofs.Names.{Noted, By, sending, dropping, SenderAt, fresh, owes, finished, late, overtaken, swapped, found_closed, closed_itself, ReceiverAt, first, here, claimed, withdrew, overdue, full, unclosed, disconnected, resolved, gone, swapped_in, word_of, Message, FoundZero, MadeLast, MadeLate, stores_waker, is_overdue, is_gone, wrote_since, Home, message_home, waker_home, Lies, AnyWaker, with_waker}
+use Rattle.oneshot_word.proofs.Names.{Noted, By, sending, dropping, SenderAt, fresh, owes, finished, late, overtaken, swapped, found_closed, closed_itself, ReceiverAt, first, here, claimed, withdrew}
+use Rattle.oneshot_word.proofs.Names.{overdue, full, unclosed, disconnected, resolved, gone, swapped_in, word_of, Message, FoundZero, MadeLast, MadeLate, stores_waker, is_overdue, is_gone}
+use Rattle.oneshot_word.proofs.Names.{wrote_since, Home, message_home, waker_home, Lies, AnyWaker, with_waker}
 use Rattle.oneshot_machine.specs.Phases.{waits, ended}
 
 -- the word that the sender's final operation leaves, unless it is an add or a flip that found the receiver

@@ -1,6 +1,8 @@
 -- Two orders of the same logs are the same: the logs alone show which end performed the last operation.
 use Rattle.std.proofs.Common.{◌≡◌, ℕ, Bool, true, false, List, [], ◌∷◌, Option, Some, None, refl}
-use Rattle.oneshot_word.proofs.Names.{not, ◌&&◌, ◌||◌, ◌++◌, sym, ap, ◌∙◌, subst, true≢false, list_all, eq-eqb, Op, Noted, saw, is_same_seen, HasRow, has_row, Reaches, nothing_made, sender_makes, receiver_makes, Slots, Row, sending, dropping, SenderAt, fresh, owes, no_sender, sender_at, sender_next, sender_moves, blocked, storing, swapped, ReceiverAt, here, full, unclosed, receiver_at, receiver_moves, In, word_after, each_passes, same_sight, phase_from-snoc, OrderIsOne, WorkedOrders, WrongOrders}
+use Rattle.oneshot_word.proofs.Names.{not, ◌&&◌, ◌||◌, ◌++◌, sym, ap, ◌∙◌, subst, true≢false, list_all, eq-eqb, Op, Noted, saw, is_same_seen, HasRow, has_row, Reaches, nothing_made, sender_makes}
+use Rattle.oneshot_word.proofs.Names.{receiver_makes, Slots, Row, sending, dropping, SenderAt, fresh, owes, no_sender, sender_at, sender_next, sender_moves, blocked, storing, swapped, ReceiverAt}
+use Rattle.oneshot_word.proofs.Names.{here, full, unclosed, receiver_at, receiver_moves, In, word_after, each_passes, same_sight, phase_from-snoc, OrderIsOne, WorkedOrders, WrongOrders}
 use Rattle.oneshot_machine.specs.declared.machine.End.TheVariants.{Sender, Receiver}
 use Rattle.oneshot_machine.specs.Phases.{looked, waits}
 use Rattle.oneshot_word.proofs.Alike.{is_word}

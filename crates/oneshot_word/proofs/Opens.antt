@@ -1,6 +1,8 @@
 -- The table begins under its rule, and its first seat is split into those of both ends.
 use Rattle.std.proofs.Common.{◌≡◌, ℕ, List, [], ◌∷◌, None, refl}
-use Rattle.oneshot_word.proofs.Names.{◌++◌, get_or, set, sym, subst, Me, Act, takes, Valid, Allows, Splits, homes_after, carried_after, nothing_made, Maker, Dealer, Slot, Empty, View, Home, lies_out, lies_bare, took_none, claimed_none, Tied, dealt, runs, view, slot_vacant, carried, not_carried, seat_of, gave_none, holds_no_slot, claims_no_slot, SenderSeat, ReceiverSeat}
+use Rattle.oneshot_word.proofs.Names.{◌++◌, get_or, set, sym, subst, Me, Act, takes, Valid, Allows, Splits, homes_after, carried_after, nothing_made, Maker, Dealer, Slot, Empty, View, Home, lies_out}
+use Rattle.oneshot_word.proofs.Names.{lies_bare, took_none, claimed_none, Tied, dealt, runs, view, slot_vacant, carried, not_carried, seat_of, gave_none, holds_no_slot, claims_no_slot, SenderSeat}
+use Rattle.oneshot_word.proofs.Names.{ReceiverSeat}
 use Rattle.oneshot_word.specs.declared.rule.Role.TheVariants.{Sender, Receiver}
 use Rattle.oneshot_word.proofs.Sits.{Sits, maker_sits, dealer_sits, sits}
 use Rattle.oneshot_word.proofs.EachStep.{Holds}

@@ -3,7 +3,11 @@ use Rattle.std.proofs.Common.{◌≡◌, ℕ, Bool, true, false, Option, Some, N
 use Rattle.std.specs.Prelude.{is_some}
 use Rattle.oneshot_machine.specs.TableRows.{is_same_seen}
 use Rattle.oneshot_machine.specs.Phases.{looked, waits}
-use Rattle.oneshot_word.proofs.Names.{sym, ap, ◌∙◌, subst, not, ◌||◌, saw, Word, list_all, each_passes, In, Op, Row, Slots, Share, none, empty, filled, SenderAt, fresh, owes, finished, late, overtaken, no_sender, sender_owns, ReceiverAt, receiver_moves, blocked, storing, swapped, found_closed, here, full, unclosed, disconnected, resolved, Held, away, vacant, held, SenderMay, may, Turns, stays_away, stays_vacant, stays_held, gives_room, gives_thing, gets_room, gets_thing, AnyWaker, Slot, Message, Home, message_home, Lies, lies_out, lies_bare, lies_filled, IsGiven, IsTaken, took_none, took_it, Carried, Front, slot_vacant, slot_held, not_carried, carried, SeatOf, seat_of, GivesOnce, has_given, gave_none, HoldsTaken, holds_no_slot, holds_none, holds_it, gave, took}
+use Rattle.oneshot_word.proofs.Names.{sym, ap, ◌∙◌, subst, not, ◌||◌, saw, Word, list_all, each_passes, In, Op, Row, Slots, Share, none, empty, filled, SenderAt, fresh, owes, finished, late}
+use Rattle.oneshot_word.proofs.Names.{overtaken, no_sender, sender_owns, ReceiverAt, receiver_moves, blocked, storing, swapped, found_closed, here, full, unclosed, disconnected, resolved, Held, away}
+use Rattle.oneshot_word.proofs.Names.{vacant, held, SenderMay, may, Turns, stays_away, stays_vacant, stays_held, gives_room, gives_thing, gets_room, gets_thing, AnyWaker, Slot, Message, Home}
+use Rattle.oneshot_word.proofs.Names.{message_home, Lies, lies_out, lies_bare, lies_filled, IsGiven, IsTaken, took_none, took_it, Carried, Front, slot_vacant, slot_held, not_carried, carried, SeatOf}
+use Rattle.oneshot_word.proofs.Names.{seat_of, GivesOnce, has_given, gave_none, HoldsTaken, holds_no_slot, holds_none, holds_it, gave, took}
 
 -- a message that keeps the promise, and that the sender gives if it gives up its slot
 abbrev pub Offers : {T P : Type 0} → (P → T → Type 0) → P → Held T → T → Type 0

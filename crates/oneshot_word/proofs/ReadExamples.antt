@@ -1,11 +1,14 @@
 -- The examples of what readers of the rule find: each by its row or its order, and why the counterexamples have none.
 use Rattle.std.proofs.Common.{◌≡◌, ℕ, List, [], ◌∷◌, Option, None, refl}
-use Rattle.oneshot_word.proofs.Names.{◌⊎◌, inl, inr, sym, ap, subst, Load, Add, Noted, Reaches, nothing_made, sender_makes, receiver_makes, has_row, head, tail, orders_that_are_not, Role, Maker, Dealer, View, Ordered, maker_before, dealer_before, in_order, both_in, both_out, one_out, alone, views, found, ReadsThatAre, ReadsThatAreNot, Home, AnyWaker, both_views, view}
+use Rattle.oneshot_word.proofs.Names.{◌⊎◌, inl, inr, sym, ap, subst, Load, Add, Noted, Reaches, nothing_made, sender_makes, receiver_makes, has_row, head, tail, orders_that_are_not, Role, Maker}
+use Rattle.oneshot_word.proofs.Names.{Dealer, View, Ordered, maker_before, dealer_before, in_order, both_in, both_out, one_out, alone, views, found, ReadsThatAre, ReadsThatAreNot, Home, AnyWaker}
+use Rattle.oneshot_word.proofs.Names.{both_views, view}
 use Rattle.oneshot_machine.proofs.InOrders.{in_order as reached_in_order}
 use Rattle.oneshot_word.specs.declared.rule.Role.TheVariants.{Sender, Receiver}
 use Rattle.oneshot_word.specs.EndLogs.{sent as sent_alone}
 use Rattle.oneshot_word.specs.ReadExamples.{sent}
-use Rattle.oneshot_word.specs.ReadRule.{Owned, both_open, sent as sent_row, sender_has_it, left_for_receiver, receiver_has_it, receiver_found_it, waits_for_receiver, Ruled, maker_alone, dealer_alone, two_ends}
+use Rattle.oneshot_word.specs.ReadRule.{Owned, both_open, sent as sent_row, sender_has_it, left_for_receiver, receiver_has_it, receiver_found_it, waits_for_receiver, Ruled, maker_alone, dealer_alone}
+use Rattle.oneshot_word.specs.ReadRule.{two_ends}
 use Rattle.oneshot_word.specs.SeatExamples.{keeps}
 use Rattle.oneshot_word.proofs.RuleExamples.{states_that_are_not}
 use Rattle.oneshot_word.proofs.RuleReceives.{messages_that_pass}

@@ -1,6 +1,8 @@
 -- The examples of the rule: each state by its row, and why no row fits the counterexamples.
 use Rattle.std.proofs.Common.{[], ◌∷◌, refl}
-use Rattle.oneshot_word.proofs.Names.{◌≢◌, Word, Add, sending, dropping, AnyWaker, stopped_over, polled, polled_over, exchanged_back, left_meanwhile, sent_over, dropped_over, StatesThatAre, StatesThatAreNot, Home, out, bare, has_waker, IsSenders, IsReceivers, IsWords, Owned, both_open, waker_stored, waker_claimed, claimed_overdue, claimed_gone, receiver_gone, sender_after, written, sender_has_it, left_for_sender, left_for_receiver, receiver_has_it, receiver_found_it, waits_for_receiver, waker_at_home}
+use Rattle.oneshot_word.proofs.Names.{◌≢◌, Word, Add, sending, dropping, AnyWaker, stopped_over, polled, polled_over, exchanged_back, left_meanwhile, sent_over, dropped_over, StatesThatAre}
+use Rattle.oneshot_word.proofs.Names.{StatesThatAreNot, Home, out, bare, has_waker, IsSenders, IsReceivers, IsWords, Owned, both_open, waker_stored, waker_claimed, claimed_overdue, claimed_gone}
+use Rattle.oneshot_word.proofs.Names.{receiver_gone, sender_after, written, sender_has_it, left_for_sender, left_for_receiver, receiver_has_it, receiver_found_it, waits_for_receiver, waker_at_home}
 use Rattle.oneshot_word.specs.declared.any_waker.AnyWaker.TheVariants as R
 use Rattle.oneshot_word.specs.Examples.{waits, claims}
 use Rattle.oneshot_word.specs.EndLogs.{send_found, sent as sent_alone, sent_to_it, sent_to_overdue, dropped_before_overdue, sent_overtaken, dropped_overtaken}

@@ -1,6 +1,7 @@
 -- A message in the table keeps its channel's promise.
 use Rattle.std.proofs.Common.{◌≡◌, ℕ, List, [], ◌∷◌, refl}
-use Rattle.oneshot_word.proofs.Names.{subst, Add, nothing_made, sender_makes, has_row, Share, head, Message, View, RuleKeeps, Home, has_message, Lies, lies_out, lies_bare, lies_filled, took_none, claimed_none, Tied, opened, dealt, runs}
+use Rattle.oneshot_word.proofs.Names.{subst, Add, nothing_made, sender_makes, has_row, Share, head, Message, View, RuleKeeps, Home, has_message, Lies, lies_out, lies_bare, lies_filled, took_none}
+use Rattle.oneshot_word.proofs.Names.{claimed_none, Tied, opened, dealt, runs}
 
 module _ {T H K : Type 0} where
   pub lies_so : {kept : T → Type 0} {share : Share} {h : Home T H K} {m : T}

@@ -1,6 +1,9 @@
 -- Each operation of an end keeps the rule: computed for each pair of phases.
 use Rattle.std.proofs.Common.{◌≡◌, ℕ, Bool, true, List, [], ◌∷◌, Option, Some, None, refl}
-use Rattle.oneshot_word.proofs.Names.{◌≤◌, sym, subst, leb, list_all, and_parts, leb-true, Act, Valid, homes_after, carried_after, Op, saw, Slots, Row, sending, dropping, SenderAt, fresh, owes, finished, late, overtaken, no_sender, sender_moves, sender_owns, sender_next, blocked, storing, swapped, found_closed, ReceiverAt, first, here, full, unclosed, disconnected, resolved, receiver_moves, receiver_owns, receiver_next, Held, IsSlot, In, head, tail, May, may, SenderMay, ReceiverMay, Finds, finds, each_passes, AnyWaker, Slot, Message, with_waker, Carried, Part, message_first, waker_first, carried_as, SeatOf, seat_of, Home, Lies}
+use Rattle.oneshot_word.proofs.Names.{◌≤◌, sym, subst, leb, list_all, and_parts, leb-true, Act, Valid, homes_after, carried_after, Op, saw, Slots, Row, sending, dropping, SenderAt, fresh, owes}
+use Rattle.oneshot_word.proofs.Names.{finished, late, overtaken, no_sender, sender_moves, sender_owns, sender_next, blocked, storing, swapped, found_closed, ReceiverAt, first, here, full, unclosed}
+use Rattle.oneshot_word.proofs.Names.{disconnected, resolved, receiver_moves, receiver_owns, receiver_next, Held, IsSlot, In, head, tail, May, may, SenderMay, ReceiverMay, Finds, finds, each_passes}
+use Rattle.oneshot_word.proofs.Names.{AnyWaker, Slot, Message, with_waker, Carried, Part, message_first, waker_first, carried_as, SeatOf, seat_of, Home, Lies}
 use Rattle.oneshot_machine.specs.Phases.{looked, waits}
 use Rattle.oneshot_word.proofs.Alike.{is_bool, bools_are}
 use Rattle.oneshot_word.proofs.FoundRow.{row_of, Found, found_none, found_row, found}

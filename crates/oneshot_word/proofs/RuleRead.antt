@@ -1,6 +1,10 @@
 -- The rule of the table implies its public rows.
 use Rattle.std.proofs.Common.{ℕ, List, Bool, Option, refl}
-use Rattle.oneshot_word.proofs.Names.{Noted, sending, dropping, SenderAt, at_once, waited, swapped, by_future, by_poll, found_closed, closed_itself, ReceiverAt, first, here, claimed, withdrew, overdue, full, unclosed, disconnected, resolved, gone, Held, IsOwned, not_its_own, own_vacant, own_held, Owns, AnyWaker, Slot, View, Ordered, maker_before, dealer_before, in_order, sender_has_it, left_for_sender, receiver_has_it, left_for_receiver, receiver_found_it, waits_for_receiver, waker_at_home, Owned, both_open, waker_stored, waker_claimed, claimed_overdue, claimed_gone, receiver_gone, sender_after, written, Ruled, maker_alone, dealer_alone, two_ends, Home, lies_out, lies_bare, lies_filled, Tied, opened, dealt, runs, Carried, slot_vacant, slot_held, Part, not_carried, carried, Front, SeatOf, seat_of}
+use Rattle.oneshot_word.proofs.Names.{Noted, sending, dropping, SenderAt, at_once, waited, swapped, by_future, by_poll, found_closed, closed_itself, ReceiverAt, first, here, claimed, withdrew}
+use Rattle.oneshot_word.proofs.Names.{overdue, full, unclosed, disconnected, resolved, gone, Held, IsOwned, not_its_own, own_vacant, own_held, Owns, AnyWaker, Slot, View, Ordered, maker_before}
+use Rattle.oneshot_word.proofs.Names.{dealer_before, in_order, sender_has_it, left_for_sender, receiver_has_it, left_for_receiver, receiver_found_it, waits_for_receiver, waker_at_home, Owned}
+use Rattle.oneshot_word.proofs.Names.{both_open, waker_stored, waker_claimed, claimed_overdue, claimed_gone, receiver_gone, sender_after, written, Ruled, maker_alone, dealer_alone, two_ends, Home}
+use Rattle.oneshot_word.proofs.Names.{lies_out, lies_bare, lies_filled, Tied, opened, dealt, runs, Carried, slot_vacant, slot_held, Part, not_carried, carried, Front, SeatOf, seat_of}
 use Rattle.oneshot_machine.specs.Phases.{waits, ended}
 use Rattle.oneshot_machine.specs.Slots.{owns}
 use Rattle.oneshot_word.specs.ReadRule.{sent, dropped}

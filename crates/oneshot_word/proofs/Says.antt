@@ -1,6 +1,9 @@
 -- What a log shows after one more operation.
 use Rattle.std.proofs.Common.{◌≡◌, ℕ, Bool, true, List, [], ◌∷◌, Option, refl}
-use Rattle.oneshot_word.proofs.Names.{◌&&◌, ◌++◌, ap, ◌∙◌, list_all, and_parts, Seen, Op, Noted, saw, sending, dropping, SenderAt, sender_moves, sender_next, Slots, Row, blocked, storing, swapped, found_closed, ReceiverAt, here, full, unclosed, disconnected, resolved, receiver_moves, receiver_next, In, head, tail, each_passes, send_found, drop_found, sent_to_it, sent_to_overdue, dropped_before_it, dropped_before_overdue, sent_late, dropped_late, sent_overtaken, dropped_overtaken, along, stores_next, overdue_next, gone_next, wrote_next}
+use Rattle.oneshot_word.proofs.Names.{◌&&◌, ◌++◌, ap, ◌∙◌, list_all, and_parts, Seen, Op, Noted, saw, sending, dropping, SenderAt, sender_moves, sender_next, Slots, Row, blocked, storing, swapped}
+use Rattle.oneshot_word.proofs.Names.{found_closed, ReceiverAt, here, full, unclosed, disconnected, resolved, receiver_moves, receiver_next, In, head, tail, each_passes, send_found, drop_found}
+use Rattle.oneshot_word.proofs.Names.{sent_to_it, sent_to_overdue, dropped_before_it, dropped_before_overdue, sent_late, dropped_late, sent_overtaken, dropped_overtaken, along, stores_next}
+use Rattle.oneshot_word.proofs.Names.{overdue_next, gone_next, wrote_next}
 use Rattle.oneshot_machine.specs.Phases.{looked, waits}
 use Rattle.oneshot_word.specs.EndLogs.{sent, dropped}
 use Rattle.oneshot_word.proofs.Alike.{is_bool, bools_are, is_word, words_are}

@@ -1,6 +1,7 @@
 -- The examples of sides: each by its row of the table, and what the counterexamples lack.
 use Rattle.std.proofs.Common.{◌≡◌, ℕ, List, [], Some, None, refl}
-use Rattle.oneshot_word.proofs.Names.{get_or, ap, TableId, Seen, Done, Word, Add, Noted, no_slot, room, has, slots_that_are, slots_that_are_not, sent_at_once, Held, held, SidesThatAre, SidesThatAreNot}
+use Rattle.oneshot_word.proofs.Names.{get_or, ap, TableId, Seen, Done, Word, Add, Noted, no_slot, room, has, slots_that_are, slots_that_are_not, sent_at_once, Held, held, SidesThatAre}
+use Rattle.oneshot_word.proofs.Names.{SidesThatAreNot}
 use Rattle.oneshot_word.specs.SeatExamples.{claims, looked}
 
 -- a slot holds one thing

@@ -1,7 +1,8 @@
 -- What a seat's view shows of the table: whose seat it is, and what the rule then states.
 use Rattle.std.proofs.Common.{◌≡◌, ℕ, List, [], ◌∷◌, Option, None}
 use mathlib.Core.Option as maybe
-use Rattle.oneshot_word.proofs.Names.{zero, suc, sym, ap, subst, some-injective, some-ne-none, get_elem?, Noted, Reaches, sender_at, receiver_at, Role, Maker, Dealer, Message, View, Home, out, bare, message_home, waker_home, Lies, IsGiven, IsTaken, Tied, opened, dealt, runs, view, AnyWaker, IsPut, IsClaimed, with_waker}
+use Rattle.oneshot_word.proofs.Names.{zero, suc, sym, ap, subst, some-injective, some-ne-none, get_elem?, Noted, Reaches, sender_at, receiver_at, Role, Maker, Dealer, Message, View, Home, out, bare}
+use Rattle.oneshot_word.proofs.Names.{message_home, waker_home, Lies, IsGiven, IsTaken, Tied, opened, dealt, runs, view, AnyWaker, IsPut, IsClaimed, with_waker}
 use Rattle.oneshot_word.specs.declared.rule.Role.TheVariants.{Sender, Receiver}
 
 module _ {T H K P : Type 0} (keeps : P → T → Type 0) where

@@ -2,7 +2,9 @@
 use Rattle.std.proofs.Common.{◌≡◌, ℕ, Bool, true, false, [], ◌∷◌, refl}
 use mathlib.Core.Option as maybe
 use Rattle.atomic_table.specs.Table.{keeps}
-use Rattle.oneshot_word.proofs.Names.{Act, takes, gives, chain, Valid, homes_after, carried_after, Share, none, empty, filled, Held, away, vacant, held, IsSlot, is_away, is_vacant, is_held, Turns, stays_away, stays_vacant, stays_held, gives_room, gives_thing, gets_room, gets_thing, Slot, Empty, Carried, slot_vacant, slot_held, Part, not_carried, carried, Front, message_first, waker_first, carried_as, Home, out, Lies, lies_out, lies_bare, lies_filled, is_same_share}
+use Rattle.oneshot_word.proofs.Names.{Act, takes, gives, chain, Valid, homes_after, carried_after, Share, none, empty, filled, Held, away, vacant, held, IsSlot, is_away, is_vacant, is_held, Turns}
+use Rattle.oneshot_word.proofs.Names.{stays_away, stays_vacant, stays_held, gives_room, gives_thing, gets_room, gets_thing, Slot, Empty, Carried, slot_vacant, slot_held, Part, not_carried, carried}
+use Rattle.oneshot_word.proofs.Names.{Front, message_first, waker_first, carried_as, Home, out, Lies, lies_out, lies_bare, lies_filled, is_same_share}
 
 -- whether an end has a slot with this share
 abbrev pub is_owned : Share → Bool

@@ -1,6 +1,8 @@
 -- What a seat carries is what its end sees, and which content fits each slot.
 use Rattle.std.proofs.Common.{◌≡◌, Bool, List, Option, refl}
-use Rattle.oneshot_word.proofs.Names.{sym, subst, Me, Noted, Held, vacant, held, AnyWaker, Slot, Empty, Message, Thread, Task, Nobody, View, Role, Keeps, held_keeps, with_waker, Carried, message_of, waker_of, message_in, waker_in, SlotOf, MessageSlot, WakerSlot, any, slot_vacant, slot_held, not_carried, carried, Front, message_first, waker_first, SeatOf, seat_of, IsOrdered, SeatIs}
+use Rattle.oneshot_word.proofs.Names.{sym, subst, Me, Noted, Held, vacant, held, AnyWaker, Slot, Empty, Message, Thread, Task, Nobody, View, Role, Keeps, held_keeps, with_waker, Carried, message_of}
+use Rattle.oneshot_word.proofs.Names.{waker_of, message_in, waker_in, SlotOf, MessageSlot, WakerSlot, any, slot_vacant, slot_held, not_carried, carried, Front, message_first, waker_first, SeatOf}
+use Rattle.oneshot_word.proofs.Names.{seat_of, IsOrdered, SeatIs}
 use Rattle.oneshot_word.specs.declared.any_waker.AnyWaker.TheVariants as R
 
 pub reads_back : (T : Type 0) {H K : Type 0} (k : AnyWaker H K) → waker_of (with_waker {T = T} k) ≡ held k

@@ -1,6 +1,8 @@
 -- A trade of a slot's content: the end has the new content there, and its other slot stays.
 use Rattle.std.proofs.Common.{◌≡◌, ℕ, Bool, List, [], ◌∷◌, Option, refl}
-use Rattle.oneshot_word.proofs.Names.{◌≢◌, sym, ap, ◌∙◌, subst, TableId, Me, rest, turned, Noted, Held, away, AnyWaker, any, Slot, View, Role, Carried, message_in, waker_in, MessageSlot, WakerSlot, slot_vacant, not_carried, carried, Front, message_first, waker_first, SeatOf, seat_of, GivesOnce, has_given, gave_none, HoldsTaken, HoldsClaimed, SeatIs, SenderSeat, ReceiverSeat, Side, side_of}
+use Rattle.oneshot_word.proofs.Names.{◌≢◌, sym, ap, ◌∙◌, subst, TableId, Me, rest, turned, Noted, Held, away, AnyWaker, any, Slot, View, Role, Carried, message_in, waker_in, MessageSlot, WakerSlot}
+use Rattle.oneshot_word.proofs.Names.{slot_vacant, not_carried, carried, Front, message_first, waker_first, SeatOf, seat_of, GivesOnce, has_given, gave_none, HoldsTaken, HoldsClaimed, SeatIs}
+use Rattle.oneshot_word.proofs.Names.{SenderSeat, ReceiverSeat, Side, side_of}
 use Rattle.oneshot_word.proofs.SlotReads.{Reads, reads, as_seat}
 
 -- while the sender has the slot it has given none, whatever it puts there

@@ -1,5 +1,10 @@
 -- A turn does the same by classes: a step reads of a waker only whether it is the parker's half, and of a poll nothing.
-use Rattle.oneshot_world.proofs.Names.{◌≡◌, Bool, true, false, Option, Some, None, refl, ap, if◌then◌else◌, option_map, option_and_then, receiver_step, receiver_row, Outcome, sender_step, sender_row, End, Sender, Receiver, Reply, Step, ReceiverPos, SenderPos, Call, Poll, as_sender_call, as_receiver_call, Classes, as_name, as_wakers, as_told, as_state, as_call, as_made, as_turned, Control, Begin, control_then, control_turn, sender_under_way, receiver_under_way, as_begin, as_control, as_control_turned, turns, sender_turns_at, receiver_turns_at, position_of_sender, position_of_receiver, sender_stepped, sender_moved, receiver_moved, receiver_stepped, made, made_entry, sender_fits, receiver_fits, hand_kept, seen_by, reply_of, is_future, sender_puts, receiver_puts, wakers_left, sets_token, own_of, ReceiverState, SenderState, State, Entry, Made, Place, Input, Wakers}
+use Rattle.oneshot_world.proofs.Names.{◌≡◌, Bool, true, false, Option, Some, None, refl, ap, if◌then◌else◌, option_map, option_and_then, receiver_step, receiver_row, Outcome, sender_step, sender_row}
+use Rattle.oneshot_world.proofs.Names.{End, Sender, Receiver, Reply, Step, ReceiverPos, SenderPos, Call, Poll, as_sender_call, as_receiver_call, Classes, as_name, as_wakers, as_told, as_state}
+use Rattle.oneshot_world.proofs.Names.{as_call, as_made, as_turned, Control, Begin, control_then, control_turn, sender_under_way, receiver_under_way, as_begin, as_control, as_control_turned, turns}
+use Rattle.oneshot_world.proofs.Names.{sender_turns_at, receiver_turns_at, position_of_sender, position_of_receiver, sender_stepped, sender_moved, receiver_moved, receiver_stepped, made, made_entry}
+use Rattle.oneshot_world.proofs.Names.{sender_fits, receiver_fits, hand_kept, seen_by, reply_of, is_future, sender_puts, receiver_puts, wakers_left, sets_token, own_of, ReceiverState, SenderState}
+use Rattle.oneshot_world.proofs.Names.{State, Entry, Made, Place, Input, Wakers}
 use Rattle.oneshot_machine.specs.declared.machine.Step.TheVariants as T
 use Rattle.oneshot_machine.specs.declared.states.Op.TheVariants as O
 use Rattle.oneshot_world.specs.declared.state.ReceiverState.TheVariants as RS

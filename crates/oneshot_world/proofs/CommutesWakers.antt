@@ -1,5 +1,6 @@
 -- A step does the same with the wakers by classes.
-use Rattle.oneshot_world.proofs.Names.{◌≡◌, ℕ, Bool, true, false, Option, Some, None, refl, ◌∙◌, ap, ◌==◌, is_some, is_none, if◌then◌else◌, option_map, Step, Classes, as_name, as_wakers, as_told, as_move, is_parker, is_copy, withdrawn, back_to, wakers_left, waker_move, WakerName, Parker, Copy, WakerPlace, Input, Wakers}
+use Rattle.oneshot_world.proofs.Names.{◌≡◌, ℕ, Bool, true, false, Option, Some, None, refl, ◌∙◌, ap, ◌==◌, is_some, is_none, if◌then◌else◌, option_map, Step, Classes, as_name, as_wakers, as_told}
+use Rattle.oneshot_world.proofs.Names.{as_move, is_parker, is_copy, withdrawn, back_to, wakers_left, waker_move, WakerName, Parker, Copy, WakerPlace, Input, Wakers}
 use Rattle.oneshot_machine.specs.declared.machine.Step.TheVariants as T
 use Rattle.oneshot_machine.specs.declared.states.Op.TheVariants as O
 use Rattle.oneshot_world.specs.declared.trace.WakerPlace.TheVariants as WakerPlaces

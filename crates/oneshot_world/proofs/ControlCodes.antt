@@ -1,5 +1,9 @@
 -- Values that are compared by their codes are equal if their codes are.
-use Rattle.oneshot_world.proofs.Names.{◌≡◌, ℕ, Bool, true, false, List, [], ◌∷◌, Option, Some, None, refl, sym, ◌∙◌, ap, ◌==◌, ◌&&◌, get_or, map, if◌then◌else◌, eqb-true, sender_positions, receiver_positions, LookFull, TryLoad, StartLoad, StartWrite, StartSwap, SumClock, RecvLoad, AsyncLoad, DropSwap, ReceiverStart, SenderCall, Call, Of_sender, Of_receiver, Poll, Stray, all_sender_calls, all_receiver_calls, Control, sender_code, receiver_code, sender_call_code, receiver_call_code, is_same_call, is_same_under_way, place_code, bool_code, is_same_wakers, is_same_state, is_same_control, is_same_name, is_same_waker, ReceiverState, SenderState, State, Place, NotSent, InCell, InError, Delivered, FromError, Dropped, WakerName, Parker, Copy, Wakers}
+use Rattle.oneshot_world.proofs.Names.{◌≡◌, ℕ, Bool, true, false, List, [], ◌∷◌, Option, Some, None, refl, sym, ◌∙◌, ap, ◌==◌, ◌&&◌, get_or, map, if◌then◌else◌, eqb-true, sender_positions}
+use Rattle.oneshot_world.proofs.Names.{receiver_positions, LookFull, TryLoad, StartLoad, StartWrite, StartSwap, SumClock, RecvLoad, AsyncLoad, DropSwap, ReceiverStart, SenderCall, Call, Of_sender}
+use Rattle.oneshot_world.proofs.Names.{Of_receiver, Poll, Stray, all_sender_calls, all_receiver_calls, Control, sender_code, receiver_code, sender_call_code, receiver_call_code, is_same_call}
+use Rattle.oneshot_world.proofs.Names.{is_same_under_way, place_code, bool_code, is_same_wakers, is_same_state, is_same_control, is_same_name, is_same_waker, ReceiverState, SenderState, State, Place}
+use Rattle.oneshot_world.proofs.Names.{NotSent, InCell, InError, Delivered, FromError, Dropped, WakerName, Parker, Copy, Wakers}
 use Rattle.oneshot_machine.specs.declared.machine.future.FuturePos.TheVariants as F
 use Rattle.oneshot_machine.specs.declared.machine.receiver.ReceiverPos.TheVariants as R
 use Rattle.oneshot_machine.specs.declared.machine.sender.SenderPos.TheVariants as S

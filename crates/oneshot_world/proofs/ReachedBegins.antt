@@ -1,5 +1,9 @@
 -- A test of each move that may begin in a reached world passes at the move that an end makes there.
-use Rattle.oneshot_world.proofs.Names.{◌≡◌, ◌==◌, ℕ, Bool, true, false, List, [], ◌∷◌, Option, Some, subst, if◌then◌else◌, map, filter, list_all, option_map, option_and_then, Sender, Receiver, ReceiverPos, SenderPos, Call, Of_sender, Of_receiver, Poll, number_of, first, as_sender_call, as_receiver_call, all_sender_calls, all_receiver_calls, Classes, as_call, Begin, begins_poll, poll_begin, plain_told, as_begin, sender_begins, receiver_begins_at, receiver_begins, sender_under_way, receiver_under_way, begins_with, stays_sender, ends_sender, stays_error, ends_error, begins_sender, begins_error, begins_receiver, begins_async, stays_async, ends_async, sender_has, receiver_has, sender_position, receiver_position, nothing_told, told_with, ReceiverState, SenderState, Place, Input, End, sender_call_code, receiver_call_code}
+use Rattle.oneshot_world.proofs.Names.{◌≡◌, ◌==◌, ℕ, Bool, true, false, List, [], ◌∷◌, Option, Some, subst, if◌then◌else◌, map, filter, list_all, option_map, option_and_then, Sender, Receiver}
+use Rattle.oneshot_world.proofs.Names.{ReceiverPos, SenderPos, Call, Of_sender, Of_receiver, Poll, number_of, first, as_sender_call, as_receiver_call, all_sender_calls, all_receiver_calls, Classes}
+use Rattle.oneshot_world.proofs.Names.{as_call, Begin, begins_poll, poll_begin, plain_told, as_begin, sender_begins, receiver_begins_at, receiver_begins, sender_under_way, receiver_under_way}
+use Rattle.oneshot_world.proofs.Names.{begins_with, stays_sender, ends_sender, stays_error, ends_error, begins_sender, begins_error, begins_receiver, begins_async, stays_async, ends_async, sender_has}
+use Rattle.oneshot_world.proofs.Names.{receiver_has, sender_position, receiver_position, nothing_told, told_with, ReceiverState, SenderState, Place, Input, End, sender_call_code, receiver_call_code}
 use Rattle.oneshot_world.specs.declared.state.ReceiverState.TheVariants as RS
 use Rattle.oneshot_world.specs.declared.state.SenderState.TheVariants as SS
 use Rattle.oneshot_world.proofs.Bools.{and_left, and_right, all_left, all_right}

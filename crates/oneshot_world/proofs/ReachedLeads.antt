@@ -1,5 +1,9 @@
 -- A turn from a reached world leads to a reached one, as far as its finite part shows.
-use Rattle.oneshot_world.proofs.Names.{◌≡◌, ◌≤◌, ◌==◌, ℕ, Bool, true, false, List, Option, Some, None, refl, ◌∙◌, ap, subst, ◌&&◌, ◌||◌, nat_le, if◌then◌else◌, leb-true, list_all, option_map, IsSome, Sender, Receiver, Reply, ReceiverPos, SenderPos, Call, first, Classes, all_alike, Control, control_of, Begin, begins, as_begin, as_control, as_control_turned, sender_begins, control_then, control_turn, one_poll, one_copy, reached, is_reached, IsReached, bool_code, control_code, is_same_control, stays_sender, ends_sender, stays_error, ends_error, all_in, sender_turns_at, receiver_turns_at, position_of_sender, position_of_receiver, sender_steps, receiver_steps, made_entry, is_future, World, by_end, reply_in, nothing_told, receiver_told, ReceiverState, SenderState, State, Entry, Made, NotSent}
+use Rattle.oneshot_world.proofs.Names.{◌≡◌, ◌≤◌, ◌==◌, ℕ, Bool, true, false, List, Option, Some, None, refl, ◌∙◌, ap, subst, ◌&&◌, ◌||◌, nat_le, if◌then◌else◌, leb-true, list_all, option_map, IsSome}
+use Rattle.oneshot_world.proofs.Names.{Sender, Receiver, Reply, ReceiverPos, SenderPos, Call, first, Classes, all_alike, Control, control_of, Begin, begins, as_begin, as_control, as_control_turned}
+use Rattle.oneshot_world.proofs.Names.{sender_begins, control_then, control_turn, one_poll, one_copy, reached, is_reached, IsReached, bool_code, control_code, is_same_control, stays_sender}
+use Rattle.oneshot_world.proofs.Names.{ends_sender, stays_error, ends_error, all_in, sender_turns_at, receiver_turns_at, position_of_sender, position_of_receiver, sender_steps, receiver_steps}
+use Rattle.oneshot_world.proofs.Names.{made_entry, is_future, World, by_end, reply_in, nothing_told, receiver_told, ReceiverState, SenderState, State, Entry, Made, NotSent}
 use Rattle.oneshot_machine.specs.declared.machine.Reply.TheVariants as Replies
 use Rattle.oneshot_world.specs.declared.state.ReceiverState.TheVariants as RS
 use Rattle.oneshot_world.specs.declared.state.SenderState.TheVariants as SS

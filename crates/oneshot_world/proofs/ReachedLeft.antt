@@ -1,5 +1,9 @@
 -- After a step by a row, a run can have left what the world has left.
-use Rattle.oneshot_world.proofs.Names.{◌≡◌, ◌==◌, Bool, true, false, List, [], ◌∷◌, Option, Some, None, refl, sym, ap, subst, ◌||◌, if◌then◌else◌, Outcome, Goes, Answers, Sender, Receiver, Reply, Step, ReceiverPos, SenderPos, Call, Unanswered, first, rest, is_none_left, left_by, all_alike, Control, control_of, as_control, sender_under_way, receiver_under_way, control_then, is_reached, IsReached, bool_code, is_sender_script, is_error_script, has_script, sender_has, receiver_has, sender_moved, receiver_moved, place_left, reply_of, sender_goes, receiver_goes, is_plain, is_free, is_future, sender_puts, receiver_puts, World, nothing_told, ReceiverState, State, Place, Input}
+use Rattle.oneshot_world.proofs.Names.{◌≡◌, ◌==◌, Bool, true, false, List, [], ◌∷◌, Option, Some, None, refl, sym, ap, subst, ◌||◌, if◌then◌else◌, Outcome, Goes, Answers, Sender, Receiver, Reply}
+use Rattle.oneshot_world.proofs.Names.{Step, ReceiverPos, SenderPos, Call, Unanswered, first, rest, is_none_left, left_by, all_alike, Control, control_of, as_control, sender_under_way}
+use Rattle.oneshot_world.proofs.Names.{receiver_under_way, control_then, is_reached, IsReached, bool_code, is_sender_script, is_error_script, has_script, sender_has, receiver_has, sender_moved}
+use Rattle.oneshot_world.proofs.Names.{receiver_moved, place_left, reply_of, sender_goes, receiver_goes, is_plain, is_free, is_future, sender_puts, receiver_puts, World, nothing_told, ReceiverState}
+use Rattle.oneshot_world.proofs.Names.{State, Place, Input}
 use Rattle.oneshot_machine.specs.declared.machine.Reply.TheVariants as Replies
 use Rattle.oneshot_world.specs.declared.state.ReceiverState.TheVariants as RS
 use Rattle.oneshot_world.specs.declared.state.SenderState.TheVariants as SS

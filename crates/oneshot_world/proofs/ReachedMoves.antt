@@ -1,11 +1,15 @@
 -- Each move from a reached world has its row, and leads to a reached world.
-use Rattle.oneshot_world.proofs.Names.{◌≡◌, ℕ, Bool, true, Option, Some, None, refl, sym, ◌∙◌, ap, subst, option_map, IsSome, receiver_step, receiver_row, Outcome, sender_step, sender_row, Sender, Receiver, Reply, ReceiverPos, SenderPos, Call, Poll, first, left_by, Classes, all_alike, as_call, control_of, as_begin, as_control, control_then, is_reached, IsReached, sender_steps, receiver_steps, sender_moved, sender_stepped, receiver_moved, receiver_stepped, sender_fits, receiver_fits, reply_of, sender_goes, receiver_goes, seen_by, World, nothing_told, receiver_told, ReceiverState, SenderState, State, Made, Input}
+use Rattle.oneshot_world.proofs.Names.{◌≡◌, ℕ, Bool, true, Option, Some, None, refl, sym, ◌∙◌, ap, subst, option_map, IsSome, receiver_step, receiver_row, Outcome, sender_step, sender_row, Sender}
+use Rattle.oneshot_world.proofs.Names.{Receiver, Reply, ReceiverPos, SenderPos, Call, Poll, first, left_by, Classes, all_alike, as_call, control_of, as_begin, as_control, control_then, is_reached}
+use Rattle.oneshot_world.proofs.Names.{IsReached, sender_steps, receiver_steps, sender_moved, sender_stepped, receiver_moved, receiver_stepped, sender_fits, receiver_fits, reply_of, sender_goes}
+use Rattle.oneshot_world.proofs.Names.{receiver_goes, seen_by, World, nothing_told, receiver_told, ReceiverState, SenderState, State, Made, Input}
 use Rattle.oneshot_machine.specs.declared.machine.Reply.TheVariants as Replies
 use Rattle.oneshot_world.specs.declared.state.ReceiverState.TheVariants as RS
 use Rattle.oneshot_world.specs.declared.state.SenderState.TheVariants as SS
 use Rattle.oneshot_world.proofs.Bools.{and_left, and_right}
 use Rattle.oneshot_world.proofs.ScriptsLeft.{sender_has_script, receiver_has_script}
-use Rattle.oneshot_world.proofs.ReachedLeads.{left_as, sender_left_by_its_call, ends_right, receiver_left_by_its_call, leads_on, sender_at, receiver_at, sender_begin, receiver_begin, after_sender, after_receiver, sender_leads, receiver_leads, made_if, from_row}
+use Rattle.oneshot_world.proofs.ReachedLeads.{left_as, sender_left_by_its_call, ends_right, receiver_left_by_its_call, leads_on, sender_at, receiver_at, sender_begin, receiver_begin, after_sender}
+use Rattle.oneshot_world.proofs.ReachedLeads.{after_receiver, sender_leads, receiver_leads, made_if, from_row}
 use Rattle.oneshot_world.proofs.ReachedLeft.{sender_world, receiver_world, sender_stays_reached, receiver_stays_reached}
 
 -- the classes of calls stay or end as the calls do

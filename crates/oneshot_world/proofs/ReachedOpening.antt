@@ -1,5 +1,6 @@
 -- The world before the first move is reached.
-use Rattle.oneshot_world.proofs.Names.{◌≡◌, true, Some, None, refl, error_calls, all_alike, as_control, reached, is_reached, IsReached, opening_control, is_error_script, opening, opening_place, ReceiverScript, SenderLast, SenderScript, NotSent}
+use Rattle.oneshot_world.proofs.Names.{◌≡◌, true, Some, None, refl, error_calls, all_alike, as_control, reached, is_reached, IsReached, opening_control, is_error_script, opening, opening_place}
+use Rattle.oneshot_world.proofs.Names.{ReceiverScript, SenderLast, SenderScript, NotSent}
 use Rattle.oneshot_world.specs.declared.script.SenderLast.TheVariants as SL
 use Rattle.oneshot_world.proofs.ScriptsLeft.{error_scripted, sender_scripted, receiver_scripted}
 

@@ -1,5 +1,6 @@
 -- What is left of a receiver's script as its calls reply one by one.
-use Rattle.oneshot_world.proofs.Names.{◌≡◌, ℕ, ◌+◌, ◌<◌, List, [], ◌∷◌, Option, Some, None, true, is_some, refl, length, drop, get_or, add-one, drop-cons, Receiver, Reply, Unanswered, first, number_of, rest, left_by, receiver_call, receiver_calls, async_call, async_calls, AsyncCall, AsyncLast, ReceiverCall, ReceiverLast, option_and_then}
+use Rattle.oneshot_world.proofs.Names.{◌≡◌, ℕ, ◌+◌, ◌<◌, List, [], ◌∷◌, Option, Some, None, true, is_some, refl, length, drop, get_or, add-one, drop-cons, Receiver, Reply, Unanswered, first}
+use Rattle.oneshot_world.proofs.Names.{number_of, rest, left_by, receiver_call, receiver_calls, async_call, async_calls, AsyncCall, AsyncLast, ReceiverCall, ReceiverLast, option_and_then}
 use Rattle.oneshot_world.specs.declared.script.AsyncCall.TheVariants as AC
 use Rattle.oneshot_world.specs.declared.script.ReceiverCall.TheVariants as Script
 use Rattle.oneshot_world.specs.declared.script.ReceiverLast.TheVariants as RL

@@ -1,5 +1,9 @@
 -- What is left of a script is a script, call by call.
-use Rattle.oneshot_world.proofs.Names.{◌≡◌, ℕ, suc, zero, Bool, true, false, List, [], ◌∷◌, ◌++◌, replicate, Option, Some, None, refl, ◌||◌, ◌&&◌, is_some, ReceiverPos, ReceiverStart, SenderCall, SenderPos, Call, Of_sender, Of_receiver, first, rest, is_none_left, sender_last, error_last, receiver_calls, async_calls, is_script, is_sender_script, is_error_script, is_receiver_script, is_async_script, has_script, sender_has, receiver_has, stays_sender, ends_sender, stays_error, ends_error, ends_receiver, ends_async, makes_future, begins_receiver, stays_receiver, stays_async, sender_position, receiver_position, place_left, opening_place, AsyncCall, AsyncLast, ErrorLast, ReceiverCall, ReceiverLast, SenderLast, ReceiverState, SenderState, Place, NotSent}
+use Rattle.oneshot_world.proofs.Names.{◌≡◌, ℕ, suc, zero, Bool, true, false, List, [], ◌∷◌, ◌++◌, replicate, Option, Some, None, refl, ◌||◌, ◌&&◌, is_some, ReceiverPos, ReceiverStart, SenderCall}
+use Rattle.oneshot_world.proofs.Names.{SenderPos, Call, Of_sender, Of_receiver, first, rest, is_none_left, sender_last, error_last, receiver_calls, async_calls, is_script, is_sender_script}
+use Rattle.oneshot_world.proofs.Names.{is_error_script, is_receiver_script, is_async_script, has_script, sender_has, receiver_has, stays_sender, ends_sender, stays_error, ends_error, ends_receiver}
+use Rattle.oneshot_world.proofs.Names.{ends_async, makes_future, begins_receiver, stays_receiver, stays_async, sender_position, receiver_position, place_left, opening_place, AsyncCall, AsyncLast}
+use Rattle.oneshot_world.proofs.Names.{ErrorLast, ReceiverCall, ReceiverLast, SenderLast, ReceiverState, SenderState, Place, NotSent}
 use Rattle.oneshot_machine.specs.declared.machine.receiver.ReceiverStart.TheVariants as RC
 use Rattle.oneshot_machine.specs.declared.machine.sender.SenderCall.TheVariants as SC
 use Rattle.oneshot_world.specs.declared.script.AsyncCall.TheVariants as AC

@@ -1,5 +1,7 @@
 -- A step by a row is assembled from its parts.
-use Rattle.oneshot_world.proofs.Names.{◌≡◌, Bool, true, false, Option, Some, None, refl, if◌then◌else◌, ◌||◌, option_map, IsSome, receiver_step, receiver_row, outcome, sender_step, sender_row, Sender, Receiver, Reply, ReceiverPos, SenderPos, made, moved, hand_kept, sender_fits, receiver_fits, sender_stepped, receiver_stepped, sender_steps, receiver_steps, is_future, seen_by, sender_puts, receiver_puts, sender_goes, receiver_goes, State, Made, Step, Input}
+use Rattle.oneshot_world.proofs.Names.{◌≡◌, Bool, true, false, Option, Some, None, refl, if◌then◌else◌, ◌||◌, option_map, IsSome, receiver_step, receiver_row, outcome, sender_step, sender_row, Sender}
+use Rattle.oneshot_world.proofs.Names.{Receiver, Reply, ReceiverPos, SenderPos, made, moved, hand_kept, sender_fits, receiver_fits, sender_stepped, receiver_stepped, sender_steps, receiver_steps}
+use Rattle.oneshot_world.proofs.Names.{is_future, seen_by, sender_puts, receiver_puts, sender_goes, receiver_goes, State, Made, Step, Input}
 
 made_where_it_fits : {P : Type 0} (fits : Bool) (f : P → Made × State) (row : Option P) (r : P)
     → IsSome (if fits then option_map f row else None) → row ≡ Some r

@@ -1,5 +1,7 @@
 -- A turn of a world: an end without a position is idle, and one with a position makes a step by a row.
-use Rattle.oneshot_world.proofs.Names.{◌≡◌, ℕ, Bool, Option, Some, None, refl, sym, ◌∙◌, ap, subst, option_map, receiver_step, Outcome, sender_step, End, Sender, Receiver, ReceiverPos, SenderPos, IsReached, sender_turns_at, receiver_turns_at, sender_steps, receiver_steps, sender_stepped, receiver_stepped, made_entry, World, turn, turn_of, side_of, answer_told, nothing_told, receiver_told, world_then, Move, State, Entry, Made, left_by, Input}
+use Rattle.oneshot_world.proofs.Names.{◌≡◌, ℕ, Bool, Option, Some, None, refl, sym, ◌∙◌, ap, subst, option_map, receiver_step, Outcome, sender_step, End, Sender, Receiver, ReceiverPos, SenderPos}
+use Rattle.oneshot_world.proofs.Names.{IsReached, sender_turns_at, receiver_turns_at, sender_steps, receiver_steps, sender_stepped, receiver_stepped, made_entry, World, turn, turn_of, side_of}
+use Rattle.oneshot_world.proofs.Names.{answer_told, nothing_told, receiver_told, world_then, Move, State, Entry, Made, left_by, Input}
 use Rattle.oneshot_world.specs.declared.script.Move.TheVariants as M
 use Rattle.oneshot_world.specs.declared.trace.Entry.TheVariants.{Idle, Made as Made_entry}
 use Rattle.oneshot_world.proofs.ReachedLeads.{sender_at, receiver_at}

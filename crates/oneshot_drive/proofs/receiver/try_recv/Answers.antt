@@ -1,7 +1,8 @@
 -- Proofs of the goals that `try_recv` leaves.
 use Rattle.oneshot_drive.proofs.Names.{rules, refl, Store, is_in, try_recv_few}
 use Rattle.oneshot_drive.proofs.AfterOperations.{Came, asks, took_message}
-use Rattle.oneshot_drive.proofs.RestLoads.{Looked, load_asks, loaded, loaded_full, loaded_open, loaded_closed, loaded_none, closed, rests_over, rests_here, took_leaves, open_leaves, closed_leaves, took_ran, empty_ran, gone_ran, never}
+use Rattle.oneshot_drive.proofs.RestLoads.{Looked, load_asks, loaded, loaded_full, loaded_open, loaded_closed, loaded_none, closed, rests_over, rests_here, took_leaves, open_leaves, closed_leaves}
+use Rattle.oneshot_drive.proofs.RestLoads.{took_ran, empty_ran, gone_ran, never}
 use Rattle.oneshot_drive.proofs.receiver.try_recv.Given as given
 use Rattle.oneshot_drive.proofs.receiver.try_recv.Goals as goal
 use Rattle.oneshot_drive.proofs.receiver.try_recv.Goals.{After-load}

@@ -1,6 +1,7 @@
 -- Proofs of the goals that `store_and_wait` leaves.
 use Rattle.oneshot_drive.proofs.Names.{◌≡◌, Some, rules, subst, is_room, waker_kept}
-use Rattle.oneshot_drive.proofs.StoredWaker.{over_message, over_end, stored_asks, stored, stored_waits, stored_there, over_word, stored_path, back_path, withdrew_full, withdrew_over, back, waited_hand}
+use Rattle.oneshot_drive.proofs.StoredWaker.{over_message, over_end, stored_asks, stored, stored_waits, stored_there, over_word, stored_path, back_path, withdrew_full, withdrew_over, back}
+use Rattle.oneshot_drive.proofs.StoredWaker.{waited_hand}
 use Rattle.oneshot_drive.proofs.waiting.store_and_wait.Goals as goal
 
 pub write_waker-requires-clause-slot : goal.write_waker-requires-clause-slot

@@ -1,5 +1,6 @@
 -- `of` returns a value of no bytes, whose ghost field is its argument. Assumes `Logic`.
-use Rattle.atomic_table.proofs.Names.{◌≡◌, [], ◌∷◌, refl, Val, SProp, emp, vstruct, vnil, ‵, raw, ◌⊛◌, ◌$◌, ◌∵◌, !, qed, by, keep, split, fjoin, use0, no_more, returns, enter, alloc_all, pass_all, free_all, look_at, sets, agg, tables, owns, types_at, plain, nothing, alive, Stays, stay_dropped, walk_of, Goes-dropped, fact, fact_i}
+use Rattle.atomic_table.proofs.Names.{◌≡◌, [], ◌∷◌, refl, Val, SProp, emp, vstruct, vnil, ‵, raw, ◌⊛◌, ◌$◌, ◌∵◌, !, qed, by, keep, split, fjoin, use0, no_more, returns, enter, alloc_all, pass_all}
+use Rattle.atomic_table.proofs.Names.{free_all, look_at, sets, agg, tables, owns, types_at, plain, nothing, alive, Stays, stay_dropped, walk_of, Goes-dropped, fact, fact_i}
 use Rattle.atomic_table.proofs.Walks.{proved, leaves}
 use denote.Builtin.{bool}
 use denote.Exit.{yes}

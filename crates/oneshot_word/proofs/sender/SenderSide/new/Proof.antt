@@ -1,7 +1,9 @@
 -- A share of the table and a seat make a side. Assumes `Logic`.
 use Rattle.atomic_table.proofs.Names.{◌≡◌, [], ◌∷◌, refl, dnil, RattleType, owns}
 use Rattle.std.proofs.Common.{Bool, true, false}
-use Rattle.oneshot_word.proofs.Names.{a_type, dcons, bounded, Val, vstruct, vcons, vnil, inst_fn, SProp, emp, ‵, raw, ◌⊛◌, ◌$◌, ◌∵◌, !, qed, by, move, keep, split, fjoin, use0, of_opd, no_more, and_then, returns, enter, alloc_all, pass_all, free_all, look_at, get, sets, agg, tables, no, types_at, plain, nothing, param, alive, Stays, stay_dropped, walk_of, Goes-dropped, fact, fact_i, T, ◌&&◌, has_ty, layout, param_laws, heard, use1, proved, leaves, arc_value, IsAt, SenderSeat, side_of, clauses}
+use Rattle.oneshot_word.proofs.Names.{a_type, dcons, bounded, Val, vstruct, vcons, vnil, inst_fn, SProp, emp, ‵, raw, ◌⊛◌, ◌$◌, ◌∵◌, !, qed, by, move, keep, split, fjoin, use0, of_opd, no_more}
+use Rattle.oneshot_word.proofs.Names.{and_then, returns, enter, alloc_all, pass_all, free_all, look_at, get, sets, agg, tables, no, types_at, plain, nothing, param, alive, Stays, stay_dropped}
+use Rattle.oneshot_word.proofs.Names.{walk_of, Goes-dropped, fact, fact_i, T, ◌&&◌, has_ty, layout, param_laws, heard, use1, proved, leaves, arc_value, IsAt, SenderSeat, side_of, clauses}
 use Rattle.oneshot_word.specs.contracts.sender.SenderSide as side
 use Rattle.oneshot_word.proofs.sender.SenderSide.TheInside.TheFields.TheLaws as fields
 use Rattle.oneshot_word.proofs.Crosses.{Shared, WordSeat}
