@@ -26,9 +26,10 @@ load-found-requires g c =
 
 pub returns-clause-at : goal.returns-clause-at
 returns-clause-at g c =
-    receiver_went Load 3 (begins c.args.receiver.now c.requires c.owns_its_slots.ensures) c.load-found.ensures (search rules)
+    receiver_went Load 3 (begins c.args.receiver.now c.requires c.owns_its_slots.ensures) c.load-found.ensures
+    (search rules)
 
 pub returns-clause-waker : goal.returns-clause-waker
 returns-clause-waker g c =
-    found_none (receiver_told Load 3 (begins c.args.receiver.now c.requires c.owns_its_slots.ensures) c.load-found.ensures
-    (search rules))
+    found_none (receiver_told Load 3 (begins c.args.receiver.now c.requires c.owns_its_slots.ensures)
+    c.load-found.ensures (search rules))

@@ -8,5 +8,6 @@ use Rattle.oneshot_ends.proofs.ground.receiver.SharedReceiverWakingHalfWakerRece
 pub invariant_of-self : goal.invariant_of-self
 invariant_of-self g c =
     subst (λ freed. MayBeFreed freed (receiver_at c.self.inside.side.log)) (sym c.of-self-inside.ensures)
-    (may_free c.self.inside.freed.value _ _ _ c.owns_its_slots.ensures (ap (λ s. s.message) c.self.view_is ∙ c.requires.message)
+    (may_free c.self.inside.freed.value _ _ _ c.owns_its_slots.ensures
+    (ap (λ s. s.message) c.self.view_is ∙ c.requires.message)
     (ap (λ s. s.waker) c.self.view_is ∙ c.requires.waker))
