@@ -16,7 +16,7 @@ use oneshot_word::{AnyWaker, Promise, SenderSide};
 use std::marker::Model;
 
 // It has no `Drop`, so that an error's last call runs on its ground.
-/// A refused message, with the sender's side.
+/// A refused message, with the side of its sender, whose `send` found the receiver gone.
 pub(crate) struct Refused<T, H, K, P: Promise<T>> {
     message: T,
     side: SenderSide<T, H, K, P>,
@@ -73,7 +73,7 @@ impl<T, H, K, P: Promise<T>> Refused<T, H, K, P> {
     }
 }
 
-/// The ground of an error, which owns the refused message.
+/// The ground of an error's last call, from which the message can be taken.
 pub(crate) struct RefusedSender<T, H, K, P: Promise<T>> {
     message: Option<T>,
     side: SenderSide<T, H, K, P>,

@@ -19,7 +19,7 @@ use std::marker::Model;
 pub(crate) type ChannelReceiver<T, P> = SharedReceiver<T, WakingHalf, Waker, P>;
 
 // It has no `Drop`: it is let go by `received` or `dropped`, which require that the last call is over.
-/// The receiver's ground.
+/// The receiver's ground, between its calls too: its side, with whether it has freed the block.
 pub(crate) struct SharedReceiver<T, H, K, P: Promise<T>> {
     pub(super) side: ReceiverSide<T, H, K, P>,
     freed: Freed,

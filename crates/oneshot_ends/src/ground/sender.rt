@@ -53,7 +53,7 @@ impl<T, P: Promise<T>> Unsent<T, WakingHalf, Waker, P> {
 }
 
 // It has no `Drop`: it is let go by `sent`, by `dropped` or as an error, which require that the call is over.
-/// The sender's ground.
+/// The ground of the sender's one call: its side, with evidence of whom the call has woken.
 pub(crate) struct SharedSender<T, P: Promise<T>> {
     side: SenderSide<T, WakingHalf, Waker, P>,
     // Whether `free` was called, for proofs alone: the block is freed with the last of both shares.
