@@ -2,4 +2,3 @@
 
 mod debug;
 mod display;
-mod values;

@@ -1,11 +1,10 @@
-//! Tests that each loop does what its name says, and reports a lost message.
+//! Tests that each loop does what its name says, and that those of this channel report a lost message.
 
 use crate::asserts::{assert_same, assert_that};
-use crossbeam_channel::bounded;
-use futures::channel::oneshot::channel as futures_channel;
 use futures::future::ready;
 use futures::task::Context;
 use oneshot::{async_channel, channel};
+use oneshot_loops::awaited_trips;
 use oneshot_loops::channels::Channel;
 use oneshot_loops::fault::Fault;
 use oneshot_loops::loops::{Awaited, Loop};
@@ -15,7 +14,6 @@ use oneshot_loops::queues::queue;
 use oneshot_loops::round_trip::{Request, ask, serve};
 use oneshot_loops::rounds::repeat;
 use oneshot_loops::tally::Tally;
-use oneshot_loops::{awaited_trips, crossbeam_trips, futures_trips};
 use std::alloc::{Alloc, AllocGlobal, Global};
 use std::cell::Cell;
 use std::io;
@@ -167,10 +165,6 @@ fn a_request_to_no_future_is_lost(rt: HostRuntime) -> Result<(), Fail> {
     drop(served);
     let lost = awaited_trips::ask(&rt, &queue, rt.alloc(), requests, &mut Tally::new());
     assert_that(&rt, matches!(lost, Err(Fault::MessageLost)));
-    let (requests, served) = futures_channel::<futures_trips::Request>(rt.alloc())?;
-    drop(served);
-    let lost = futures_trips::ask(&rt, &queue, rt.alloc(), requests, &mut Tally::new());
-    assert_that(&rt, matches!(lost, Err(Fault::MessageLost)));
     Ok(())
 }
 
@@ -180,10 +174,6 @@ fn a_request_that_no_future_gets_is_lost(rt: HostRuntime) -> Result<(), Fail> {
     let (requests, served) = async_channel::<awaited_trips::Request, ()>((), rt.alloc())?;
     drop(requests);
     let lost = awaited_trips::serve(&rt, &queue, served, &mut Tally::new());
-    assert_that(&rt, matches!(lost, Err(Fault::MessageLost)));
-    let (requests, served) = futures_channel::<futures_trips::Request>(rt.alloc())?;
-    drop(requests);
-    let lost = futures_trips::serve(&rt, &queue, served, &mut Tally::new());
     assert_that(&rt, matches!(lost, Err(Fault::MessageLost)));
     Ok(())
 }
@@ -353,15 +343,6 @@ fn the_time_is_that_of_the_work(rt: HostRuntime) -> Result<(), Fail> {
     Ok(())
 }
 
-// A round makes a channel, which takes more than ten nanoseconds.
-#[test]
-fn the_time_is_that_of_the_rounds(rt: HostRuntime) -> Result<(), Fail> {
-    let count = 20_000;
-    let time = measure(&rt, Channel::Oneshot, Loop::MakeSendReceiveDrop, count)?.time;
-    assert!(rt; time >= Duration::from_micros(200), "{time:?}");
-    Ok(())
-}
-
 /// A runtime whose clock reads how often its allocator was asked for.
 #[derive(Drop)]
 struct Asked<'a, R> {
@@ -446,34 +427,6 @@ fn a_request_that_never_comes_is_lost(rt: HostRuntime) -> Result<(), Fail> {
     assert_that(
         &rt,
         matches!(serve(served, &mut Tally::new()), Err(Fault::MessageLost)),
-    );
-    Ok(())
-}
-
-#[test]
-fn a_crossbeam_request_to_nobody_is_lost(rt: HostRuntime) -> Result<(), Fail> {
-    let (requests, served) = bounded::<crossbeam_trips::Request, _>(rt.alloc(), 1)?;
-    drop(served);
-    assert_that(
-        &rt,
-        matches!(
-            crossbeam_trips::ask(&rt, rt.alloc(), requests, &mut Tally::new()),
-            Err(Fault::MessageLost)
-        ),
-    );
-    Ok(())
-}
-
-#[test]
-fn a_crossbeam_request_that_never_comes_is_lost(rt: HostRuntime) -> Result<(), Fail> {
-    let (requests, served) = bounded::<crossbeam_trips::Request, _>(rt.alloc(), 1)?;
-    drop(requests);
-    assert_that(
-        &rt,
-        matches!(
-            crossbeam_trips::serve(&rt, served, &mut Tally::new()),
-            Err(Fault::MessageLost)
-        ),
     );
     Ok(())
 }

@@ -19,23 +19,16 @@ fn display_is<E: Error>(
 }
 
 #[test]
-fn recv_error_text_is_printed(rt: HostRuntime) -> Result<(), Fail> {
-    display_is(&rt, rt.alloc(), &RecvError, "receiving on a closed channel")
-}
-
-#[test]
-fn recv_timeout_error_texts_are_printed(rt: HostRuntime) -> Result<(), Fail> {
+fn display_texts_are_those_of_the_original(rt: HostRuntime) -> Result<(), Fail> {
+    let alloc = rt.alloc();
+    display_is(&rt, alloc, &RecvError, "receiving on a closed channel")?;
     let timeout = RecvTimeoutError::Timeout;
-    display_is(&rt, rt.alloc(), &timeout, "timed out waiting on channel")?;
+    display_is(&rt, alloc, &timeout, "timed out waiting on channel")?;
     let closed = RecvTimeoutError::Disconnected;
     let text = "channel is empty and sending half is closed";
-    display_is(&rt, rt.alloc(), &closed, text)
-}
-
-#[test]
-fn try_recv_error_texts_are_printed(rt: HostRuntime) -> Result<(), Fail> {
+    display_is(&rt, alloc, &closed, text)?;
     let empty = TryRecvError::Empty;
-    display_is(&rt, rt.alloc(), &empty, "receiving on an empty channel")?;
+    display_is(&rt, alloc, &empty, "receiving on an empty channel")?;
     let closed = TryRecvError::Disconnected;
-    display_is(&rt, rt.alloc(), &closed, "receiving on a closed channel")
+    display_is(&rt, alloc, &closed, "receiving on a closed channel")
 }
