@@ -1,4 +1,4 @@
-//! The errors of the receives: their texts, their copies, their equality and their hashes.
+//! The errors of the receives: their texts.
 
 mod debug;
 mod display;

@@ -14,8 +14,8 @@ use Rattle.oneshot_machine.specs.Slots.{In}
 use Rattle.oneshot_machine.specs.TableRows.{is_same_seen}
 use Rattle.oneshot_drive.specs.Wakes.{finds_waiting}
 use Rattle.oneshot_word.proofs.Between.{between, sender_told}
-use Rattle.oneshot_word.proofs.Hands.{none_made, is_put}
-use Rattle.oneshot_word.proofs.Meets.{word_between, Is, is}
+use Rattle.oneshot_word.proofs.WakerPasses.{none_made, is_put}
+use Rattle.oneshot_word.proofs.RuleImplies.{word_between, Is, is}
 use Rattle.oneshot_word.specs.Rule.{has_made}
 use Rattle.oneshot_ends.specs.OwnWakers.{is_waiting}
 use Rattle.oneshot_ends.proofs.OwnWakers.{is_out, left_by, all_left, if_so, no_and}

@@ -7,7 +7,7 @@ use Rattle.oneshot_machine.specs.declared.states.Op.{Op}
 use Rattle.oneshot_machine.specs.declared.states.Op.TheVariants.{Swap}
 use Rattle.oneshot_machine.specs.Phases.{sending, dropping, SenderAt, owes, sender_moves, Share, Row}
 use Rattle.oneshot_machine.specs.Slots.{Held, Finds, finds, Turns, stays_away, stays_vacant, stays_held, gives_room, gives_thing, gets_room, gets_thing}
-use Rattle.oneshot_word.proofs.Hands.{is_got}
+use Rattle.oneshot_word.proofs.WakerPasses.{is_got}
 use Rattle.oneshot_word.specs.Seats.{took}
 
 abbrev is_swap : Op → Bool

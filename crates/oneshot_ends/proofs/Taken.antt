@@ -41,7 +41,7 @@ use Rattle.oneshot_word.specs.Rule.{Tied}
 use Rattle.oneshot_word.specs.Seats.{gave}
 use Rattle.oneshot_word.specs.Side.{Side, SenderDid, ReceiverDid}
 use Rattle.oneshot_machine.specs.Slots.{away, held}
-use Rattle.oneshot_word.proofs.Alike.{is_bool, bools_are}
+use Rattle.oneshot_word.proofs.WordsEqual.{is_bool, bools_are}
 use Rattle.oneshot_word.proofs.RuleReceives.{received_is_sent}
 use Rattle.oneshot_ends.specs.Ends.{ReceiverGrew}
 use Rattle.oneshot_ends.specs.Grounds.{state_of, left_of, unless_freed}

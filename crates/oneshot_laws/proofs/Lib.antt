@@ -19,7 +19,7 @@ pub mod MessagePlacesPut
 pub mod WakerPaths
 pub mod WakerPlacesRuns
 pub mod WakerCellRuns
-pub mod Naps
+pub mod LastPollRead
 pub mod UnwokenTasks
 pub mod UnwokenParks
 pub mod UnwokenRuns

@@ -10,7 +10,7 @@ use Rattle.oneshot_laws.proofs.Glanced.{Law, Passes, as_glance, of_call, with_hi
 use Rattle.oneshot_laws.proofs.Glances.{Glance, glance_of}
 use Rattle.oneshot_laws.proofs.Watched.{Names}
 use Rattle.oneshot_laws.proofs.WatchedRuns.{Classed}
-use Rattle.oneshot_laws.proofs.Naps.{Nap, Calm, Polling, Left, nap_then, nap_after, left_after, left_by_number}
+use Rattle.oneshot_laws.proofs.LastPollRead.{Nap, Calm, Polling, Left, nap_then, nap_after, left_after, left_by_number}
 
 -- WHAT IS SEEN BY CLASSES: the number's own class is 1, and that of all others 0
 abbrev of_number : ℕ → Classes

@@ -6,8 +6,8 @@ use Rattle.oneshot_word.proofs.Names.{receiver_at, receiver_next, receiver_moves
 use Rattle.oneshot_machine.specs.Phases.{looked, waits}
 use Rattle.oneshot_word.proofs.KeptRows.{stepped}
 use Rattle.oneshot_word.proofs.RuleKept.{sender_leaves, receiver_leaves}
-use Rattle.oneshot_word.proofs.Says.{sender_says, receiver_says}
-use Rattle.oneshot_word.proofs.Meets.{word_between, Is, is, SenderSays, says_none, ReceiverSays}
+use Rattle.oneshot_word.proofs.LogsShow.{sender_says, receiver_says}
+use Rattle.oneshot_word.proofs.RuleImplies.{word_between, Is, is, SenderSays, says_none, ReceiverSays}
 
 -- A step on the table leaves the word that the operation leaves by definition: computed for each row.
 abbrev steps_so : {At : Type 0} → Row At → Bool

@@ -8,7 +8,7 @@ use Rattle.oneshot_word.proofs.Names.{receiver_at, receiver_next, receiver_moves
 use Rattle.oneshot_machine.specs.declared.machine.End.TheVariants.{Sender, Receiver}
 use Rattle.oneshot_machine.specs.Phases.{looked, waits}
 use Rattle.oneshot_word.proofs.Between.{between}
-use Rattle.oneshot_word.proofs.Meets.{word_between, Is, is}
+use Rattle.oneshot_word.proofs.RuleImplies.{word_between, Is, is}
 use Rattle.oneshot_word.proofs.RuleKept.{senders, is_sender}
 
 -- a phase that an end can be in

@@ -7,15 +7,15 @@ use Rattle.oneshot_word.proofs.Names.{sender_next, sender_moves, first, receiver
 use Rattle.oneshot_word.proofs.Names.{AnyWaker, Slot, Message, View, IsPut, IsClaimed, Home, message_home, waker_home, Lies, IsGiven, IsTaken, Tied, runs, view, any, unsaid, with_waker, message_in}
 use Rattle.oneshot_word.proofs.Names.{waker_in, Front, waker_first, message_first, SeatOf, GivesOnce, HoldsTaken, HoldsClaimed, gave, took, SenderSeat, ReceiverSeat, SenderStepped, ReceiverStepped}
 use Rattle.oneshot_word.specs.declared.rule.Role.TheVariants.{Sender, Receiver}
-use Rattle.oneshot_word.proofs.Sits.{Sits, sender_sits, receiver_sits, sits, knows}
+use Rattle.oneshot_word.proofs.SeatShows.{Sits, sender_sits, receiver_sits, sits, knows}
 use Rattle.oneshot_word.proofs.KeptRows.{stepped}
 use Rattle.oneshot_word.proofs.RuleKept.{turn, sender_turns, receiver_turns}
 use Rattle.oneshot_word.proofs.Between.{between, sender_told, sender_reaches, receiver_reaches}
 use Rattle.oneshot_word.proofs.SlotReads.{as_read, as_seat, reads}
-use Rattle.oneshot_word.proofs.Meets.{meet}
-use Rattle.oneshot_word.proofs.Hands.{seat_fits, fits_so, rests_as, put_what_rests, holds_put, holds_claimed, claims_put, still_claimed, gets_taken, gets_put, none_made, made_more}
-use Rattle.oneshot_word.proofs.Passes.{lies_as, seat_as, seat_keeps, gave_no, Offers, gave_what_lies, gives_once, none_taken, holds_given, holds_taken, takes_given, keeps_its_slot, stays_taken}
-use Rattle.oneshot_word.proofs.Passes.{finds_it_so, takes_as_found}
+use Rattle.oneshot_word.proofs.RuleImplies.{meet}
+use Rattle.oneshot_word.proofs.WakerPasses.{seat_fits, fits_so, rests_as, put_what_rests, holds_put, holds_claimed, claims_put, still_claimed, gets_taken, gets_put, none_made, made_more}
+use Rattle.oneshot_word.proofs.MessagePasses.{lies_as, seat_as, seat_keeps, gave_no, Offers, gave_what_lies, gives_once, none_taken, holds_given, holds_taken, takes_given, keeps_its_slot, stays_taken}
+use Rattle.oneshot_word.proofs.MessagePasses.{finds_it_so, takes_as_found}
 
 module _ {T H K P : Type 0} (keeps : P → T → Type 0) (q : P) where
   abbrev pub Holds : State (Slot T H K) (View T H K P) → Type 0

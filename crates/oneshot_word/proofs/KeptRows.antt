@@ -3,10 +3,10 @@ use Rattle.std.proofs.Common.{◌≡◌, ℕ, Bool, true, false, List, Option, S
 use Rattle.oneshot_word.proofs.Names.{◌&&◌, ◌+◌, ◌%◌, ◌^◌, bit_xor, sym, subst, leb, ◌==◌, list_all, and_parts, either, Seen, Op, Load, Store, Swap, Exchange, Add, Xor, saw, Share, Slots, Row}
 use Rattle.oneshot_word.proofs.Names.{SenderAt, sender_moves, sender_owns, sender_next, ReceiverAt, receiver_moves, receiver_owns, receiver_next, In, each_passes, Front, message_first, waker_first}
 use Rattle.oneshot_word.proofs.Names.{message_home, waker_home}
-use Rattle.oneshot_word.proofs.Alike.{is_bool, is_word, words_are}
+use Rattle.oneshot_word.proofs.WordsEqual.{is_bool, is_word, words_are}
 use Rattle.oneshot_word.proofs.FoundRow.{row_of}
 use Rattle.oneshot_word.proofs.SlotMoves.{is_owned, is_turn, is_act}
-use Rattle.oneshot_word.proofs.Meets.{word_between, Is, is}
+use Rattle.oneshot_word.proofs.RuleImplies.{word_between, Is, is}
 
 -- the word that a step on the table leaves
 abbrev pub stepped : Op → ℕ → ℕ

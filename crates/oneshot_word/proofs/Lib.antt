@@ -1,8 +1,8 @@
-pub mod Alike
-pub mod Meets
-pub mod Says
+pub mod WordsEqual
+pub mod RuleImplies
+pub mod LogsShow
 pub mod FoundRow
-pub mod Hands
+pub mod WakerPasses
 pub mod SlotMoves
 pub mod KeptRows
 pub mod RuleKept
@@ -10,16 +10,16 @@ pub mod Between
 pub mod LastOnes
 pub mod ByRows
 pub mod OneOrder
-pub mod Sits
+pub mod SeatShows
 pub mod EachStep
-pub mod Opens
+pub mod TableOpens
 pub mod SlotReads
-pub mod Trades
+pub mod SlotTrades
 pub mod RuleRead
 pub mod RuleKeeps
 pub mod RuleReceives
-pub mod Passes
-mod Crosses
+pub mod MessagePasses
+mod SidePartsSend
 mod MadeSides
 mod RuleExamples
 mod SeatExamples

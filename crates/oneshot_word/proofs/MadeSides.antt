@@ -4,7 +4,7 @@ use Rattle.oneshot_word.proofs.Names.{Val, vstruct, vcons, vnil, fsep, ftrue, �
 use Rattle.oneshot_word.proofs.Names.{Ghosts, IsAt, SenderSeat, side_of}
 use Rattle.oneshot_word.specs.contracts.sender.SenderSide as side
 use Rattle.oneshot_word.specs.contracts.sender.SenderSide.TheInside as Inside
-use Rattle.oneshot_word.proofs.Crosses.{Shared, WordSeat}
+use Rattle.oneshot_word.proofs.SidePartsSend.{Shared, WordSeat}
 
 module _ {M : Type 1} {𝓤 : Ura M} (𝓛 : Logic 𝓤) (R Z V P : RattleType) (g : Ghosts P.Denot R.Denot) where
   abbrev both : List RattleType

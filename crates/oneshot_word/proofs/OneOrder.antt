@@ -5,11 +5,11 @@ use Rattle.oneshot_word.proofs.Names.{receiver_makes, Slots, Row, sending, dropp
 use Rattle.oneshot_word.proofs.Names.{here, full, unclosed, receiver_at, receiver_moves, In, word_after, each_passes, same_sight, phase_from-snoc, OrderIsOne, WorkedOrders, WrongOrders}
 use Rattle.oneshot_machine.specs.declared.machine.End.TheVariants.{Sender, Receiver}
 use Rattle.oneshot_machine.specs.Phases.{looked, waits}
-use Rattle.oneshot_word.proofs.Alike.{is_word}
+use Rattle.oneshot_word.proofs.WordsEqual.{is_word}
 use Rattle.oneshot_word.proofs.Between.{between}
 use Rattle.oneshot_word.proofs.ByRows.{made_by, sender_is, receiver_is, IsByRows, by_rows}
 use Rattle.oneshot_word.proofs.LastOnes.{not_empty, same_start, same_last}
-use Rattle.oneshot_word.proofs.Meets.{word_between, Is, is}
+use Rattle.oneshot_word.proofs.RuleImplies.{word_between, Is, is}
 use Rattle.oneshot_word.proofs.RuleKept.{senders, is_sender}
 
 -- whether a sender may be in the first phase and later in the second, another one

@@ -5,10 +5,10 @@ use Rattle.oneshot_word.proofs.Names.{finished, late, overtaken, no_sender, send
 use Rattle.oneshot_word.proofs.Names.{disconnected, resolved, receiver_moves, receiver_owns, receiver_next, Held, IsSlot, In, head, tail, May, may, SenderMay, ReceiverMay, Finds, finds, each_passes}
 use Rattle.oneshot_word.proofs.Names.{AnyWaker, Slot, Message, with_waker, Carried, Part, message_first, waker_first, carried_as, SeatOf, seat_of, Home, Lies}
 use Rattle.oneshot_machine.specs.Phases.{looked, waits}
-use Rattle.oneshot_word.proofs.Alike.{is_bool, bools_are}
+use Rattle.oneshot_word.proofs.WordsEqual.{is_bool, bools_are}
 use Rattle.oneshot_word.proofs.FoundRow.{row_of, Found, found_none, found_row, found}
 use Rattle.oneshot_word.proofs.SlotMoves.{is_owned, Carries, carries, Moved, moved, goes, acts, both}
-use Rattle.oneshot_word.proofs.Meets.{word_between, Is, is, Meet, meet}
+use Rattle.oneshot_word.proofs.RuleImplies.{word_between, Is, is, Meet, meet}
 use Rattle.oneshot_word.proofs.KeptRows.{stepped, is_slots, OneEnd, sender_end, receiver_end, after, leaves_word, has_act, is_right, is_kept, keeps_rule, rightly, leaves_so, keeps_word}
 
 module _ {T H K At : Type 0} (kept : T → Type 0) (fits : AnyWaker H K → Type 0) (e : OneEnd At) where

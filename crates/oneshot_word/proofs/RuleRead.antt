@@ -9,7 +9,7 @@ use Rattle.oneshot_machine.specs.Phases.{waits, ended}
 use Rattle.oneshot_machine.specs.Slots.{owns}
 use Rattle.oneshot_word.specs.ReadRule.{sent, dropped}
 use Rattle.oneshot_word.proofs.Between.{between, sender_told, receiver_told}
-use Rattle.oneshot_word.proofs.Meets.{is, Meet, meet, SenderSays, says_none, says_owes, says_last, says_late, says_overtaken, ReceiverSays}
+use Rattle.oneshot_word.proofs.RuleImplies.{is, Meet, meet, SenderSays, says_none, says_owes, says_last, says_late, says_overtaken, ReceiverSays}
 
 module _ {T H K : Type 0} where
   pair_reads : {kept : T → Type 0} {fits : AnyWaker H K → Type 0} {xs ys : List Noted} {p : SenderAt} {w : ℕ}

@@ -6,8 +6,8 @@ use Rattle.oneshot_word.proofs.Names.{not_carried, carried, message_first, waker
 use Rattle.oneshot_word.specs.declared.any_waker.AnyWaker.TheVariants as R
 use Rattle.oneshot_word.specs.declared.rule.Role.TheVariants.{Sender, Receiver}
 use Rattle.oneshot_word.specs.SeatExamples.{claims}
-use Rattle.oneshot_word.proofs.Passes.{seat_keeps, holds_so}
-use Rattle.oneshot_word.proofs.Hands.{claims_so}
+use Rattle.oneshot_word.proofs.MessagePasses.{seat_keeps, holds_so}
+use Rattle.oneshot_word.proofs.WakerPasses.{claims_so}
 
 pub slots_as_seen : SlotsAsSeen
 slots_as_seen =

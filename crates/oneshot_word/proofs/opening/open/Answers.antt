@@ -1,6 +1,6 @@
 -- Proofs of the goals that `open` leaves.
 use Rattle.oneshot_word.proofs.Names.{sym, subst, IsAt, SenderSeat, ReceiverSeat}
-use Rattle.oneshot_word.proofs.Opens.{sender_seated, receiver_seated}
+use Rattle.oneshot_word.proofs.TableOpens.{sender_seated, receiver_seated}
 use Rattle.oneshot_word.proofs.opening.open.Goals as goal
 
 pub new-sender-requires : goal.new-sender-requires

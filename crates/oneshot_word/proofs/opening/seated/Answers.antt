@@ -1,6 +1,6 @@
 -- Proofs of the goals that `seated` leaves.
 use Rattle.oneshot_word.proofs.Names.{rules, opened}
-use Rattle.oneshot_word.proofs.Opens.{deal_allowed, split_allowed}
+use Rattle.oneshot_word.proofs.TableOpens.{deal_allowed, split_allowed}
 use Rattle.oneshot_word.proofs.opening.seated.Goals as goal
 
 pub new-requires : goal.new-requires

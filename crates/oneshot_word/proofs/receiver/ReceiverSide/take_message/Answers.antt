@@ -1,6 +1,6 @@
 -- Proofs of the goals that `take_message` of `ReceiverSide` leaves.
 use Rattle.oneshot_word.proofs.Names.{sym, ◌∙◌, vacant_keeps, holds_none}
-use Rattle.oneshot_word.proofs.Passes.{holds_so}
+use Rattle.oneshot_word.proofs.MessagePasses.{holds_so}
 use Rattle.oneshot_word.proofs.SlotReads.{message_reads}
 use Rattle.oneshot_word.proofs.receiver.ReceiverSide.take_message.Goals as goal
 

@@ -1,7 +1,7 @@
 -- Proofs of the goals that `trade_message` of `ReceiverSide` leaves.
 use Rattle.oneshot_word.proofs.Names.{◌≢◌, rules, sym, subst, away, HoldsTaken, Keeps, message_of, message_in, waker_in, MessageSlot, ReceiverSeat}
 use Rattle.oneshot_word.proofs.SlotReads.{fits_message}
-use Rattle.oneshot_word.proofs.Trades.{receiver_message_front, Traded, receiver_message_traded, message_side}
+use Rattle.oneshot_word.proofs.SlotTrades.{receiver_message_front, Traded, receiver_message_traded, message_side}
 use Rattle.oneshot_word.proofs.receiver.ReceiverSide.trade_message.Given as given
 use Rattle.oneshot_word.proofs.receiver.ReceiverSide.trade_message.Goals as goal
 

@@ -1,7 +1,7 @@
 -- Proofs of the goals that `trade_waker` of `ReceiverSide` leaves.
 use Rattle.oneshot_word.proofs.Names.{◌≢◌, rules, sym, ap, subst, away, waker_of, message_in, waker_in, WakerSlot, ReceiverSeat}
 use Rattle.oneshot_word.proofs.SlotReads.{fits_waker}
-use Rattle.oneshot_word.proofs.Trades.{receiver_waker_front, Traded, receiver_waker_traded, waker_side}
+use Rattle.oneshot_word.proofs.SlotTrades.{receiver_waker_front, Traded, receiver_waker_traded, waker_side}
 use Rattle.oneshot_word.proofs.receiver.ReceiverSide.trade_waker.Given as given
 use Rattle.oneshot_word.proofs.receiver.ReceiverSide.trade_waker.Goals as goal
 

@@ -1,7 +1,7 @@
 -- A side is `Sync` if its parts are: a `&` to it holds nothing else.
 use denote.RattleType.{RattleType}
 use Rattle.oneshot_word.proofs.Names.{IsSend, IsSync, struct_sync, shape, to, Ghosts, the_row, the_type}
-use Rattle.oneshot_word.proofs.Crosses.{parts_sync}
+use Rattle.oneshot_word.proofs.SidePartsSend.{parts_sync}
 
 pub sync : (T H K P : RattleType) (g : Ghosts P.Denot T.Denot) → IsSend T → IsSend H → IsSend K → IsSync T
     → IsSync (the_row T H K P g)

@@ -6,7 +6,7 @@ use Rattle.oneshot_word.proofs.Names.{and_then, returns, enter, alloc_all, pass_
 use Rattle.oneshot_word.proofs.Names.{walk_of, Goes-dropped, fact, fact_i, T, ◌&&◌, has_ty, layout, param_laws, heard, use1, proved, leaves, arc_value, IsAt, SenderSeat, side_of, clauses}
 use Rattle.oneshot_word.specs.contracts.sender.SenderSide as side
 use Rattle.oneshot_word.proofs.sender.SenderSide.TheInside.TheFields.TheLaws as fields
-use Rattle.oneshot_word.proofs.Crosses.{Shared, WordSeat}
+use Rattle.oneshot_word.proofs.SidePartsSend.{Shared, WordSeat}
 use Rattle.oneshot_word.proofs.MadeSides.{makes_side}
 use Rattle.oneshot_word.specs.contracts.sender.SenderSide.new.{ended}
 use Rattle.oneshot_word.specs.contracts.sender.SenderSide.new.Key.{name as #self}

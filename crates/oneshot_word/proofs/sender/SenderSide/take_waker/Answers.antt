@@ -1,6 +1,6 @@
 -- Proofs of the goals that `take_waker` of `SenderSide` leaves.
 use Rattle.oneshot_word.proofs.Names.{sym, ◌∙◌, claims_none}
-use Rattle.oneshot_word.proofs.Hands.{claims_so}
+use Rattle.oneshot_word.proofs.WakerPasses.{claims_so}
 use Rattle.oneshot_word.proofs.SlotReads.{waker_reads}
 use Rattle.oneshot_word.proofs.sender.SenderSide.take_waker.Goals as goal
 

@@ -2,7 +2,7 @@
 use Rattle.std.proofs.Common.{refl}
 use Rattle.oneshot_word.proofs.Names.{◌≢◌, rules, sym, subst, away, Keeps, message_of, message_in, waker_in, MessageSlot, SenderSeat}
 use Rattle.oneshot_word.proofs.SlotReads.{fits_message}
-use Rattle.oneshot_word.proofs.Trades.{sender_message_front, Traded, sender_message_traded, message_side}
+use Rattle.oneshot_word.proofs.SlotTrades.{sender_message_front, Traded, sender_message_traded, message_side}
 use Rattle.oneshot_word.proofs.sender.SenderSide.trade_message.Given as given
 use Rattle.oneshot_word.proofs.sender.SenderSide.trade_message.Goals as goal
 

@@ -2,7 +2,7 @@
 use Rattle.std.proofs.Common.{refl}
 use Rattle.oneshot_word.proofs.Names.{◌≢◌, rules, sym, ap, subst, away, waker_of, HoldsClaimed, message_in, waker_in, WakerSlot, SenderSeat}
 use Rattle.oneshot_word.proofs.SlotReads.{fits_waker}
-use Rattle.oneshot_word.proofs.Trades.{sender_waker_front, Traded, sender_waker_traded, waker_side}
+use Rattle.oneshot_word.proofs.SlotTrades.{sender_waker_front, Traded, sender_waker_traded, waker_side}
 use Rattle.oneshot_word.proofs.sender.SenderSide.trade_waker.Given as given
 use Rattle.oneshot_word.proofs.sender.SenderSide.trade_waker.Goals as goal
 

@@ -7,8 +7,8 @@ use Rattle.oneshot_word.proofs.Names.{storing, swapped, found_closed, ReceiverAt
 use Rattle.oneshot_word.proofs.Names.{stays_away, stays_vacant, stays_held, gives_room, gives_thing, gets_room, gets_thing, AnyWaker, with_waker, Home, has_slots, waker_left, waker_home, Lies}
 use Rattle.oneshot_word.proofs.Names.{lies_out, IsPut, has_made, IsClaimed, claimed_none, claimed_it, Carried, Front, slot_vacant, slot_held, not_carried, carried, SeatOf, seat_of, HoldsClaimed}
 use Rattle.oneshot_word.proofs.Names.{claims_no_slot, claims_none, claims_it, gave, took}
-use Rattle.oneshot_word.proofs.Alike.{is_word}
-use Rattle.oneshot_word.proofs.Meets.{word_between, Is, is, SenderSays, says_none, says_owes, says_last, says_late, says_overtaken}
+use Rattle.oneshot_word.proofs.WordsEqual.{is_word}
+use Rattle.oneshot_word.proofs.RuleImplies.{word_between, Is, is, SenderSays, says_none, says_owes, says_last, says_late, says_overtaken}
 use Rattle.oneshot_word.proofs.RuleKept.{senders, is_sender}
 
 module _ {T H K : Type 0} where

@@ -4,7 +4,7 @@ use Rattle.oneshot_word.proofs.Names.{◌++◌, get_or, set, sym, subst, Me, Act
 use Rattle.oneshot_word.proofs.Names.{lies_bare, took_none, claimed_none, Tied, dealt, runs, view, slot_vacant, carried, not_carried, seat_of, gave_none, holds_no_slot, claims_no_slot, SenderSeat}
 use Rattle.oneshot_word.proofs.Names.{ReceiverSeat}
 use Rattle.oneshot_word.specs.declared.rule.Role.TheVariants.{Sender, Receiver}
-use Rattle.oneshot_word.proofs.Sits.{Sits, maker_sits, dealer_sits, sits}
+use Rattle.oneshot_word.proofs.SeatShows.{Sits, maker_sits, dealer_sits, sits}
 use Rattle.oneshot_word.proofs.EachStep.{Holds}
 
 abbrev pub dealt_seat : {T H K P : Type 0} → P → Me (Slot T H K) (View T H K P)

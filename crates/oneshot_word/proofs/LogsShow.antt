@@ -6,8 +6,8 @@ use Rattle.oneshot_word.proofs.Names.{sent_to_it, sent_to_overdue, dropped_befor
 use Rattle.oneshot_word.proofs.Names.{overdue_next, gone_next, wrote_next}
 use Rattle.oneshot_machine.specs.Phases.{looked, waits}
 use Rattle.oneshot_word.specs.EndLogs.{sent, dropped}
-use Rattle.oneshot_word.proofs.Alike.{is_bool, bools_are, is_word, words_are}
-use Rattle.oneshot_word.proofs.Meets.{stores_of, overdue_of, gone_of, wrote_of, SenderSays, says_none, says_owes, says_last, says_late, says_overtaken, ReceiverSays}
+use Rattle.oneshot_word.proofs.WordsEqual.{is_bool, bools_are, is_word, words_are}
+use Rattle.oneshot_word.proofs.RuleImplies.{stores_of, overdue_of, gone_of, wrote_of, SenderSays, says_none, says_owes, says_last, says_late, says_overtaken, ReceiverSays}
 
 along-snoc : {A : Type 0} (next : A → Op → Seen → A) (a : A) (xs : List Noted) (x : Noted)
     → along next a (xs ++ x ∷ []) ≡ next (along next a xs) x.0 x.1
