@@ -15,15 +15,15 @@ use std::time::Duration;
 /// A text of 21 bytes.
 const TEXT: &str = "data from sync thread";
 
-type Ends<Rt> = (Request<String, Length>, Ticket<String, Length, Rt>);
+pub(crate) type Ends<Rt> = (Request<String, Length>, Ticket<String, Length, Rt>);
 
 /// A request for the length of `TEXT`.
-fn ask<Rt: Drop>(rt: Rt, alloc: Global) -> Result<Ends<Rt>, AllocError> {
+pub(crate) fn ask<Rt: Drop>(rt: Rt, alloc: Global) -> Result<Ends<Rt>, AllocError> {
     request(rt, alloc, String::from_str(alloc, TEXT)?).map_err(|_| AllocError)
 }
 
 /// Answers with the length of the text. Inner `Err`: the ticket was gone, and the reply came back.
-fn answer(request: Request<String, Length>) -> Result<Result<(), Length>, AllocError> {
+pub(crate) fn answer(request: Request<String, Length>) -> Result<Result<(), Length>, AllocError> {
     let length = Length::of(request.question().clone()?);
     if !request.fits(&length) {
         return Err(AllocError);

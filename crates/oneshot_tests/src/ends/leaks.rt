@@ -1,8 +1,10 @@
-//! However a channel ends on one thread, all the memory that it took is freed. `scripts/schedules` looks for what two
-//! threads leave, also of requests and under a promise.
+//! However a channel or a request ends on one thread, all the memory that it took is freed. `scripts/schedules` looks
+//! for what two threads leave.
 
 use super::lives::{DROPPED, Life, OVER, RAW, READY, RECEIVED, TRIED, UNRECEIVED, live};
 use crate::pages::{grown_pages, resident_pages};
+use crate::reply::{answer, ask};
+use std::alloc::{AllocError, Global};
 use std::io;
 use std::process::Abort;
 use std::random::RandomSource;
@@ -101,4 +103,27 @@ fn a_future_that_is_dropped_leaves_nothing(rt: HostRuntime) -> Result<(), Fail> 
 #[test]
 fn raw_ends_leave_nothing(rt: HostRuntime) -> Result<(), Fail> {
     assert_none_leaks(&rt, RAW)
+}
+
+/// Ends three requests: one with its reply, one whose reply comes back, and one without a reply.
+fn end_requests(alloc: Global) -> Result<(), AllocError> {
+    let (request, mut ticket) = ask((), alloc)?;
+    let _ = answer(request)?;
+    let _ = ticket.try_take();
+    let (request, ticket) = ask((), alloc)?;
+    drop(ticket);
+    let _ = answer(request)?;
+    let (request, ticket) = ask((), alloc)?;
+    drop(request);
+    drop(ticket);
+    Ok(())
+}
+
+#[test]
+fn requests_leave_nothing(rt: HostRuntime) -> Result<(), Fail> {
+    if compares_memory(&rt)? {
+        let grown = growth(&rt, ROUNDS, || Ok(end_requests(rt.alloc())?))?;
+        assert!(rt; grown <= MOST_PAGES, "{grown} pages");
+    }
+    Ok(())
 }
