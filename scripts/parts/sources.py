@@ -14,6 +14,17 @@ def crates():
     return {name: libraries.split() for name, libraries in lines}
 
 
+def beneath(crate):
+    """This crate and those that it stands on, in their order; none if it is not listed."""
+    listed, found, left = crates(), set(), [crate]
+    while left:
+        name = left.pop()
+        if name in listed and name not in found:
+            found.add(name)
+            left += listed[name]
+    return [name for name in listed if name in found]
+
+
 def sources(*names):
     """The source files of these crates."""
     return [file for name in names for file in sorted((CRATES / name / "src").rglob("*.rt"))]
