@@ -6,21 +6,17 @@ import subprocess
 import sys
 
 from parts.compare import Differs
-from parts.sources import CRATES, crates
+from parts.sources import CRATES, beneath
 
 SCHEDULER = CRATES.parent / "scripts" / "parts" / "schedules"
 # The ending of what a compiler makes, as `rt ci` names it.
 ENDINGS = {"llvm": "", "rattle": ".by-rattle"}
 
 
-def beneath(crate, listed):
-    return {crate}.union(*(beneath(library, listed) for library in listed[crate] if library in listed))
-
-
 def newest_source(crate):
     """When what a program is built from was last written: its crate's sources and those beneath it, the list of the
     crates, and the toolchain."""
-    files = [file for name in beneath(crate, crates()) for part in ("src", "specs", "proofs")
+    files = [file for name in beneath(crate) for part in ("src", "specs", "proofs")
              for file in (CRATES / name / part).rglob("*") if file.is_file()]
     files += [CRATES.parent / "crates.txt", CRATES / crate / "args", pathlib.Path(shutil.which("rt") or "").resolve()]
     return max(file.stat().st_mtime for file in files if file.is_file())
@@ -45,7 +41,7 @@ def build_program(crate, compiler):
 def find_program(crate, compiler="llvm"):
     program = CRATES / crate / "out" / f"{crate}{ENDINGS[compiler]}"
     if not is_new(program, crate):
-        print(f"schedules: proving and building {crate}, which takes minutes the first time", file=sys.stderr,
+        print(f"proving and building {crate}, which takes minutes the first time", file=sys.stderr,
               flush=True)
         build_program(crate, compiler)
     if not is_new(program, crate):
@@ -57,12 +53,14 @@ def is_new(program, crate):
     return program.exists() and program.stat().st_mtime >= newest_source(crate)
 
 
-def compile_scheduler(folder):
-    """The library that is loaded before the program."""
-    made = folder / "schedules.so"
-    flags = ["-O2", "-Wall", "-Wextra", "-shared", "-fPIC", "-ftls-model=initial-exec"]
-    files = sorted(str(file) for file in SCHEDULER.glob("*.c"))
-    ran = subprocess.run([os.environ.get("CC", "cc"), *flags, "-o", str(made), *files], capture_output=True, text=True)
+def compile_library(made, files, *flags):
+    """A library of C that is loaded before a program."""
+    words = [os.environ.get("CC", "cc"), "-O2", "-Wall", "-Wextra", "-shared", "-fPIC", *flags, "-o", made, *files]
+    ran = subprocess.run(words, capture_output=True, text=True)
     if ran.returncode or ran.stderr or not made.exists():
         raise Differs(ran.stderr or "the C compiler made no library")
     return str(made)
+
+
+def compile_scheduler(folder):
+    return compile_library(folder / "schedules.so", sorted(SCHEDULER.glob("*.c")), "-ftls-model=initial-exec")
