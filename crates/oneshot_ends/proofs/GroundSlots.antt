@@ -3,10 +3,9 @@
 use Rattle.std.proofs.Common.{◌≡◌, ℕ, Bool, true, false, List, Option, Some, refl, sym, subst, true≢false}
 use Rattle.oneshot_machine.specs.declared.states.Op.{Op}
 use Rattle.oneshot_machine.specs.Logs.{words}
-use Rattle.oneshot_machine.specs.Phases.{SenderAt, sender_moves, sender_at, ReceiverAt, receiver_moves, receiver_owns, receiver_at, Share, Row}
-use Rattle.oneshot_machine.specs.Slots.{Held, away, vacant, IsSlot, is_away, May, may, Finds, Owns, owns, own_vacant, SenderMay}
+use Rattle.oneshot_machine.specs.Phases.{sender_moves, sender_at, ReceiverAt, receiver_moves, receiver_owns, receiver_at, Share, Row}
+use Rattle.oneshot_machine.specs.Slots.{Held, away, vacant, IsSlot, is_away, May, may, Finds, Owns, owns, own_vacant}
 use Rattle.oneshot_machine.specs.Noted.{Noted}
-use Rattle.oneshot_drive.specs.BetweenCalls.{IsLate, is_late, is_overtaken}
 use Rattle.oneshot_drive.specs.Grounds.{SenderAsks, ReceiverAsks}
 use Rattle.oneshot_word.specs.Side.{Side, SenderCan, ReceiverCan}
 use Rattle.oneshot_ends.specs.Grounds.{MayBeFreed, unless_freed, left_of, events_of, state_of}
@@ -96,17 +95,6 @@ module _ {T W P : Type 0} (freed : Bool) (s : Side T W P) {now : Side T W P} {op
   receiver_found next = found receiver_moves receiver_at freed s next is receiver_unfreed.0
 
 module _ {T W : Type 0} where
-  -- a sender that came late performs no operation
-  never_late : {at : SenderAt} {op : Op} {m : Held T} {w : Held W} → IsLate at → SenderMay at op m w → ⊥
-  never_late (is_late by) (may there message waker) = elim there [ ]
-  never_late (is_overtaken by) (may there message waker) = elim there [ ]
-
-  pub late_never : {P : Type 0} (now : Side T W P) (op : Op) → IsLate (sender_at now.log)
-      → SenderAsks op (state_of now) → ⊥
-  late_never now op came_late asks =
-      never_late came_late
-      (subst (λ xs. SenderMay (sender_at xs) op now.message now.waker) (words_of T W now.log) asks)
-
   -- a receiver to which both slots are vacant owns both
   both_own : {own : Option (Bool × Bool)} → Owns {T = T} {W = W} own vacant vacant → own ≡ Some (true, true)
   both_own (owns own_vacant own_vacant) = refl
