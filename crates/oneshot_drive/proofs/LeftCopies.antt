@@ -4,7 +4,7 @@ use Rattle.oneshot_drive.proofs.Names.{PollBackFull, PollBackClosed, AgainCopy, 
 use Rattle.oneshot_drive.proofs.Names.{looked, waits, polled, again, claimed, withdrew, full, by_future, by_poll, found_closed, disconnected, resolved, receiver_moves, Share, none, empty, filled}
 use Rattle.oneshot_drive.proofs.Names.{Slots, receiver_step, receiver_row, Outcome, Goes, Answers, Held, vacant, held, IsSlot, is_held, ReceiverMay, ReceiverFinds, GroundState, StandsWith, Stands}
 use Rattle.oneshot_drive.proofs.Names.{ReceiverMakes, Path, LeavesPolled, leaves_waiting, poll_end, EndsPoll, MayLeave, is_room, has_row, Each, landings}
-use Rattle.oneshot_drive.specs.declared.waiting.Found.TheVariants as F
+use Rattle.oneshot_drive.specs.declared.found.Found.TheVariants as F
 use Rattle.oneshot_machine.specs.declared.machine.Reply.TheVariants as R
 use Rattle.oneshot_machine.specs.declared.machine.Seen.TheVariants as S
 use Rattle.oneshot_machine.specs.declared.machine.Step.TheVariants as Steps

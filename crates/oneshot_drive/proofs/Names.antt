@@ -13,7 +13,7 @@ pub use Rattle.oneshot_drive.specs.Polls.{leaves_resolved, leaves_over, leaves_g
 pub use Rattle.oneshot_drive.specs.Polls.{is_disconnected, poll_end, MayLeave, WritesItsCopy, wakers_handed, HandsNoWaker, LeavesTried, tried_received, tried_closed, tried_uncopied, tried_claimed}
 pub use Rattle.oneshot_drive.specs.Polls.{is_registered}
 pub use Rattle.oneshot_drive.specs.Wakes.{wakes, wakes_none, SenderWoke, Wakes}
-pub use Rattle.oneshot_drive.specs.declared.waiting.Found.{Found}
+pub use Rattle.oneshot_drive.specs.declared.found.Found.{Found}
 pub use Rattle.oneshot_errors.specs.declared.recv.RecvError.{RecvError}
 pub use Rattle.oneshot_errors.specs.declared.recv_timeout.RecvTimeoutError.{RecvTimeoutError}
 pub use Rattle.oneshot_errors.specs.declared.try_recv.TryRecvError.{TryRecvError}

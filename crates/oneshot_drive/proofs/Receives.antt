@@ -7,7 +7,7 @@ use Rattle.oneshot_drive.proofs.Names.{StandsWith, Stands, receiver_slots, Recei
 use Rattle.oneshot_drive.proofs.Names.{rests_open, IsClosedAt, LeavesClosed, left_received, left_closed, LeavesTimed, timed_received, timed_out, timed_closed, IsReady, Hands, as_it_was, sender_took}
 use Rattle.oneshot_drive.proofs.Names.{came_back, is_room, has_row, Each, landings}
 use Rattle.oneshot_errors.specs.declared.recv_timeout.RecvTimeoutError.TheVariants as Timed
-use Rattle.oneshot_drive.specs.declared.waiting.Found.TheVariants as F
+use Rattle.oneshot_drive.specs.declared.found.Found.TheVariants as F
 use Rattle.oneshot_machine.specs.declared.machine.Reply.TheVariants as R
 use Rattle.oneshot_machine.specs.declared.machine.Seen.TheVariants as S
 use Rattle.oneshot_machine.specs.declared.machine.Step.TheVariants as Steps

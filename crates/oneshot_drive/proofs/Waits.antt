@@ -4,7 +4,7 @@ use Rattle.oneshot_drive.proofs.Names.{LatePark, LateLoad, RecvPark, RecvParkLoa
 use Rattle.oneshot_drive.proofs.Names.{overdue, waited, swapped, stopping, found_closed, receiver_moves, none, filled, receiver_row, receiver_rows, receiver_step, Outcome, Goes, row_for, vacant}
 use Rattle.oneshot_drive.proofs.Names.{GroundState, StandsWith, Stands, receiver_slots, ReceiverAsks, ReceiverMakes, Path, ReceiveBy, by_ref, by_value, wait_of, asked_of, ref_end, end_of, EndsAt}
 use Rattle.oneshot_drive.proofs.Names.{Parks, parks_waiting, parks_overdue, has_row, landings}
-use Rattle.oneshot_drive.specs.declared.waiting.Found.TheVariants as F
+use Rattle.oneshot_drive.specs.declared.found.Found.TheVariants as F
 use Rattle.oneshot_machine.specs.declared.machine.Seen.TheVariants as S
 use Rattle.oneshot_machine.specs.declared.machine.Step.TheVariants as Steps
 use Rattle.oneshot_drive.proofs.AfterOperations.{Lands, lone, unlisted, at_word, not_at, Came, came, asks, lands, stands_on, withdrew_waker}

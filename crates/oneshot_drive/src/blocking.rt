@@ -11,8 +11,9 @@ ghost use Rattle.oneshot_machine.specs.Runs.{Ran, ReceiverRan};
 ghost use Rattle.oneshot_drive.specs.Blocking.{Returns};
 ghost use Rattle.oneshot_drive.specs.BetweenCalls.{AtRest, IsClosedAt, LeavesClosed, LeavesTimed, FoundTheEnd, IsReady, Hands, recv_reply, timed_reply, received};
 
+use crate::found::Found;
 use crate::ground::BlockGround;
-use crate::waiting::{Found, find};
+use crate::waiting::find;
 use oneshot_errors::{RecvError, RecvTimeoutError};
 use oneshot_machine::states::DISCONNECTED;
 use std::sync::Wait;

@@ -2,6 +2,7 @@
 #![tactic(auto)]
 
 mod blocking;
+mod found;
 mod ground;
 pub mod laws;
 mod polling;

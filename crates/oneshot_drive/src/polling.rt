@@ -15,15 +15,15 @@ ghost use Rattle.oneshot_machine.specs.Phases.{here, looked, waits, again};
 ghost use Rattle.oneshot_machine.specs.Receiver.{receiver_step, receiver_row};
 ghost use Rattle.oneshot_machine.specs.Runs.{Ran, ReceiverRan};
 ghost use Rattle.oneshot_machine.specs.TableRows.{Goes};
-ghost use Rattle.oneshot_drive.specs.declared.waiting.Found.TheVariants as F;
+ghost use Rattle.oneshot_drive.specs.declared.found.Found.TheVariants as F;
 ghost use Rattle.oneshot_drive.specs.Blocking.{Path};
 ghost use Rattle.oneshot_drive.specs.BetweenCalls.{IsClosedAt, HasLeft, try_recv_reply, received};
 ghost use Rattle.oneshot_drive.specs.Grounds.{Stands, ReceiverAsks};
 ghost use Rattle.oneshot_drive.specs.Polls.{IsPolled, LeavesPolled, LeavesTried, StaysRegistered, poll_reply, poll_received, poll_end, EndsPoll, MayLeave, IsDisconnected, WroteCopies, WritesItsCopy};
 ghost use Rattle.oneshot_drive.specs.Polls.{HandsNoWaker};
 
+use crate::found::Found;
 use crate::ground::{ReceiverGround, TaskGround};
-use crate::waiting::Found;
 use futures::task::Poll;
 use oneshot_errors::{RecvError, TryRecvError};
 use oneshot_machine::states::{DISCONNECTED, EMPTY, MESSAGE, RECEIVING, UNPARKING};

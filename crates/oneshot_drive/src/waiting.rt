@@ -6,27 +6,15 @@ ghost use Rattle.oneshot_machine.specs.declared.machine.timed.TimedPos.TheVarian
 ghost use Rattle.oneshot_machine.specs.Logs.{receiver_of};
 ghost use Rattle.oneshot_machine.specs.Phases.{here, looked, waits, blocked, overdue};
 ghost use Rattle.oneshot_machine.specs.TableRows.{Goes};
-ghost use Rattle.oneshot_drive.specs.declared.waiting.Found.TheVariants as F;
+ghost use Rattle.oneshot_drive.specs.declared.found.Found.TheVariants as F;
 ghost use Rattle.oneshot_drive.specs.Blocking.{Path, ReceiveBy, load_of, write_of, wait_of, asked_of, ref_end, end_of, EndsAt, HandAt, WaitedHand};
 ghost use Rattle.oneshot_drive.specs.BetweenCalls.{AtRest, IsClosedAt, IsReady};
 ghost use Rattle.oneshot_drive.specs.Grounds.{Stands};
 
+use crate::found::Found;
 use crate::ground::BlockGround;
 use oneshot_machine::states::{DISCONNECTED, EMPTY, MESSAGE, RECEIVING, UNPARKING};
 use std::sync::Wait;
-
-// What the word that decides a receive means.
-#[derive(Drop)]
-pub(crate) enum Found {
-    // The message is there.
-    Message,
-    // The channel is closed.
-    Closed,
-    // The sender is gone, but a swap replaced the word of a closed channel.
-    Unclosed,
-    // Nothing is there, and the deadline is over or a poll ends pending.
-    Nothing,
-}
 
 // Loads, and waits if nothing is there yet; until the deadline if `timed`.
 pub(crate) fn find<T, W: Drop, G: BlockGround<T, W>>(

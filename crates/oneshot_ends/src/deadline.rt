@@ -21,6 +21,27 @@ pub(crate) fn read(clock: &impl Clock) -> Reading
     Instant::now(clock).ok()
 }
 
+/// Where a call's next reading of the clock comes from.
+#[derive(Clone, Copy)]
+pub(crate) enum NextReading {
+    /// The call has taken it, to compute its deadline.
+    Taken(Reading),
+    /// The clock.
+    Due,
+}
+
+impl NextReading {
+    /// Returns the reading. The one after it is due.
+    pub(crate) fn take(&mut self, clock: &impl Clock) -> Reading {
+        let reading = match *self {
+            NextReading::Taken(reading) => reading,
+            NextReading::Due => read(clock),
+        };
+        *self = NextReading::Due;
+        reading
+    }
+}
+
 /// When a receive stops waiting.
 #[derive(Clone, Copy, Debug, Eq, PartialEq)]
 pub(crate) enum Deadline {

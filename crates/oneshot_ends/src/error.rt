@@ -44,9 +44,7 @@ impl<T, P: Promise<T>> SendError<T, P> {
     {
         self.refused.message()
     }
-}
 
-impl<T, P: Promise<T>> SendError<T, P> {
     pub(crate) fn was_refused(&self)
         ensures { WasRefused T self.now.log }
     {

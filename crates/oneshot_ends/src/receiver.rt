@@ -13,7 +13,7 @@ ghost use Rattle.oneshot_ends.specs.Grounds.{IsNewReceiver};
 ghost use Rattle.oneshot_ends.specs.OwnWakers.{IsHalfOf};
 ghost use Rattle.oneshot_ends.specs.Taken.{Takes};
 
-use crate::deadline::{Deadline, Reading, read};
+use crate::deadline::{Deadline, NextReading, Reading, read};
 use crate::future::AsyncReceiver;
 use crate::ground::{Blocking, ChannelReceiver, SharedReceiver};
 use crate::token::{ParkingHalf, WakingHalf};
@@ -125,6 +125,24 @@ impl<T: Drop, Rt: Drop, P: Promise<T>> Receiver<T, Rt, P> {
     {
         try_recv(&mut self.ground)
     }
+
+    /// Turns the receiver into a future, which a task can poll. It performs no operation on the word, never
+    /// blocks and does not allocate. The receiver's parker is dropped.
+    pub fn into_future(self) -> AsyncReceiver<T, Rt, P>
+        ensures channel { result.channel ≡ self.channel }
+        ensures log { result.log ≡ self.log }
+        ensures about { result.about ≡ self.about }
+        ensures took { result.took ≡ self.took }
+    {
+        let Receiver {
+            ground,
+            hand: _,
+            parker: _,
+            source,
+            rt,
+        } = self;
+        AsyncReceiver::new(ground, source, rt)
+    }
 }
 
 impl<T: Drop, Rt: Wait + Clock + Drop, P: Promise<T>> Receiver<T, Rt, P> {
@@ -147,8 +165,8 @@ impl<T: Drop, Rt: Wait + Clock + Drop, P: Promise<T>> Receiver<T, Rt, P> {
         ensures kept { IfOk result (λ message. P.keeps self.old.about message) }
         ensures took { Takes result self.old.took self.new.took }
     {
-        let deadline = Deadline::Never;
-        let mut lent = Blocking::lend(&mut self.ground, &mut self.parker, &self.rt, deadline, None);
+        let (deadline, next) = (Deadline::Never, NextReading::Due);
+        let mut lent = Blocking::lend(&mut self.ground, &mut self.parker, &self.rt, deadline, next);
         recv_ref(&mut lent, &self.rt, &mut self.hand)
     }
 
@@ -175,8 +193,8 @@ impl<T: Drop, Rt: Wait + Clock + Drop, P: Promise<T>> Receiver<T, Rt, P> {
         ensures kept { IfOk result (λ message. P.keeps self.old.about message) }
         ensures took { Takes result self.old.took self.new.took }
     {
-        let deadline = Deadline::At(deadline);
-        let mut lent = Blocking::lend(&mut self.ground, &mut self.parker, &self.rt, deadline, None);
+        let (deadline, next) = (Deadline::At(deadline), NextReading::Due);
+        let mut lent = Blocking::lend(&mut self.ground, &mut self.parker, &self.rt, deadline, next);
         recv_deadline(&mut lent, &self.rt, &mut self.hand)
     }
 
@@ -219,14 +237,13 @@ impl<T: Drop, Rt: Wait + Clock + Drop, P: Promise<T>> Receiver<T, Rt, P> {
             source: _,
             rt,
         } = self;
-        let mut lent = Blocking::lend(&mut ground, &mut parker, &rt, Deadline::Never, None);
+        let (deadline, next) = (Deadline::Never, NextReading::Due);
+        let mut lent = Blocking::lend(&mut ground, &mut parker, &rt, deadline, next);
         let result = recv(&mut lent, &rt, &mut hand);
         ground.received();
         result
     }
-}
 
-impl<T: Drop, Rt: Wait + Clock + Drop, P: Promise<T>> Receiver<T, Rt, P> {
     // Waits until `timeout` after `reading`. The ground's first check of the deadline uses `reading` too,
     // so the clock is read once for both.
     fn recv_after(&mut self, reading: Reading, timeout: Duration) -> Result<T, RecvTimeoutError>
@@ -240,29 +257,9 @@ impl<T: Drop, Rt: Wait + Clock + Drop, P: Promise<T>> Receiver<T, Rt, P> {
         ensures took { Takes result self.old.took self.new.took }
     {
         let deadline = Deadline::after(reading, timeout);
-        let made = Some(reading);
-        let mut lent = Blocking::lend(&mut self.ground, &mut self.parker, &self.rt, deadline, made);
+        let next = NextReading::Taken(reading);
+        let mut lent = Blocking::lend(&mut self.ground, &mut self.parker, &self.rt, deadline, next);
         recv_timeout(&mut lent, &self.rt, &mut self.hand, deadline.has_end())
-    }
-}
-
-impl<T: Drop, Rt: Drop, P: Promise<T>> Receiver<T, Rt, P> {
-    /// Turns the receiver into a future, which a task can poll. It performs no operation on the word, never
-    /// blocks and does not allocate. The receiver's parker is dropped.
-    pub fn into_future(self) -> AsyncReceiver<T, Rt, P>
-        ensures channel { result.channel ≡ self.channel }
-        ensures log { result.log ≡ self.log }
-        ensures about { result.about ≡ self.about }
-        ensures took { result.took ≡ self.took }
-    {
-        let Receiver {
-            ground,
-            hand: _,
-            parker: _,
-            source,
-            rt,
-        } = self;
-        AsyncReceiver::new(ground, source, rt)
     }
 }
 

@@ -4,7 +4,7 @@ ghost use Rattle.std.specs.Prelude.{◌≡◌, ◌↔◌, true, false, IsTrue};
 ghost use Rattle.oneshot_ends.specs.Spins.{MaySpin};
 
 use super::ChannelReceiver;
-use crate::deadline::{Deadline, Reading, read};
+use crate::deadline::{Deadline, NextReading, Reading};
 use crate::spin::{SPINS, spin};
 use crate::token::ParkingHalf;
 use crate::waker::ChannelWaker;
@@ -22,8 +22,7 @@ pub(crate) struct Blocking<'g, 'p, 'r, G, Rt> {
     parker: &'p mut ParkingHalf,
     rt: &'r Rt,
     deadline: Deadline,
-    /// The first reading of the clock, if the call took it before it lent its ground.
-    made: Option<Reading>,
+    next: NextReading,
     /// The last reading of the clock; `None` if it failed, or before the first.
     reading: Reading,
     /// How often it spun, since it began to wait or since its deadline was over.
@@ -33,14 +32,13 @@ pub(crate) struct Blocking<'g, 'p, 'r, G, Rt> {
 }
 
 impl<'g, 'p, 'r, G, Rt> Blocking<'g, 'p, 'r, G, Rt> {
-    /// Lends `ground` for a call with this deadline. `made`: the reading of the clock that the call has
-    /// taken, if any.
+    /// Lends `ground` for a call with this deadline. `next`: its first reading of the clock.
     pub(crate) fn lend(
         ground: &'g mut G,
         parker: &'p mut ParkingHalf,
         rt: &'r Rt,
         deadline: Deadline,
-        made: Option<Reading>,
+        next: NextReading,
     ) -> Blocking<'g, 'p, 'r, G, Rt>
         ensures ground { result.ground ≡ ground.entry }
         ensures parker { result.parker ≡ parker.entry }
@@ -52,7 +50,7 @@ impl<'g, 'p, 'r, G, Rt> Blocking<'g, 'p, 'r, G, Rt> {
             parker,
             rt,
             deadline,
-            made,
+            next,
             reading: None,
             spins: 0,
             slept: false,
@@ -202,10 +200,7 @@ impl<'g, 'p, 'r, T: Drop, Rt: Wait + Clock, P: Promise<T>> BlockGround<T, Channe
             self.old.ground.now.log self.new.ground.now.log }
         ensures spins { result ≡ true → self.new.spins ≡ 0 }
     {
-        self.reading = match self.made.take() {
-            Some(reading) => reading,
-            None => read(self.rt),
-        };
+        self.reading = self.next.take(self.rt);
         let over = self.deadline.is_over(self.reading);
         if over {
             self.spins = 0;

@@ -2,7 +2,7 @@
 use Rattle.oneshot_drive.proofs.Names.{◌≡◌, ℕ, Some, rules, refl, subst, Exchange, Future, AgainCopy, AgainExchange, Path, Found, poll_end, EndsPoll, receiver_of, receiver_row, receiver_moves, waits}
 use Rattle.oneshot_drive.proofs.Names.{again, landings, leaves_its_copy, leaves_claimed, is_in}
 use Rattle.oneshot_machine.specs.declared.machine.Seen.TheVariants.{Word}
-use Rattle.oneshot_drive.specs.declared.waiting.Found.TheVariants as F
+use Rattle.oneshot_drive.specs.declared.found.Found.TheVariants as F
 use Rattle.oneshot_drive.specs.Polls.{WritesItsCopy}
 use Rattle.oneshot_drive.proofs.AfterOperations.{Lands, asks, withdrew_waker}
 use Rattle.oneshot_drive.proofs.LeftCopies.{refused, copied_on, owned_ends, may_leave, again_backed, backed_copy, backed_full, backed_none, backed_sender, backed_other, again_to, again_left}
