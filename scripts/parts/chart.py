@@ -47,7 +47,7 @@ def loops():
             channel = cells[1].replace("`", "").replace(", ", " ", 1)
             if cells[0]:
                 found.append((cells[0].replace("`", ""), []))
-            elif numbers := re.fullmatch(r"([\d.]+) \(([\d.]+) to ([\d.]+)\)", cells[3]):
+            elif numbers := re.fullmatch(r"([\d.]+) \(([\d.]+)–([\d.]+)\)", cells[3]):
                 found[-1][1].append((channel, *map(float, numbers.groups())))
     return found
 

@@ -37,7 +37,7 @@ def rows(page):
     """The rows of all tables of a page, each with the heads of its table."""
     heads = None
     for line in page_text(page).split("\n"):
-        cells = [cell.strip() for cell in line.strip().strip("|").split("|")]
+        cells = [cell.strip() for cell in line.strip()[1:-1].split("|")]
         if not line.startswith("|"):
             heads = None
         elif heads is None:
