@@ -1,4 +1,4 @@
-//! A caller that tries a future before it awaits it; docs/CALLING.md shows how it tries.
+//! A caller that tries a future before it awaits it.
 
 ghost use Rattle.std.specs.Prelude.{◌≡◌, ◌≢◌, None};
 ghost use Rattle.oneshot_channel.specs.Ends.{IsDone, IsUnfinished};

@@ -1,4 +1,4 @@
-//! A struct of a receiver and whether it is done; docs/CALLING.md shows it.
+//! A struct of a receiver and whether it is done.
 
 ghost use Rattle.std.specs.Prelude.{◌≡◌, true, IfOk, IsNone};
 ghost use Rattle.oneshot_channel.specs.Ends.{IsClosed, IsOpen};

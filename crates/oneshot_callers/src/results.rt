@@ -1,4 +1,4 @@
-//! Callers that rely on contracts which state more than the result; docs/CALLING.md shows four.
+//! Callers that rely on contracts which state more than the result.
 
 ghost use Rattle.std.specs.Prelude.{◌≡◌, ◌≢◌, None, Ok, Err, IsErr, IfSome};
 ghost use Rattle.oneshot_channel.specs.Ends.{IsClosed, IsOpen};

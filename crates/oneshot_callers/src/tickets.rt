@@ -1,4 +1,4 @@
-//! Two tickets that one task awaits, for replies with two invariants; docs/CALLING.md shows them.
+//! Two tickets that one task awaits, for replies with two invariants.
 
 ghost use Rattle.std.specs.Prelude.{◌≡◌, ◌≤◌, IfOk, IfSome};
 

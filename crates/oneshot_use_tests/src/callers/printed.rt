@@ -1,4 +1,4 @@
-//! A caller that steps a run and prints each entry, proved and tested; docs/MODEL.md shows it.
+//! A caller that steps a run and prints each entry, proved and tested.
 
 use oneshot::replay::{
     CallList, ErrorLast, ErrorScript, Move, ReceiverLast, ReceiverScript, Replayer, SenderLast,
