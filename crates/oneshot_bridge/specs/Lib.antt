@@ -1,3 +1,4 @@
+-- Read `Walks`, `OrdersRun`, `RunOrder`, `Homes`, `Scripted`, `CallsRun`, `Joined`, `Gives` and `Woken`.
 pub mod Walks
 pub mod OrdersRun
 pub mod Homes

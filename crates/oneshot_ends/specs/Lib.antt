@@ -1,3 +1,5 @@
+-- Public contracts cite `Ends`, `Taken` and `Deadlines`. Read beneath them `Grounds`, `Tokens`, `Woken`, `OwnWakers`,
+-- `NoLostWakeup`, `Spins`, `Copies` and `Polling`.
 pub mod Grounds
 pub mod Polling
 pub mod Copies

@@ -28,7 +28,7 @@ other Receiver = Sender
 abbrev pub is_here : End → Object → Bool
 is_here end o = by_end end o.sender_here o.receiver_here
 
--- an operation on the word, a step on a cell, or a free
+-- an operation on the word, a step on a cell, or a free; a wake is none of these
 abbrev pub uses_block : Mark → Bool
 uses_block m = is_word m.entry.step || is_on_a_cell m.entry.step || is_free m.entry.step
 

@@ -1,3 +1,4 @@
+-- Read `Rest`, `TraceView` and `Right`; for `Replayer` also `Scene` and `Run`.
 pub mod Rest
 pub mod Right
 pub mod Run

@@ -1,2 +1,3 @@
+-- In reading order.
 pub mod Fault
 pub mod Run

@@ -1,3 +1,5 @@
+-- What a text asks for: `Cut`, `Line`, `Sender`, `Receiver`, `Future`, `Schedule`, `Request`. Its first fault:
+-- `Grammar`, `LineFault`, `FirstFault`. The text of a run: `Names`, `ReplyText`, `EntryText`, `RestText`, `TraceText`.
 pub mod Cut
 pub mod EntryText
 pub mod FirstFault

@@ -1,3 +1,4 @@
+-- In reading order: what logs and seats show, the rule of the table, what follows from it, sides, notes.
 pub mod EndLogs
 pub mod Seats
 pub mod Rule

@@ -1,4 +1,5 @@
 -- The rule of the table for its readers: rows of both logs, the word, and what is at home of each slot.
+-- It follows from `Tied`. The converse is not proved.
 use Rattle.std.specs.Prelude.{◌≡◌, ℕ, true, false, List, [], ◌∷◌, Option, Some, None}
 use Rattle.oneshot_machine.specs.Noted.{Noted}
 use Rattle.oneshot_machine.specs.Phases.{By, sending, dropping}

@@ -1,4 +1,5 @@
 -- The rule of the table: the order of both ends' operations, where each slot is, and which message passes.
+-- It does not state which word belongs to which phases; proofs/RuleImplies.antt lists that.
 use Rattle.std.specs.Prelude.{◌≡◌, ℕ, Bool, true, false, ◌||◌, if◌then◌else◌, List, [], ◌∷◌, Option, Some, None}
 use mathlib.Core.Option as maybe
 use Rattle.oneshot_machine.specs.Noted.{Noted}

@@ -1,4 +1,5 @@
 -- The definitions of scripts, of the world and its moves, and of what a run can reach, in the order to read them.
+-- `Looks` and the files from `Classes` on serve the proof that explores every world.
 pub mod Calls
 pub mod Scripts
 pub mod Looks
