@@ -1,3 +1,4 @@
+-- What a proof of your own imports, some of it under another name.
 -- the definitions that the contracts of the ends name
 pub use Rattle.oneshot_ends.specs.Deadlines
 pub use Rattle.oneshot_ends.specs.Ends

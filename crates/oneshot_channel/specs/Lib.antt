@@ -1,4 +1,4 @@
--- the definitions that the contracts of the channel and of `reply` name
+-- What a proof of your own imports: the definitions that the contracts of the channel and of `reply` name.
 pub use Rattle.oneshot_ends.specs.Deadlines
 pub use Rattle.oneshot_ends.specs.Ends
 pub use Rattle.oneshot_ends.specs.Taken
