@@ -1,0 +1,8 @@
+-- Each request awaited so far has its reply.
+use Rattle.std.proofs.Common.{◌≡◌, ◌+◌, vec_len}
+use Rattle.std.specs.Vec.Iter.{into_iter_len}
+use Rattle.oneshot_tokio.proofs.asking.replies.Given as goal
+
+abbrev pub invariant-loop-pending : goal.invariant-loop-pending
+invariant-loop-pending g l =
+    vec_len l.replies + into_iter_len l.pending-iterator ≡ into_iter_len l.initial.pending-iterator
