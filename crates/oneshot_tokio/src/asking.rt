@@ -1,6 +1,6 @@
 //! Many requests, each with a deadline, that a server answers on the pool's threads, and the server's shutdown.
 
-ghost use Rattle.std.specs.Prelude.{◌≡◌, ◌*◌, ℕ, Ok, IfOk, length, vec_len};
+ghost use Rattle.std.specs.Prelude.{◌≡◌, ◌*◌, ℕ, Ok, IfOk, map};
 ghost use Rattle.tokio.specs.Timers.{timeout_future};
 
 use crate::pool::Pool;
@@ -89,7 +89,7 @@ impl<R: Clock + AllocGlobal> Client<'_, R> {
 
     /// Asks for the square of each number. `Err`: out of memory, or no clock.
     fn ask_all(&self, roots: &[u32]) -> io::Result<Vec<Pending>>
-        ensures { IfOk result (λ all. vec_len all ≡ length roots.now) }
+        ensures { IfOk result (λ all. map (λ p. p.root) all.items ≡ roots.now) }
     {
         let mut all = Vec::new(self.rt.alloc());
         for root in roots {
@@ -113,7 +113,7 @@ impl<R: Clock + AllocGlobal> Client<'_, R> {
 fn replies<R>(rt: &R, all: Vec<Pending>) -> io::Result<Vec<Reply>>
 where
     R: Wait + RandomSource + AllocGlobal,
-    ensures { IfOk result (λ replies. vec_len replies ≡ vec_len all) }
+    ensures { IfOk result (λ replies. map (λ r. r.root) replies.items ≡ map (λ p. p.root) all.items) }
 {
     let mut replies = Vec::new(rt.alloc());
     for pending in all {
@@ -134,7 +134,7 @@ fn replies_and_stop<R>(
 ) -> io::Result<Served>
 where
     R: Wait + RandomSource + AllocGlobal,
-    ensures { IfOk result (λ served. vec_len served.0 ≡ vec_len all) }
+    ensures { IfOk result (λ served. map (λ r. r.root) served.0.items ≡ map (λ p. p.root) all.items) }
 {
     let replies = replies(rt, all)?;
     let given_up = block_on(rt, given_up)?.ok();
@@ -165,7 +165,7 @@ pub fn asked<R: Threads + Wait + Clock + RandomSource + AllocGlobal + Sync>(
     given_up: u32,
     limit: Duration,
 ) -> io::Result<Outcome>
-    ensures { IfOk result (λ outcome. vec_len outcome.replies ≡ length roots.now) }
+    ensures { IfOk result (λ outcome. map (λ r. r.root) outcome.replies.items ≡ roots.now) }
 {
     let (jobs, queue) = unbounded_channel(rt.alloc())?;
     let (stop, stopped) = async_channel((), rt.alloc())?;

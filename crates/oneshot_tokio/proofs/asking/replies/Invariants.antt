@@ -1,8 +1,9 @@
--- Each request awaited so far has its reply.
-use Rattle.std.proofs.Common.{◌≡◌, ◌+◌, vec_len}
-use Rattle.std.specs.Vec.Iter.{into_iter_len}
+-- Each request awaited so far has the reply to its number.
+use Rattle.std.proofs.Common.{◌≡◌, ◌++◌, map}
+use Rattle.std.specs.Vec.Iter.{into_iter_items}
 use Rattle.oneshot_tokio.proofs.asking.replies.Given as goal
 
 abbrev pub invariant-loop-pending : goal.invariant-loop-pending
 invariant-loop-pending g l =
-    vec_len l.replies + into_iter_len l.pending-iterator ≡ into_iter_len l.initial.pending-iterator
+    map (λ r. r.root) l.replies.items ++ map (λ p. p.root) (into_iter_items l.pending-iterator)
+    ≡ map (λ p. p.root) (into_iter_items l.initial.pending-iterator)
