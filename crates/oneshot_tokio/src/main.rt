@@ -4,6 +4,7 @@
 ghost use Rattle.std.specs.Prelude.{◌≡◌, IfOk};
 
 mod asking;
+mod client;
 mod pool;
 mod promised;
 mod runtime;

@@ -71,7 +71,8 @@ fn keep_time<R: Wait + Clock>(
 
 /// Calls `uses` with a pool of `workers` threads, and stops the thread of its timers when it returns.
 ///
-/// `rt` runs the threads. `Ok`: what `uses` returned. `Err`: out of memory, or no clock.
+/// `rt` runs the threads. `Ok`: what `uses` returned. `Err`: out of memory, or no clock. If that thread cannot
+/// be started, no timer fires while `uses` runs.
 pub fn with_pool<R, T, F: FnOnce(Pool) -> T>(rt: &R, workers: usize, uses: F) -> io::Result<T>
 where
     R: Threads + Wait + Clock + RandomSource + AllocGlobal + Sync,

@@ -3,7 +3,7 @@
 ghost use Rattle.std.specs.Prelude.{◌≡◌, ◌*◌, ◌<◌, IfOk};
 
 use crate::promised::Below;
-use crate::server::Job;
+use crate::server::Server;
 use crate::square::Square;
 use crate::within::recv_within;
 use futures::future::ready;
@@ -17,7 +17,6 @@ use std::sync::Wait;
 use std::thread::Threads;
 use std::time::{Clock, Duration};
 use tokio::runtime::Runtime;
-use tokio::sync::mpsc::UnboundedReceiver;
 
 /// As `ticket::square_within`, under `runtime`.
 pub fn square_within<R, Rt>(
@@ -52,17 +51,14 @@ where
     runtime.block_on(rt, index)
 }
 
-/// As `server::serve_until`, on the threads of `runtime`.
-pub fn serve_until<R, Rt>(
-    rt: &R,
-    runtime: &mut Runtime,
-    jobs: UnboundedReceiver<Job>,
-    stopped: AsyncReceiver<(), Rt>,
-) -> io::Result<()>
-where
-    R: Wait + Threads + Clock + RandomSource + AllocGlobal + Sync,
-    Rt: Drop,
-{
-    let tasks = jobs.take_until(stopped);
-    runtime.run_all(rt, tasks.map(|job| ready(job).map(|job| job.run())))
+impl Server {
+    /// As `run`, on the threads of `runtime`.
+    pub fn run_on<R>(self, rt: &R, runtime: &mut Runtime) -> io::Result<()>
+    where
+        R: Wait + Threads + Clock + RandomSource + AllocGlobal + Sync,
+    {
+        let Server { jobs, stopped } = self;
+        let tasks = jobs.take_until(stopped);
+        runtime.run_all(rt, tasks.map(|job| ready(job).map(|job| job.run())))
+    }
 }

@@ -54,20 +54,26 @@ impl Job {
     }
 }
 
-/// Serves each job of a queue in a task, until the stop signal comes or its sender is dropped.
-///
-/// `rt` and `pool` run the tasks, `jobs` is the queue's receiver, and `stopped` that of the signal. A job
-/// that is left is dropped, so its ticket learns that no reply will come. `Err`: out of memory, or no thread.
-pub fn serve_until<R, Rt>(
-    rt: &R,
-    pool: &Pool,
-    jobs: UnboundedReceiver<Job>,
-    stopped: AsyncReceiver<(), Rt>,
-) -> io::Result<()>
-where
-    R: Wait + Threads + RandomSource + AllocGlobal + Sync,
-    Rt: Drop,
-{
-    let tasks = jobs.take_until(stopped);
-    pool.run_all(rt, tasks.map(|job| ready(job).map(|job| job.run())))
+/// A queue of jobs, and how its server learns that it has to stop.
+#[derive(Drop)]
+pub struct Server {
+    /// The jobs.
+    pub jobs: UnboundedReceiver<Job>,
+    /// The receiver of the stop signal.
+    pub stopped: AsyncReceiver<(), ()>,
+}
+
+impl Server {
+    /// Runs each job in a task on the threads of `pool`, until the stop signal comes or its sender is dropped.
+    ///
+    /// A job that is left is dropped, so its ticket learns that no reply will come. `Err`: out of memory, or
+    /// no thread could be started.
+    pub fn run<R>(self, rt: &R, pool: &Pool) -> io::Result<()>
+    where
+        R: Wait + Threads + RandomSource + AllocGlobal + Sync,
+    {
+        let Server { jobs, stopped } = self;
+        let tasks = jobs.take_until(stopped);
+        pool.run_all(rt, tasks.map(|job| ready(job).map(|job| job.run())))
+    }
 }
