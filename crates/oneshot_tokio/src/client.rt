@@ -49,10 +49,10 @@ impl Pending {
 }
 
 /// A job for the server, the ticket for its reply, and the receiver of the server's report.
-type Question = (Job, Ticket<u32, Square, ()>, AsyncReceiver<Service, ()>);
+type Parts = (Job, Ticket<u32, Square, ()>, AsyncReceiver<Service, ()>);
 
-/// Makes a request for the square of `root`. `Err`: out of memory.
-fn question(alloc: Global, root: u32) -> Result<Question, AllocError>
+/// Makes a job for the square of `root`. `Err`: out of memory.
+fn job_for(alloc: Global, root: u32) -> Result<Parts, AllocError>
     ensures { IfOk result (λ made. made.1.about.question ≡ root) }
 {
     let (request, ticket) = request((), alloc, root).map_err(|_| AllocError)?;
@@ -78,7 +78,7 @@ impl<R: Clock + AllocGlobal> Client<'_, R> {
     pub fn ask(&self, root: u32) -> io::Result<Pending>
         ensures { IfOk result (λ pending. pending.root ≡ root) }
     {
-        let (job, ticket, _) = question(self.rt.alloc(), root)?;
+        let (job, ticket, _) = job_for(self.rt.alloc(), root)?;
         let square = recv_within(self.rt, self.time, self.limit, ticket.into_future())?;
         // A job that the queue refuses is dropped here, so no reply will come.
         let _ = self.jobs.send(job);
@@ -100,7 +100,7 @@ impl<R: Clock + AllocGlobal> Client<'_, R> {
     ///
     /// `Err`: out of memory, or no clock.
     pub fn give_up(&self, root: u32) -> io::Result<Within<Service, (), ()>> {
-        let (job, ticket, reported) = question(self.rt.alloc(), root)?;
+        let (job, ticket, reported) = job_for(self.rt.alloc(), root)?;
         drop(ticket);
         let _ = self.jobs.send(job);
         recv_within(self.rt, self.time, self.limit, reported)
