@@ -349,7 +349,7 @@ module _ {T W P : Type 0} where
       let was : s.message ≡ held x = ap (λ (s : Side T W P). s.message) is ∙ has in
       did.passed ∙ (λ i. gave (was i) (gone i) s.passed)
 
--- the rule of the shared table says who gave it
+-- by the rule of the shared table, who gave it
 pub was_sent : {T P : Type 0} (H K : Type 0) (keeps : P → T → Type 0) (log : List Noted) (took : Option T)
     → WasSent H K keeps log took
 was_sent H K keeps log took m is q words homes xs given put woke tied =

@@ -40,7 +40,7 @@ impl<K: Drop> Copies<K> {
     /// - `Some`: that copy. Then none is in hand.
     /// - `None`: no copy is in hand, or another task's is, and stays there: taken, it would hide a refusal.
     ///
-    /// Tasks of two executors may have the same number, and no library call tells them apart.
+    /// Tasks of two executors may have the same number, and no library call distinguishes them.
     pub(crate) fn take_of(&mut self, task: usize) -> Option<K>
         ensures taken { IfSome result (λ waker.
             self.old.hand ≡ Some (record { waker = waker; task = task })) }

@@ -33,7 +33,7 @@ impl Asked {
         }
     }
 
-    /// Adds an argument. Returns whether it may stand there.
+    /// Adds an argument. Returns whether it is allowed there.
     pub fn add(&mut self, text: &str) -> Result<bool, AllocError> {
         match (self.of, text) {
             (Part::Kind, "S") => self.of = Part::Sender,

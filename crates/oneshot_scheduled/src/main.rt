@@ -1,5 +1,5 @@
-//! Runs a script of each end of a channel, each in a thread, and tells by short sleeps where it is and what each call
-//! returned. The arguments are the kind of the channel, `S` and the sender's words, `R` and the receiver's. Others are refused.
+//! Runs a script of each end of a channel, each in a thread, and reports by short sleeps where it is and what each
+//! call returned. The arguments are the kind of the channel, `S` and the sender's words, `R` and the receiver's. Others are refused.
 #![tactic(auto)]
 
 mod asked;

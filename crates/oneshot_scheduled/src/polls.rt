@@ -30,7 +30,7 @@ pub fn tasks_of<R: RandomSource + AllocGlobal>(rt: &R, words: &Vec<ReceiverWord>
 }
 
 impl Tasks {
-    /// Tells of each task whether it is woken.
+    /// Reports of each task whether it is woken.
     pub fn tell_woken<R: Clock>(&self, rt: &R) {
         tell(
             rt,

@@ -33,7 +33,7 @@ where
     drop(receiving);
 }
 
-/// Makes the calls of the receiver's script, and tells what each returned. Returns what is left.
+/// Makes the calls of the receiver's script, and reports what each returned. Returns what is left.
 pub fn receive_each<R, E>(
     rt: &R,
     words: &Vec<ReceiverWord>,
@@ -129,7 +129,7 @@ fn receive_one<R: Clock, E: Receives>(rt: &R, word: ReceiverWord, receiver: &mut
     }
 }
 
-/// Receives until a deadline after so many milliseconds, if the clock can tell it.
+/// Receives until a deadline after so many milliseconds, if the clock can be read.
 fn receive_until<R: Clock, E: Receives>(rt: &R, millis: u64, receiver: &mut E) {
     tell(rt, DEADLINE);
     let deadline = match Instant::now(rt) {

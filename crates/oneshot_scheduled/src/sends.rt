@@ -30,7 +30,7 @@ pub fn send_all<R: Clock, S: Sends>(
     sending
 }
 
-/// Makes the calls of the sender's script, and tells what each returned. Returns what is left.
+/// Makes the calls of the sender's script, and reports what each returned. Returns what is left.
 pub fn send_each<R: Clock, S: Sends>(
     rt: &R,
     words: &Vec<SenderWord>,

@@ -1,4 +1,4 @@
-//! What is told to the scheduler: the length of a sleep, in nanoseconds.
+//! What the program reports to the scheduler, by the length of a sleep in nanoseconds.
 
 use crate::parcel::Parcel;
 use futures::task::Poll;
@@ -96,7 +96,7 @@ pub enum Unreceived {
 }
 
 impl Unreceived {
-    /// The code by which it is told.
+    /// The code that reports it.
     pub fn code(self) -> u64 {
         match self {
             Unreceived::Empty => EMPTY,
@@ -106,17 +106,17 @@ impl Unreceived {
     }
 }
 
-/// Tells the scheduler `code`.
+/// Reports `code` to the scheduler.
 pub fn tell<R: Clock>(rt: &R, code: u64) {
     sleep(rt, Duration::from_nanos(code));
 }
 
-/// Tells what a look returned.
+/// Reports what a look returned.
 pub fn tell_whether<R: Clock>(rt: &R, yes: bool) {
     tell(rt, if yes { YES } else { NO });
 }
 
-/// Tells what a receive returned, and drops its parcel.
+/// Reports what a receive returned, and drops its parcel.
 pub fn tell_received<R: Clock>(rt: &R, received: Result<Parcel, Unreceived>) {
     match received {
         Ok(parcel) => tell_parcel(rt, parcel),
@@ -124,13 +124,13 @@ pub fn tell_received<R: Clock>(rt: &R, received: Result<Parcel, Unreceived>) {
     }
 }
 
-/// Tells the number of a parcel, and drops the parcel.
+/// Reports the number of a parcel, and drops the parcel.
 pub fn tell_parcel<R: Clock>(rt: &R, parcel: Parcel) {
     tell(rt, GOT.wrapping_add(parcel.number()));
     drop(parcel);
 }
 
-/// Tells what a poll returned, and drops its parcel.
+/// Reports what a poll returned, and drops its parcel.
 pub fn tell_polled<R: Clock>(rt: &R, polled: Poll<Result<Parcel, RecvError>>) {
     match polled {
         Poll::Pending => tell(rt, PENDING),
@@ -139,7 +139,7 @@ pub fn tell_polled<R: Clock>(rt: &R, polled: Poll<Result<Parcel, RecvError>>) {
     }
 }
 
-/// What an error of `try_recv` says.
+/// What an error of `try_recv` means.
 pub fn why_of_try(error: TryRecvError) -> Unreceived {
     match error {
         TryRecvError::Empty => Unreceived::Empty,
@@ -147,7 +147,7 @@ pub fn why_of_try(error: TryRecvError) -> Unreceived {
     }
 }
 
-/// What an error of `recv_timeout` or `recv_deadline` says.
+/// What an error of `recv_timeout` or `recv_deadline` means.
 pub fn why_of_timed(error: RecvTimeoutError) -> Unreceived {
     match error {
         RecvTimeoutError::Timeout => Unreceived::TimedOut,
@@ -155,7 +155,7 @@ pub fn why_of_timed(error: RecvTimeoutError) -> Unreceived {
     }
 }
 
-/// What an error of `recv` or `recv_ref` says.
+/// What an error of `recv` or `recv_ref` means.
 pub fn why_of_received(_: RecvError) -> Unreceived {
     Unreceived::Disconnected
 }

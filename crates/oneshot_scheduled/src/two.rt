@@ -17,7 +17,7 @@ use std::sync::Wait;
 use std::thread::{Threads, join};
 use std::time::Clock;
 
-/// The codes by which a thread tells where it is.
+/// The codes by which a thread reports where it is.
 #[derive(Clone, Copy)]
 struct Codes {
     sends: u64,

@@ -1,4 +1,4 @@
-//! The words of a run, each of which tells what an end did.
+//! The words of a run: each reports what an end did.
 
 use crate::fault::{Fault, fault_of};
 use oneshot_machine::machine::End;
@@ -24,7 +24,7 @@ pub(crate) struct Operation {
     pub(crate) left: u8,
 }
 
-/// What one word of a run tells.
+/// What one word of a run reports.
 #[derive(Clone, Copy, Debug)]
 pub(crate) enum Event {
     /// An operation on the word.

@@ -8,7 +8,7 @@ use oneshot_machine::machine::{End, Reply, Step};
 use oneshot_machine::states::Op;
 use oneshot_replay::{Made, Place};
 
-/// What is still to be told of one end.
+/// What no word has reported yet of one end.
 #[derive(Drop)]
 struct Side {
     /// The reply of a call that has ended.
@@ -38,7 +38,7 @@ pub(crate) struct Follower {
     has_acted: bool,
     /// Whether the sender's drop has loaded the word for its next exchange.
     has_loaded: bool,
-    /// Whether the receiver was told that there is no copy, and the model was not.
+    /// Whether the receiver's copy was refused, and the model's not yet.
     is_refused: bool,
     pub(crate) is_stuck: bool,
 }
@@ -74,7 +74,7 @@ impl Follower {
         Ok(made)
     }
 
-    /// Makes a step of an end that nobody tells. A copy is refused if the run told so before.
+    /// Makes a step of an end that no word reports. A copy is refused if a word before reported so.
     fn advance_silently(&mut self, end: End, step: Step) -> Result<Made, Differs> {
         let given = if self.is_refused && step == Step::Copy {
             self.is_refused = false;
@@ -85,8 +85,8 @@ impl Follower {
         self.advance(end, given)
     }
 
-    /// Makes the steps of an end that nobody tells, and returns the next that is told. The call has to go on until
-    /// then.
+    /// Makes the steps of an end that no word reports, and returns the next that one reports. The call has to go on
+    /// until then.
     fn reach(&mut self, end: End) -> Result<Step, Differs> {
         for _ in 0..MOST_SILENT {
             if let Some(reply) = self.side(end).reply {
@@ -101,7 +101,7 @@ impl Follower {
         Err(Differs::TooLong)
     }
 
-    /// Makes the sender's steps that nobody tells: nothing comes between them and the operation before.
+    /// Makes the sender's steps that no word reports: nothing comes between them and the operation before.
     fn settle_sender(&mut self) -> Result<(), Differs> {
         for _ in 0..MOST_SILENT {
             let step = self.model.next_step(End::Sender);
@@ -113,7 +113,7 @@ impl Follower {
         Err(Differs::TooLong)
     }
 
-    /// Moves the run by what a word tells.
+    /// Moves the run by what a word reports.
     pub(crate) fn follow(&mut self, event: Event) -> Result<(), Differs> {
         match event {
             Event::Operation(told) => self.operate(told),
@@ -198,7 +198,7 @@ impl Follower {
         Ok(())
     }
 
-    /// Makes the last steps of the call under way, none of which is told, and takes its reply.
+    /// Makes the last steps of the call under way, which no word reports, and takes its reply.
     fn end_call(&mut self, end: End) -> Result<Reply, Differs> {
         for _ in 0..MOST_SILENT {
             if let Some(reply) = self.side(end).reply.take() {
@@ -273,7 +273,7 @@ impl Follower {
     }
 }
 
-/// Whether a run tells this step: an operation, a reading of the clock, the free of a message that a call drops.
+/// Whether a word reports this step: an operation, a reading of the clock, the free of a message that a call drops.
 pub(crate) fn is_told(step: Step) -> bool {
     matches!(step, Step::Word(_) | Step::Clock | Step::DropMessage)
 }

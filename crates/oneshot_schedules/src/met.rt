@@ -16,7 +16,7 @@ const MOST_CHOICES: usize = 64;
 
 const MOST_PARKS: usize = 3;
 
-/// What a choice stands for: the end that goes next, and what it gets. The last is only for pairs that may be refused.
+/// What a choice means: the end that goes next, and what it gets. The last is only for pairs that may be refused.
 const CHOICES: [(End, Given); 4] = [
     (End::Sender, Given::Usual),
     (End::Receiver, Given::Usual),
@@ -37,7 +37,7 @@ pub(crate) struct Missed {
 #[derive(Drop)]
 enum Run {
     Ended(Model),
-    /// A choice stands for no step of its own.
+    /// A choice that is no step.
     Refused,
     /// It has more choices or parks than are gone through.
     Cut,
@@ -125,7 +125,7 @@ fn make_run(alloc: Global, scripts: &Scripts, choices: &mut Vec<usize>) -> Resul
     Ok(Run::Cut)
 }
 
-/// Makes the steps that a choice stands for, up to one that is told.
+/// Makes the steps of a choice, up to one that a word reports.
 fn go(run: &mut Model, chosen: usize) -> Result<Went, Differs> {
     let Some((end, given)) = CHOICES.get(chosen) else {
         return Ok(Went::Nowhere);

@@ -9,7 +9,7 @@ use oneshot_replay::{Entry, Made, Move, Replayer};
 use oneshot_text::Request;
 use std::alloc::Global;
 
-/// The most moves of a run, and the most steps of one end in a row that nobody tells.
+/// The most moves of a run, and the most steps of one end in a row that no word reports.
 const MOST_MOVES: usize = 4096;
 
 pub(crate) const MOST_SILENT: usize = 16;

@@ -66,8 +66,8 @@ impl Order {
         }
     }
 
-    /// A digest of both ends' numbers, by which orders are told apart: it mixes each number in at once, with the constants
-    /// of FNV-1a.
+    /// A digest of both ends' numbers, which distinguishes orders: it mixes each number in at once, with the constants of
+    /// FNV-1a.
     pub(crate) fn digest(&self) -> u64 {
         let mut state = 0xcbf2_9ce4_8422_2325_u64;
         for steps in [&self.sender, &self.receiver] {
@@ -84,7 +84,7 @@ fn mixed(state: u64, number: u64) -> u64 {
     (state ^ number).wrapping_mul(0x0100_0000_01b3)
 }
 
-/// The number of a step that others can tell, with what it sees.
+/// The number of a step that others can observe, with what it sees.
 fn number_of(step: Step, seen: Seen) -> Option<u64> {
     let kind: u64 = match step {
         Step::Word(Op::Load) => 0,

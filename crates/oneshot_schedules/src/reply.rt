@@ -1,5 +1,5 @@
-//! The codes of replies, by which a program under the scheduler tells what a call returned. Each has the name that it
-//! has in that program.
+//! The codes of replies, by which a program under the scheduler reports what a call returned. Each has the name that
+//! it has in that program.
 
 use oneshot_machine::machine::Reply;
 
@@ -31,7 +31,7 @@ const LAST_GOT: u64 = 1999;
 // What a task's code adds to: two codes a task, for not woken and for woken.
 const TASKS: u64 = 4000;
 
-/// The reply that a code tells, and its message if it has one.
+/// The reply that a code means, and its message if it has one.
 pub(crate) fn reply_of(code: u64) -> Option<(Reply, Option<u64>)> {
     let reply = match code {
         SENT => Reply::Sent,

@@ -1,4 +1,4 @@
-//! Tests of what stands on the channel and on its model: the uses, the loops of the benchmark and its
+//! Tests of what uses the channel and its model: the uses, the loops of the benchmark and its
 //! arguments, and the callers of the model's contracts.
 #![tactic(auto)]
 

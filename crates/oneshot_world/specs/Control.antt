@@ -47,7 +47,7 @@ control_of w =
       receiver = receiver_under_way w.state.receiver (first w.receiver.calls);
     }
 
--- a move: the end that makes it, what it tells the step, and the call that the end has under way or begins
+-- a move: the end that makes it, its input to the step, and the call that the end has under way or begins
 pub record Begin : Type 0 where
   pub side : End
   pub told : Input
@@ -68,7 +68,7 @@ sender_begins message SS.Ended call = []
 abbrev pub plain_told : Bool → Input
 plain_told answer = record { answer = answer; copy = None; own = None }
 
--- what a move tells a poll of a class, with the class of its copy
+-- the input of a move to a poll of a class, with the class of its copy
 abbrev pub poll_told : Bool → ℕ → ℕ → Input
 poll_told answer number copy = record { answer = answer; copy = Some (Copy copy 0); own = Some number }
 

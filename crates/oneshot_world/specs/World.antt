@@ -52,7 +52,7 @@ abbrev pub side_of : Move → End
 side_of M.Sender = Sender
 side_of (M.Receiver over refuse) = Receiver
 
--- what a move answers to a clock or for a copy: only the receiver uses it
+-- what a move decides of a clock or of a copy: only the receiver uses it
 abbrev pub is_copying : Step → Bool
 is_copying T.Copy = true
 is_copying _ = false
@@ -64,7 +64,7 @@ copies_at (Some position) = is_copying (receiver_step position)
 abbrev pub answer_told : Option ReceiverPos → Bool → Bool → Bool
 answer_told position over refuse = if copies_at position then refuse else over
 
--- what the move that makes this entry tells its step: in a poll also the copy that it may make, and the
+-- the input to its step of the move that makes this entry: in a poll also the copy that it may make, and the
 -- poll's number
 abbrev pub told_with : Bool → ℕ → Option ℕ → Input
 told_with answer entry number =
@@ -98,7 +98,7 @@ world_then side w turned = (
   },
 )
 
--- what a move of the receiver tells its step
+-- the input of a receiver's move to its step
 abbrev pub receiver_told : Bool → ℕ → World → Input
 receiver_told answer entry w = told_with answer entry (option_and_then number_of (first w.receiver.calls))
 

@@ -71,8 +71,8 @@ impl State {
         }
     }
 
-    /// Makes and returns the sender's step at `position`, which must have a row. `told` is what the
-    /// move tells it.
+    /// Makes and returns the sender's step at `position`, which must have a row. `told` is the
+    /// move's input to it.
     #[inline(always)]
     pub(crate) fn step_sender(&mut self, position: SenderPos, told: Input) -> Made
         requires row { IsSome (sender_steps told self.old position) }
@@ -88,8 +88,8 @@ impl State {
         made
     }
 
-    /// Makes and returns the receiver's step at `position`, which must have a row. `told` is what the
-    /// move tells it.
+    /// Makes and returns the receiver's step at `position`, which must have a row. `told` is the
+    /// move's input to it.
     #[inline(always)]
     pub(crate) fn step_receiver(&mut self, position: ReceiverPos, told: Input) -> Made
         requires row { IsSome (receiver_steps told self.old position) }

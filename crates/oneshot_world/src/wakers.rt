@@ -13,7 +13,7 @@ use oneshot_machine::states::Op;
 /// A move of a waker: the waker, and the places that it leaves and goes to.
 type WakerMove = (WakerName, WakerPlace, WakerPlace);
 
-/// What a move tells the step that it makes.
+/// What a move decides for the step that it makes.
 #[derive(Clone, Copy)]
 pub struct Input {
     /// Whether a clock is past the deadline, or whether a copy of a waker is refused.
@@ -50,7 +50,7 @@ impl Wakers {
         }
     }
 
-    /// Moves wakers as `step` does if it finds `word` and is told `told`. Returns the waker that it
+    /// Moves wakers as `step` does if it finds `word` with the input `told`. Returns the waker that it
     /// moved, with the places that this left and went to.
     #[inline(always)]
     pub(crate) fn moved(&mut self, told: Input, word: u8, step: Step) -> Option<WakerMove>

@@ -145,7 +145,7 @@ impl World {
     }
 }
 
-/// What a move answers at a position: whether a copy, which only a poll makes, is refused, or whether a
+/// What a move decides at a position: whether a copy, which only a poll makes, is refused, or whether a
 /// clock is past the deadline.
 fn answer_at(position: ReceiverPos, over: bool, refuse: bool) -> bool
     ensures { result ≡ answer_told (Some position) over refuse }
@@ -156,7 +156,7 @@ fn answer_at(position: ReceiverPos, over: bool, refuse: bool) -> bool
     }
 }
 
-/// What a move with this answer and entry tells its step. `own` is the number of the poll's own waker.
+/// The input that a move with this answer and entry gives its step. `own` is the number of the poll's own waker.
 fn told_with(answer: bool, entry: usize, own: Option<u64>) -> Input
     ensures { result ≡ told_with answer entry own }
 {

@@ -251,7 +251,7 @@ rest Delivered(7)
 block here
 ",
     ),
-    // a try of a future tells that the sender has gone
+    // a try of a future reports that the sender has gone
     (
         "S drop\nR future try poll 1 try try poll 1 try drop\nX rrrrrrssrsrsrrrrr\n",
         "1 R plain 3>3 = future
