@@ -37,13 +37,6 @@ fn each_poll_returns_that_no_message_will_come(rt: HostRuntime) -> Result<(), Fa
 }
 
 #[test]
-fn each_await_returns_that_no_message_will_come(rt: HostRuntime) -> Result<(), Fail> {
-    let awaits = Use::AsFuture(FutureUse::Await);
-    beside_a_drop(&rt, &awaits, &[Err(Disconnected)])?;
-    Ok(())
-}
-
-#[test]
 fn one_look_returns_that_or_nothing(rt: HostRuntime) -> Result<(), Fail> {
     let poll = FutureUse::PollOnce(MockTask::new(&rt)?);
     for using in &[Use::TryOnce, Use::AsFuture(poll)] {

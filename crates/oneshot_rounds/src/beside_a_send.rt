@@ -33,12 +33,6 @@ fn each_poll_gives_the_message(rt: HostRuntime) -> Result<(), Fail> {
 }
 
 #[test]
-fn each_await_gives_the_message(rt: HostRuntime) -> Result<(), Fail> {
-    let awaits = Use::AsFuture(FutureUse::Await);
-    beside_a_send(&rt, &awaits, &[Ok(())], &[Ok(999)])
-}
-
-#[test]
 fn one_look_gives_the_message_or_nothing(rt: HostRuntime) -> Result<(), Fail> {
     let poll = FutureUse::PollOnce(MockTask::new(&rt)?);
     for using in &[Use::TryOnce, Use::AsFuture(poll)] {
