@@ -2,13 +2,14 @@
 use Rattle.std.proofs.Common.{◌≡◌, ◌⊎◌, inl, inr, ℕ, Bool, true, false, List, [], ◌∷◌, ◌++◌, refl, sym, ap, ◌∙◌}
 use Rattle.std.proofs.lemmas.Bool.{and_parts, eq-eqb}
 use Rattle.std.specs.Prelude.{◌&&◌, ◌||◌, ◌==◌, if◌then◌else◌}
+use Rattle.oneshot_machine.proofs.EachPhase.{in_each_receiver_row, if_so}
 use Rattle.oneshot_machine.proofs.GrownLogs.{phase_from-snoc}
 use Rattle.oneshot_machine.proofs.Sameness.{each_passes}
 use Rattle.oneshot_machine.specs.declared.machine.Seen.TheVariants.{Word}
 use Rattle.oneshot_machine.specs.declared.states.Op.{Op}
 use Rattle.oneshot_machine.specs.Noted.{Noted, saw}
 use Rattle.oneshot_machine.specs.Orders.{Reaches, nothing_made, sender_makes, receiver_makes, has_row}
-use Rattle.oneshot_machine.specs.Phases.{Share, none, empty, filled, Slots, Row, SenderAt, fresh, sender_moves, sender_at, ReceiverAt, first, waits, claimed, overdue, receiver_at, receiver_next}
+use Rattle.oneshot_machine.specs.Phases.{Share, none, filled, Slots, Row, SenderAt, fresh, sender_moves, sender_at, ReceiverAt, first, waits, claimed, overdue, receiver_at, receiver_next}
 use Rattle.oneshot_machine.specs.Phases.{receiver_moves}
 use Rattle.oneshot_machine.specs.Slots.{In}
 use Rattle.oneshot_machine.specs.TableRows.{is_same_seen}
@@ -18,7 +19,7 @@ use Rattle.oneshot_word.proofs.WakerPasses.{none_made, is_put}
 use Rattle.oneshot_word.proofs.RuleImplies.{word_between, Is, is}
 use Rattle.oneshot_word.specs.Rule.{has_made}
 use Rattle.oneshot_ends.specs.OwnWakers.{is_waiting}
-use Rattle.oneshot_ends.proofs.OwnWakers.{is_out, left_by, all_left, if_so, no_and}
+use Rattle.oneshot_ends.proofs.OwnWakers.{is_out, left_by, no_and}
 
 either_so : (b c c' : Bool) → (c ≡ true → c' ≡ true) → (b || c) ≡ true → (b || c') ≡ true
 either_so true c c' on e = refl
@@ -57,13 +58,7 @@ put_or_left : (s s' : Share) (was : Bool) → (is_put s s' || (was && is_out s s
     → ((s ≡ filled) × (s' ≡ none)) ⊎ (was ≡ true)
 put_or_left filled none was e = inl (refl, refl)
 put_or_left none none was e = inr (and_parts was true e).0
-put_or_left none empty was e = absurd (no_and was e)
-put_or_left none filled was e = absurd (no_and was e)
-put_or_left empty none was e = absurd (no_and was e)
-put_or_left empty empty was e = absurd (no_and was e)
-put_or_left empty filled was e = absurd (no_and was e)
-put_or_left filled empty was e = absurd (no_and was e)
-put_or_left filled filled was e = absurd (no_and was e)
+put_or_left _ _ was e = absurd (no_and was e)
 
 on_receiver : (ys : List Noted) {op : Op} {before after : Slots} {word : ℕ} {next : ReceiverAt}
     → In (op, before, word, next, after) (receiver_moves (receiver_at ys))
@@ -74,7 +69,7 @@ on_receiver ys {op} {before} {after} {word} row left =
     put_or_left before.1 after.1 (is_waiting q)
     (if_so (is_waiting (receiver_next q op (saw op word)))
     (is_put before.1 after.1 || (is_waiting q && is_out before.1 after.1))
-    (each_passes (left_by q) (receiver_moves q) (all_left q) row)
+    (in_each_receiver_row left_by refl q row)
     (sym (ap is_waiting (phase_from-snoc receiver_next first ys (op, saw op word))) ∙ left))
 
 pub found_waiting : {xs ys : List Noted} {word : ℕ} → Reaches xs ys word → is_waiting (receiver_at ys) ≡ true

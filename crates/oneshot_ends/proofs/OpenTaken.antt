@@ -7,11 +7,11 @@ use Rattle.oneshot_machine.specs.declared.machine.Seen.{Seen}
 use Rattle.oneshot_machine.specs.declared.machine.Seen.TheVariants.{Word}
 use Rattle.oneshot_machine.specs.declared.states.Op.{Op}
 use Rattle.oneshot_machine.specs.Noted.{Noted, saw, is_same_op}
-use Rattle.oneshot_machine.specs.Phases.{Row, looked, blocked, storing, at_once, waited, swapped, by_future, by_poll, found_closed, ReceiverAt, first, here, waits, claimed, withdrew, overdue, full}
-use Rattle.oneshot_machine.specs.Phases.{unclosed, disconnected, resolved, gone, ended, no_receiver, receiver_moves, receiver_next, next_by, phase_from, receiver_at}
+use Rattle.oneshot_machine.specs.Phases.{Row, ReceiverAt, first, here, waits, claimed, withdrew, overdue, no_receiver, receiver_moves, receiver_next, next_by, phase_from, receiver_at}
 use Rattle.oneshot_machine.specs.TableRows.{is_same_seen}
 use Rattle.oneshot_drive.specs.BetweenCalls.{is_open_at}
 use Rattle.oneshot_ends.specs.Taken.{has_found, TookAsFound}
+use Rattle.oneshot_machine.proofs.EachPhase.{at_each_receiver, if_so}
 use Rattle.oneshot_machine.proofs.RunsByRows.{seens_are_same, next_passes}
 
 -- the phases of a receiver that may have found the message
@@ -24,35 +24,14 @@ past withdrew = false
 past overdue = false
 past _ = true
 
-abbrev leads_past : Row ReceiverAt → Bool
-leads_past row = past row.3
-
-past_rows : (at : ReceiverAt) → past at ≡ true → list_all leads_past (receiver_moves at) ≡ true
-past_rows (full at_once) e = refl
-past_rows (full waited) e = refl
-past_rows (full (swapped by)) e = refl
-past_rows (full by_future) e = refl
-past_rows (full by_poll) e = refl
-past_rows (unclosed by) e = refl
-past_rows (disconnected closing) e = refl
-past_rows (resolved closing) e = refl
-past_rows gone e = refl
-past_rows ended e = refl
-past_rows no_receiver e = refl
-past_rows _ e = absurd (cc)
+past_rows : (at : ReceiverAt) → past at ≡ true → list_all (λ (row : Row ReceiverAt). past row.3) (receiver_moves at) ≡ true
+past_rows at =
+    if_so (past at) _ (at_each_receiver
+    (λ at. if past at then list_all (λ (row : Row ReceiverAt). past row.3) (receiver_moves at) else true) refl at)
 
 -- a row that finds the message leads there
 abbrev found_row : Row ReceiverAt → Bool
 found_row (made, before, word, next, after) = if is_same_seen (saw made word) (Word 4) then past next else true
-
-found_rows : (at : ReceiverAt) → list_all found_row (receiver_moves at) ≡ true
-found_rows (here looked) = refl
-found_rows (waits blocked) = refl
-found_rows (full (swapped storing)) = refl
-found_rows (unclosed storing) = refl
-found_rows (disconnected found_closed) = refl
-found_rows (resolved found_closed) = refl
-found_rows _ = refl
 
 row_found : (op : Op) (rows : List (Row ReceiverAt)) → list_all found_row rows ≡ true
     → past (next_by no_receiver rows op (Word 4)) ≡ true
@@ -71,7 +50,7 @@ found_next : (at : ReceiverAt) (op : Op) (seen : Seen) → is_same_seen seen (Wo
     → past (receiver_next at op seen) ≡ true
 found_next at op seen e =
     ap (λ seen. past (receiver_next at op seen)) (seens_are_same seen (Word 4) e)
-    ∙ row_found op (receiver_moves at) (found_rows at)
+    ∙ row_found op (receiver_moves at) (at_each_receiver (λ at. list_all found_row (receiver_moves at)) refl at)
 
 found_past : (at : ReceiverAt) (log : List Noted) → (past at || has_found log) ≡ true
     → past (phase_from receiver_next at log) ≡ true

@@ -1,12 +1,11 @@
 -- A sender keeps the waker that it took until its last operation.
 use Rattle.std.proofs.Common.{◌≡◌, ℕ, Bool, true, false, Option, refl, not}
 use Rattle.std.specs.Prelude.{if◌then◌else◌}
-use Rattle.std.specs.List.{list_all}
-use Rattle.oneshot_machine.proofs.Sameness.{each_passes}
+use Rattle.oneshot_machine.proofs.EachPhase.{in_each_sender_row}
 use Rattle.oneshot_machine.specs.declared.states.Op.{Op}
 use Rattle.oneshot_machine.specs.declared.states.Op.TheVariants.{Swap}
-use Rattle.oneshot_machine.specs.Phases.{sending, dropping, SenderAt, owes, sender_moves, Share, Row}
-use Rattle.oneshot_machine.specs.Slots.{Held, Finds, finds, Turns, stays_away, stays_vacant, stays_held, gives_room, gives_thing, gets_room, gets_thing}
+use Rattle.oneshot_machine.specs.Phases.{SenderAt, sender_moves, Share, Row}
+use Rattle.oneshot_machine.specs.Slots.{Held, Finds, finds, Turns, gets_thing}
 use Rattle.oneshot_word.proofs.WakerPasses.{is_got}
 use Rattle.oneshot_word.specs.Seats.{took}
 
@@ -17,23 +16,13 @@ is_swap _ = false
 abbrev keeps_waker : Row SenderAt → Bool
 keeps_waker row = if is_swap row.0 then not (is_got row.1.1 row.4.1) else true
 
-all_keep : (p : SenderAt) → list_all keeps_waker (sender_moves p) ≡ true
-all_keep (owes sending) = refl
-all_keep (owes dropping) = refl
-all_keep _ = refl
-
 takes_none : {W : Type 0} {s s' : Share} {w w' : Held W} (woke : Option W) → not (is_got s s') ≡ true
     → Turns s s' w w' → took w w' woke ≡ woke
-takes_none woke e stays_away = refl
-takes_none woke e stays_vacant = refl
-takes_none woke e (stays_held x) = refl
-takes_none woke e gives_room = refl
-takes_none woke e (gives_thing x) = refl
-takes_none woke e gets_room = refl
 takes_none woke e (gets_thing x) = absurd (cc e)
+takes_none woke e _ = refl
 
 -- its last swap takes no waker
 pub swap_keeps : {T W : Type 0} (p : SenderAt) (last : ℕ) {word : ℕ} {m m' : Held T} {w w' : Held W} (woke : Option W)
     → Finds sender_moves p (Swap last) word m w m' w' → took w w' woke ≡ woke
 swap_keeps p last woke (finds row turns turns') =
-    takes_none woke (each_passes keeps_waker (sender_moves p) (all_keep p) row) turns'
+    takes_none woke (in_each_sender_row (λ p. keeps_waker) refl p row) turns'

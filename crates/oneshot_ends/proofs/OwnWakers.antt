@@ -2,16 +2,14 @@
 use Rattle.std.proofs.Common.{◌≡◌, ℕ, Bool, true, false, Option, Some, refl, sym, ap, ◌∙◌, subst}
 use Rattle.std.proofs.lemmas.Bool.{and_parts}
 use Rattle.std.specs.Prelude.{◌&&◌, ◌||◌, if◌then◌else◌, IfSome}
-use Rattle.std.specs.List.{list_all}
 use Rattle.atomic_table.specs.Seated.{TableId}
 use Rattle.oneshot_word.proofs.WakerPasses.{is_put, is_got}
 use Rattle.oneshot_machine.proofs.GrownLogs.{phase_from-snoc}
-use Rattle.oneshot_machine.proofs.Sameness.{each_passes}
+use Rattle.oneshot_machine.proofs.EachPhase.{in_each_receiver_row, if_so}
 use Rattle.oneshot_machine.specs.declared.states.Op.{Op}
 use Rattle.oneshot_machine.specs.Noted.{saw}
-use Rattle.oneshot_machine.specs.Phases.{Share, none, Row, ReceiverAt, first, here, looked, between, waits, blocked, full, swapped, storing, unclosed, disconnected, resolved, found_closed}
-use Rattle.oneshot_machine.specs.Phases.{receiver_at, receiver_next, receiver_moves}
-use Rattle.oneshot_machine.specs.Slots.{IsSlot, is_away, is_vacant, Held, away, held, Finds, finds, Turns, stays_away, stays_vacant, stays_held, gives_room, gives_thing, gets_room, gets_thing}
+use Rattle.oneshot_machine.specs.Phases.{Share, none, Row, ReceiverAt, first, looked, between, receiver_at, receiver_next, receiver_moves}
+use Rattle.oneshot_machine.specs.Slots.{IsSlot, is_away, is_vacant, Held, away, held, Finds, finds, Turns, stays_away, stays_held, gives_thing, gets_thing}
 use Rattle.oneshot_drive.specs.BetweenCalls.{AtRest, Rests, rests_new, rests_open, rests_closed}
 use Rattle.oneshot_drive.specs.Grounds.{receiver_slots}
 use Rattle.oneshot_word.specs.declared.any_waker.AnyWaker.{AnyWaker}
@@ -40,28 +38,6 @@ left_by q row =
 abbrev got_by : ReceiverAt → Row ReceiverAt → Bool
 got_by q row = if is_got row.1.1 row.4.1 then is_waiting q else true
 
-pub all_left : (q : ReceiverAt) → list_all (left_by q) (receiver_moves q) ≡ true
-all_left (here looked) = refl
-all_left (waits blocked) = refl
-all_left (full (swapped storing)) = refl
-all_left (unclosed storing) = refl
-all_left (disconnected found_closed) = refl
-all_left (resolved found_closed) = refl
-all_left _ = refl
-
-all_got : (q : ReceiverAt) → list_all (got_by q) (receiver_moves q) ≡ true
-all_got (here looked) = refl
-all_got (waits blocked) = refl
-all_got (full (swapped storing)) = refl
-all_got (unclosed storing) = refl
-all_got (disconnected found_closed) = refl
-all_got (resolved found_closed) = refl
-all_got _ = refl
-
-pub if_so : (b c : Bool) → (if b then c else true) ≡ true → b ≡ true → c ≡ true
-if_so true c e so = e
-if_so false c e so = absurd (cc so)
-
 pub no_and : (b : Bool) → (b && false) ≡ true → ⊥
 no_and true e = cc e
 no_and false e = cc e
@@ -74,26 +50,18 @@ module _ {W : Type 0} (own : W → Type 0) where
       → (if is_got s s' then was_left else true) ≡ true → Turns s s' w w'
       → ((k : W) → w ≡ held k → own k) → (was_left ≡ true → Gave own put) → put' ≡ gave w w' put
       → ((k : W) → w ≡ away → w' ≡ held k → put' ≡ Some k) → (k : W) → w' ≡ held k → own k
-  slot_on was_left test stays_away slot left hands gets k so = absurd (cc so)
-  slot_on was_left test stays_vacant slot left hands gets k so = absurd (cc so)
   slot_on was_left test (stays_held x) slot left hands gets k so = slot k so
-  slot_on was_left test gives_room slot left hands gets k so = absurd (cc so)
-  slot_on was_left test (gives_thing x) slot left hands gets k so = absurd (cc so)
-  slot_on was_left test gets_room slot left hands gets k so = absurd (cc so)
   slot_on was_left test (gets_thing x) slot left hands gets k so =
       same_put (left test) (sym hands ∙ gets k refl so)
+  slot_on was_left test _ slot left hands gets k so = absurd (cc so)
 
   left_on : {s s' : Share} {w w' : Held W} {put put' : Option W} (was_left : Bool)
       → (is_put s s' || (was_left && is_out s s')) ≡ true → Turns s s' w w' → ((k : W) → w ≡ held k → own k)
       → (was_left ≡ true → Gave own put) → put' ≡ gave w w' put → Gave own put'
   left_on was_left test stays_away slot left hands =
       subst (Gave own) (sym hands) (left (and_parts was_left true test).0)
-  left_on was_left test stays_vacant slot left hands = absurd (no_and was_left test)
-  left_on was_left test (stays_held x) slot left hands = absurd (no_and was_left test)
-  left_on was_left test gives_room slot left hands = absurd (no_and was_left test)
   left_on was_left test (gives_thing x) slot left hands = (x, hands, slot x refl)
-  left_on was_left test gets_room slot left hands = absurd (no_and was_left test)
-  left_on was_left test (gets_thing x) slot left hands = absurd (no_and was_left test)
+  left_on was_left test _ slot left hands = absurd (no_and was_left test)
 
   turned : {T P : Type 0} (s next : Side T W P) (q : ReceiverAt) {op : Op} {word : ℕ} → receiver_at s.log ≡ q
       → receiver_at next.log ≡ receiver_next q op (saw op word)
@@ -103,12 +71,11 @@ module _ {W : Type 0} (own : W → Type 0) where
   turned s next q {op} {word} was after (finds {before} {after = slots} row turns turns') hands gets owned =
       let left : is_waiting q ≡ true → Gave own s.handed = λ e. owned.gave (ap is_waiting was ∙ e) in
       record {
-        slot = slot_on (is_waiting q) (each_passes (got_by q) (receiver_moves q) (all_got q) row) turns' owned.slot left
-            hands gets;
+        slot = slot_on (is_waiting q) (in_each_receiver_row got_by refl q row) turns' owned.slot left hands gets;
         gave = λ e. left_on (is_waiting q)
             (if_so (is_waiting (receiver_next q op (saw op word)))
             (is_put before.1 slots.1 || (is_waiting q && is_out before.1 slots.1))
-            (each_passes (left_by q) (receiver_moves q) (all_left q) row) (sym (ap is_waiting after) ∙ e))
+            (in_each_receiver_row left_by refl q row) (sym (ap is_waiting after) ∙ e))
             turns' owned.slot left hands;
       }
 

@@ -6,8 +6,8 @@ use Rattle.oneshot_errors.specs.declared.recv.RecvError.{RecvError}
 use Rattle.oneshot_errors.specs.declared.try_recv.TryRecvError.{TryRecvError}
 use Rattle.oneshot_errors.specs.declared.try_recv.TryRecvError.TheVariants as Tried
 use Rattle.oneshot_drive.specs.BetweenCalls.{IsClosedAt, IsOpenAt}
-use Rattle.oneshot_drive.specs.Polls.{LeavesPolled, leaves_received, leaves_resolved, leaves_over, leaves_gone, leaves_uncopied, leaves_waiting, leaves_its_copy, leaves_claimed, LeavesTried}
-use Rattle.oneshot_drive.specs.Polls.{tried_received, tried_resolved, tried_closed, tried_uncopied, tried_its_copy, tried_claimed, is_registered, StaysRegistered}
+use Rattle.oneshot_drive.specs.Polls.{LeavesPolled, leaves_received, LeavesTried, tried_received, tried_resolved, tried_closed, tried_uncopied, tried_its_copy, tried_claimed, is_registered}
+use Rattle.oneshot_drive.specs.Polls.{StaysRegistered}
 use Rattle.oneshot_machine.specs.Noted.{Noted}
 use Rattle.oneshot_machine.specs.Phases.{ReceiverAt, receiver_at}
 
@@ -18,13 +18,7 @@ Leaving Pending = IsOpenAt
 module _ {T : Type 0} where
   leaving : {result : Poll (Result T RecvError)} {at : ReceiverAt} → LeavesPolled result at → Leaving result at
   leaving (leaves_received x) = refl
-  leaving (leaves_resolved x) = refl
-  leaving (leaves_over e c) = refl
-  leaving (leaves_gone e c) = refl
-  leaving leaves_uncopied = refl
-  leaving leaves_waiting = refl
-  leaving leaves_its_copy = refl
-  leaving leaves_claimed = refl
+  leaving _ = refl
 
   pub closed_polled : (result : Poll (Result T RecvError)) {at : ReceiverAt} → LeavesPolled result at → result ≢ Pending
       → IsClosedAt at

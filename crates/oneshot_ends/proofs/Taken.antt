@@ -15,11 +15,10 @@ use Rattle.oneshot_machine.specs.declared.machine.receiver.ReceiverStart.{Receiv
 use Rattle.oneshot_machine.specs.declared.machine.receiver.ReceiverStart.TheVariants as RC
 use Rattle.oneshot_machine.specs.declared.machine.receiver.ReceiverPos.{ReceiverPos}
 use Rattle.oneshot_machine.specs.declared.machine.receiver.ReceiverPos.TheVariants.{Try, Ref, Timed, Future}
-use Rattle.oneshot_machine.specs.declared.machine.try_recv.TryPos.TheVariants.{TryLoad, Close, Take, CloseOnly}
-use Rattle.oneshot_machine.specs.declared.machine.by_ref.RefPos.TheVariants.{StartLoad, StartWrite, StartSwap, BackFull, BackClosed, Park, ParkLoad}
-use Rattle.oneshot_machine.specs.declared.machine.timed.TimedPos.TheVariants.{SumClock, Clock, TimedPark, TimedLoad, EndSwap, EndBack, LatePark, LateLoad}
-use Rattle.oneshot_machine.specs.declared.machine.future.FuturePos.TheVariants.{IntoFuture, PollLoad, PollCopy, PollWrite, PollExchange, PollBackFull, PollBackClosed, AgainCopy, AgainExchange}
-use Rattle.oneshot_machine.specs.declared.machine.future.FuturePos.TheVariants.{AgainBack, PollOwn, AsyncTryLoad}
+use Rattle.oneshot_machine.specs.declared.machine.try_recv.TryPos.TheVariants.{TryLoad, Close, Take}
+use Rattle.oneshot_machine.specs.declared.machine.by_ref.RefPos.TheVariants.{StartSwap, BackFull}
+use Rattle.oneshot_machine.specs.declared.machine.timed.TimedPos.TheVariants.{Clock}
+use Rattle.oneshot_machine.specs.declared.machine.future.FuturePos.TheVariants.{IntoFuture, PollBackFull}
 use Rattle.oneshot_machine.specs.declared.states.Op.{Op}
 use Rattle.oneshot_machine.specs.Called.{Form, as_receiver, as_future, stays}
 use Rattle.oneshot_machine.specs.Noted.{Noted, op_of, saw}
@@ -28,6 +27,7 @@ use Rattle.oneshot_machine.specs.Receiver.{receiver_start, receiver_step, receiv
 use Rattle.oneshot_machine.specs.Phases.{ReceiverAt, receiver_at, phase_from}
 use Rattle.oneshot_machine.specs.Runs.{Run}
 use Rattle.oneshot_machine.specs.TableRows.{Outcome, Goes, Answers, row_for, is_same_seen}
+use Rattle.oneshot_machine.proofs.EachPhase.{if_so}
 use Rattle.oneshot_machine.proofs.RunsByRows.{row_passes, moved, Leads, by_rows}
 use Rattle.oneshot_errors.specs.declared.recv.RecvError.{RecvError}
 use Rattle.oneshot_errors.specs.declared.recv_timeout.RecvTimeoutError.{RecvTimeoutError}
@@ -85,40 +85,15 @@ abbrev row_told : ReceiverPos → Seen × Outcome ReceiverPos → Bool
 row_told p (seen, Goes next) = in_place next && is_bool (has_it next) (found_by p seen)
 row_told p (seen, Answers reply) = is_bool (found_by p seen) (is_message reply)
 
+told_at : (p : ReceiverPos) → (if in_place p then list_all (row_told p) (receiver_rows p) else true) ≡ true
+told_at (Try TryLoad) = refl
+told_at (Ref (StartSwap false)) = refl
+told_at (Timed Clock) = refl
+told_at (Future IntoFuture) = refl
+told_at _ = refl
+
 told_rows : (p : ReceiverPos) → in_place p ≡ true → list_all (row_told p) (receiver_rows p) ≡ true
-told_rows (Try TryLoad) e = refl
-told_rows (Try Close) e = refl
-told_rows (Try Take) e = refl
-told_rows (Try CloseOnly) e = refl
-told_rows (Ref (StartLoad timed)) e = refl
-told_rows (Ref (StartWrite timed)) e = refl
-told_rows (Ref (StartSwap false)) e = refl
-told_rows (Ref (StartSwap true)) e = refl
-told_rows (Ref BackFull) e = refl
-told_rows (Ref BackClosed) e = refl
-told_rows (Ref Park) e = refl
-told_rows (Ref ParkLoad) e = refl
-told_rows (Timed (SumClock representable)) e = refl
-told_rows (Timed Clock) e = refl
-told_rows (Timed TimedPark) e = refl
-told_rows (Timed TimedLoad) e = refl
-told_rows (Timed EndSwap) e = refl
-told_rows (Timed EndBack) e = refl
-told_rows (Timed LatePark) e = refl
-told_rows (Timed LateLoad) e = refl
-told_rows (Future IntoFuture) e = refl
-told_rows (Future PollLoad) e = refl
-told_rows (Future PollCopy) e = refl
-told_rows (Future PollWrite) e = refl
-told_rows (Future PollExchange) e = refl
-told_rows (Future PollBackFull) e = refl
-told_rows (Future PollBackClosed) e = refl
-told_rows (Future AgainCopy) e = refl
-told_rows (Future AgainExchange) e = refl
-told_rows (Future AgainBack) e = refl
-told_rows (Future PollOwn) e = refl
-told_rows (Future AsyncTryLoad) e = refl
-told_rows _ e = absurd (cc)
+told_rows p = if_so (in_place p) (list_all (row_told p) (receiver_rows p)) (told_at p)
 
 each_row : (p : ReceiverPos) (found : Bool) (seen : Seen) (o : Outcome ReceiverPos) → Stands p found
     → row_for seen (receiver_rows p) ≡ Some o

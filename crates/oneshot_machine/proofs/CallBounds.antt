@@ -67,40 +67,13 @@ receiver_most _ = None
 -- each row pays for its step
 sender_pays : (p : SenderPos) → pays sender_step sender_rows sender_most p ≡ true
 sender_pays SendWrite = refl
-sender_pays SendAdd = refl
-sender_pays SendTakeWaker = refl
-sender_pays SendFinal = refl
-sender_pays SendWake = refl
-sender_pays SendLateWake = refl
-sender_pays DropXor = refl
-sender_pays DropTakeWaker = refl
-sender_pays DropFinal = refl
-sender_pays DropWake = refl
-sender_pays DropLateWake = refl
-sender_pays SenderFree = refl
 sender_pays _ = refl
 
 receiver_pays : (p : ReceiverPos) → pays receiver_step receiver_rows receiver_most p ≡ true
 receiver_pays (Try TryLoad) = refl
-receiver_pays (Try Close) = refl
-receiver_pays (Try Take) = refl
 receiver_pays (Future PollLoad) = refl
-receiver_pays (Future PollCopy) = refl
-receiver_pays (Future PollWrite) = refl
-receiver_pays (Future PollExchange) = refl
-receiver_pays (Future PollBackFull) = refl
-receiver_pays (Future PollBackClosed) = refl
-receiver_pays (Future AgainCopy) = refl
-receiver_pays (Future AgainExchange) = refl
-receiver_pays (Future AgainBack) = refl
-receiver_pays (Future PollOwn) = refl
-receiver_pays (Future AsyncTryLoad) = refl
 receiver_pays (AsyncDrop AsyncLoad) = refl
-receiver_pays (AsyncDrop AsyncExchange) = refl
-receiver_pays (AsyncDrop AsyncBack) = refl
-receiver_pays (AsyncDrop AsyncSwap) = refl
 receiver_pays (Drop DropMessage) = refl
-receiver_pays (Drop DropFree) = refl
 receiver_pays _ = refl
 
 module _ {T W : Type 0} {reply : Reply} where

@@ -12,11 +12,12 @@ use Rattle.oneshot_machine.specs.declared.machine.sender.SenderPos.{SenderPos}
 use Rattle.oneshot_machine.specs.declared.machine.sender.SenderPos.TheVariants.{SendAdd, SendFinal, DropXor, DropFinal}
 use Rattle.std.specs.Prelude.{true, false}
 use Rattle.oneshot_machine.specs.Phases.{sending, dropping, SenderAt, fresh, owes, finished, late, overtaken, no_sender, sender_moves, ReceiverAt, first, here, looked, between, blocked, polled, again}
-use Rattle.oneshot_machine.specs.Phases.{waits, claimed, withdrew, overdue, storing, stopping, at_once, waited, swapped, by_future, by_poll, full, unclosed, disconnected, resolved, gone, ended}
-use Rattle.oneshot_machine.specs.Phases.{no_receiver, receiver_moves}
+use Rattle.oneshot_machine.specs.Phases.{waits, claimed, withdrew, overdue, at_once, waited, swapped, by_future, by_poll, full, unclosed, disconnected, resolved, gone, ended, no_receiver}
+use Rattle.oneshot_machine.specs.Phases.{receiver_moves}
 use Rattle.oneshot_machine.specs.Standing.{Standpoint, plainly, as_future, sender_table, receiver_table}
 use Rattle.oneshot_machine.specs.Exact.{SenderIsExact, ReceiverIsExact}
-use Rattle.oneshot_machine.proofs.Exactness.{IsExactAt, is_exact}
+use Rattle.oneshot_machine.proofs.EachPhase.{at_each_sender, at_each_receiver}
+use Rattle.oneshot_machine.proofs.Exactness.{is_exact_at, IsExactAt, is_exact}
 
 -- the positions of a sender at its next operation on the word
 abbrev sender_stands : SenderAt → List (List SenderPos)
@@ -78,37 +79,10 @@ receiver_stands ended = [] ∷ []
 receiver_stands no_receiver = []
 
 sender_exact_at : IsExactAt sender_table no_sender sender_moves sender_stands
-sender_exact_at fresh = refl
-sender_exact_at (owes sending) = refl
-sender_exact_at (owes dropping) = refl
-sender_exact_at (finished by) = refl
-sender_exact_at (late by) = refl
-sender_exact_at (overtaken by) = refl
-sender_exact_at no_sender = refl
+sender_exact_at = at_each_sender (is_exact_at sender_table no_sender sender_moves sender_stands) refl
 
 receiver_exact_at : IsExactAt receiver_table no_receiver receiver_moves receiver_stands
-receiver_exact_at first = refl
-receiver_exact_at (here looked) = refl
-receiver_exact_at (here between) = refl
-receiver_exact_at (waits blocked) = refl
-receiver_exact_at (waits polled) = refl
-receiver_exact_at (waits again) = refl
-receiver_exact_at claimed = refl
-receiver_exact_at withdrew = refl
-receiver_exact_at overdue = refl
-receiver_exact_at (full at_once) = refl
-receiver_exact_at (full waited) = refl
-receiver_exact_at (full (swapped storing)) = refl
-receiver_exact_at (full (swapped stopping)) = refl
-receiver_exact_at (full by_future) = refl
-receiver_exact_at (full by_poll) = refl
-receiver_exact_at (unclosed storing) = refl
-receiver_exact_at (unclosed stopping) = refl
-receiver_exact_at (disconnected closing) = refl
-receiver_exact_at (resolved closing) = refl
-receiver_exact_at gone = refl
-receiver_exact_at ended = refl
-receiver_exact_at no_receiver = refl
+receiver_exact_at = at_each_receiver (is_exact_at receiver_table no_receiver receiver_moves receiver_stands) refl
 
 pub sender_exact : (T W : Type 0) → SenderIsExact T W
 sender_exact = is_exact sender_table no_sender sender_moves sender_stands sender_exact_at fresh refl

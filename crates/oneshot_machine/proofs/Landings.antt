@@ -3,13 +3,12 @@ use Rattle.std.proofs.Common.{◌≡◌, ℕ, Bool, true, false, not, List, [], 
 use Rattle.std.specs.Prelude.{⊤, ◌==◌, ◌&&◌, if◌then◌else◌}
 use Rattle.std.proofs.lemmas.Bool.{and_parts, eqb-true}
 use Rattle.oneshot_machine.specs.declared.states.Op.{Op}
-use Rattle.oneshot_machine.specs.Phases.{SenderAt, fresh, owes, finished, late, overtaken, sending, dropping, no_sender, sender_moves, ReceiverAt, first, here, looked, between, waits, blocked, polled}
-use Rattle.oneshot_machine.specs.Phases.{again, claimed, withdrew, overdue, full, at_once, waited, swapped, by_future, by_poll, unclosed, disconnected, resolved, gone, ended, no_receiver}
-use Rattle.oneshot_machine.specs.Phases.{receiver_moves, Share, empty, filled, Slots, Row}
+use Rattle.oneshot_machine.specs.Phases.{SenderAt, no_sender, sender_moves, ReceiverAt, no_receiver, receiver_moves, Share, empty, filled, Slots, Row}
 use Rattle.oneshot_machine.specs.Slots.{Held, vacant, held, IsSlot, is_away, is_vacant, is_held, Turns, stays_away, stays_vacant, stays_held, gives_room, gives_thing, gets_room, gets_thing, In, head}
 use Rattle.oneshot_machine.specs.Slots.{tail, Finds, finds}
 use Rattle.oneshot_machine.specs.Noted.{is_same_op}
 use Rattle.oneshot_machine.proofs.Sameness.{ops_are_same, is_same_share, shares_are_same}
+use Rattle.oneshot_machine.proofs.EachPhase.{at_each_sender, at_each_receiver}
 use Rattle.oneshot_machine.proofs.Exactness.{differ}
 
 -- slots: what is in them, and what is put there
@@ -173,32 +172,7 @@ differs n word other = by (n == word) refl
 
 -- no two rows of a phase have the same operation and see the same
 pub sender_apart : (at : SenderAt) → differ no_sender (sender_moves at) ≡ true
-sender_apart fresh = refl
-sender_apart (owes sending) = refl
-sender_apart (owes dropping) = refl
-sender_apart (finished by) = refl
-sender_apart (late by) = refl
-sender_apart (overtaken by) = refl
-sender_apart no_sender = refl
+sender_apart = at_each_sender (λ at. differ no_sender (sender_moves at)) refl
 
 pub receiver_apart : (at : ReceiverAt) → differ no_receiver (receiver_moves at) ≡ true
-receiver_apart first = refl
-receiver_apart (here looked) = refl
-receiver_apart (here between) = refl
-receiver_apart (waits blocked) = refl
-receiver_apart (waits polled) = refl
-receiver_apart (waits again) = refl
-receiver_apart claimed = refl
-receiver_apart withdrew = refl
-receiver_apart overdue = refl
-receiver_apart (full at_once) = refl
-receiver_apart (full waited) = refl
-receiver_apart (full (swapped by)) = refl
-receiver_apart (full by_future) = refl
-receiver_apart (full by_poll) = refl
-receiver_apart (unclosed by) = refl
-receiver_apart (disconnected closing) = refl
-receiver_apart (resolved closing) = refl
-receiver_apart gone = refl
-receiver_apart ended = refl
-receiver_apart no_receiver = refl
+receiver_apart = at_each_receiver (λ at. differ no_receiver (receiver_moves at)) refl

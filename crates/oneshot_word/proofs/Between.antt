@@ -1,9 +1,8 @@
 -- What follows from an order of both logs: the word for both phases, and what each log shows.
-use Rattle.std.proofs.Common.{◌≡◌, ℕ, Bool, true, List, [], ◌∷◌, refl}
-use Rattle.oneshot_word.proofs.Names.{◌++◌, sym, subst, ◌==◌, list_all, eqb-true, Op, Noted, saw, has_row, Reaches, nothing_made, sender_makes, receiver_makes, Row, Slots, sending, dropping, SenderAt}
-use Rattle.oneshot_word.proofs.Names.{fresh, owes, sender_at, sender_next, sender_moves, blocked, storing, swapped, found_closed, ReceiverAt, first, here, full, unclosed, disconnected, resolved}
-use Rattle.oneshot_word.proofs.Names.{receiver_at, receiver_next, receiver_moves, Held, In, Finds, finds, word_after, each_passes, phase_from-snoc}
-use Rattle.oneshot_machine.specs.Phases.{looked, waits}
+use Rattle.std.proofs.Common.{◌≡◌, ℕ, Bool, List, [], ◌∷◌, refl}
+use Rattle.oneshot_word.proofs.Names.{◌++◌, sym, subst, ◌==◌, eqb-true, Op, Noted, saw, has_row, Reaches, nothing_made, sender_makes, receiver_makes, Row, Slots, SenderAt, fresh, sender_at}
+use Rattle.oneshot_word.proofs.Names.{sender_next, sender_moves, ReceiverAt, first, receiver_at, receiver_next, receiver_moves, Held, In, Finds, finds, word_after, phase_from-snoc}
+use Rattle.oneshot_machine.proofs.EachPhase.{in_each_sender_row, in_each_receiver_row}
 use Rattle.oneshot_word.proofs.KeptRows.{stepped}
 use Rattle.oneshot_word.proofs.RuleKept.{sender_leaves, receiver_leaves}
 use Rattle.oneshot_word.proofs.LogsShow.{sender_says, receiver_says}
@@ -13,27 +12,13 @@ use Rattle.oneshot_word.proofs.RuleImplies.{word_between, Is, is, SenderSays, sa
 abbrev steps_so : {At : Type 0} → Row At → Bool
 steps_so row = stepped row.0 row.2 == word_after row.0 row.2
 
-sender_steps_so : (p : SenderAt) → list_all steps_so (sender_moves p) ≡ true
-sender_steps_so (owes sending) = refl
-sender_steps_so (owes dropping) = refl
-sender_steps_so _ = refl
-
-receiver_steps_so : (q : ReceiverAt) → list_all steps_so (receiver_moves q) ≡ true
-receiver_steps_so (here looked) = refl
-receiver_steps_so (waits blocked) = refl
-receiver_steps_so (full (swapped storing)) = refl
-receiver_steps_so (unclosed storing) = refl
-receiver_steps_so (disconnected found_closed) = refl
-receiver_steps_so (resolved found_closed) = refl
-receiver_steps_so _ = refl
-
 sender_word : (p : SenderAt) {next : SenderAt} {op : Op} {before after : Slots} {word : ℕ}
     → In (op, before, word, next, after) (sender_moves p) → stepped op word ≡ word_after op word
-sender_word p row = eqb-true _ _ (each_passes steps_so (sender_moves p) (sender_steps_so p) row)
+sender_word p row = eqb-true _ _ (in_each_sender_row (λ p. steps_so) refl p row)
 
 receiver_word : (q : ReceiverAt) {next : ReceiverAt} {op : Op} {before after : Slots} {word : ℕ}
     → In (op, before, word, next, after) (receiver_moves q) → stepped op word ≡ word_after op word
-receiver_word q row = eqb-true _ _ (each_passes steps_so (receiver_moves q) (receiver_steps_so q) row)
+receiver_word q row = eqb-true _ _ (in_each_receiver_row (λ q. steps_so) refl q row)
 
 -- the word is the one for both phases
 pub between : {xs ys : List Noted} {word : ℕ}

@@ -2,14 +2,13 @@
 use Rattle.std.proofs.Common.{◌≡◌, ℕ, Bool, true, false, List, [], ◌∷◌, Option, Some, None, refl}
 use Rattle.std.specs.Prelude.{if◌then◌else◌}
 use Rattle.oneshot_word.proofs.Names.{◌++◌, sym, ap, ◌∙◌, subst, true≢false, ◌==◌, list_all, and_parts, eqb-true, End, Seen, Op, Load, Store, Swap, Exchange, Add, Xor, Noted, saw, is_same_op}
-use Rattle.oneshot_word.proofs.Names.{is_same_seen, InOrder, none_made, by_sender, by_receiver, HasRow, has_row, Reaches, nothing_made, sender_makes, receiver_makes, Row, sending, dropping, SenderAt}
-use Rattle.oneshot_word.proofs.Names.{fresh, owes, finished, no_sender, sender_at, sender_next, sender_moves, blocked, ReceiverAt, storing, swapped, first, here, full, unclosed, no_receiver}
-use Rattle.oneshot_word.proofs.Names.{receiver_at, receiver_next, receiver_moves, is_row_for, next_by, In, head, tail, each_passes, ops_are_same, Passing, phase_from-snoc, ends_of}
+use Rattle.oneshot_word.proofs.Names.{is_same_seen, InOrder, none_made, by_sender, by_receiver, HasRow, has_row, Reaches, nothing_made, sender_makes, receiver_makes, Row, SenderAt, fresh, owes}
+use Rattle.oneshot_word.proofs.Names.{finished, no_sender, sender_at, sender_next, sender_moves, ReceiverAt, first, no_receiver, receiver_at, receiver_next, receiver_moves, is_row_for, next_by, In}
+use Rattle.oneshot_word.proofs.Names.{head, tail, each_passes, ops_are_same, Passing, phase_from-snoc, ends_of}
 use Rattle.oneshot_machine.specs.declared.machine.End.TheVariants.{Sender, Receiver}
-use Rattle.oneshot_machine.specs.Phases.{looked, waits}
+use Rattle.oneshot_machine.proofs.EachPhase.{at_each_pair}
 use Rattle.oneshot_word.proofs.Between.{between}
 use Rattle.oneshot_word.proofs.RuleImplies.{word_between, Is, is}
-use Rattle.oneshot_word.proofs.RuleKept.{senders, is_sender}
 
 -- a phase that an end can be in
 abbrev pub is_senders : SenderAt → Bool
@@ -100,17 +99,11 @@ row_for_it {rows} {o} {op} {word} number all found =
     has_row (subst (λ r. In r rows) (λ i. (made i, row.1, there i, row.3, row.4)) found.among)
 
 sender_stores : (p : SenderAt) (q : ReceiverAt) → list_all (stores_over (word_between p q)) (sender_moves p) ≡ true
-sender_stores (owes sending) q = refl
-sender_stores (owes dropping) q = refl
-sender_stores _ q = refl
+sender_stores = at_each_pair (λ p q. list_all (stores_over (word_between p q)) (sender_moves p)) refl
 
-receiver_stores : (q : ReceiverAt)
-    → list_all (λ p. list_all (stores_over (word_between p q)) (receiver_moves q)) senders ≡ true
-receiver_stores (here looked) = refl
-receiver_stores (waits blocked) = refl
-receiver_stores (full (swapped storing)) = refl
-receiver_stores (unclosed storing) = refl
-receiver_stores _ = refl
+receiver_stores : (p : SenderAt) (q : ReceiverAt)
+    → list_all (stores_over (word_between p q)) (receiver_moves q) ≡ true
+receiver_stores = at_each_pair (λ p q. list_all (stores_over (word_between p q)) (receiver_moves q)) refl
 
 -- which end performs each operation of an order by rows
 abbrev pub made_by : {xs ys : List Noted} {word : ℕ} → Reaches xs ys word → List End
@@ -141,9 +134,7 @@ by_rows (by_receiver {xs} {ys} {word} op order) s r =
     let phase : is_receivers (receiver_next q op seen) ≡ true =
     subst (λ q. is_receivers q ≡ true) (phase_from-snoc receiver_next first ys (op, seen)) r in
     let so : IsByRows order = by_rows order s (receiver_was q op seen phase) in
-    let stores : list_all (stores_over (word_between (sender_at xs) q)) (receiver_moves q) ≡ true =
-    each_passes (λ p. list_all (stores_over (word_between p q)) (receiver_moves q)) senders (receiver_stores q)
-    (is_sender (sender_at xs)) in
     let row : HasRow (receiver_moves q) op word =
-    row_for_it (between so.reaches) stores (found_by is_receivers no_receiver (receiver_moves q) op seen refl phase) in
+    row_for_it (between so.reaches) (receiver_stores (sender_at xs) q)
+    (found_by is_receivers no_receiver (receiver_moves q) op seen refl phase) in
     record { reaches = receiver_makes op so.reaches row; ends = ap (λ es. es ++ Receiver ∷ []) so.ends }

@@ -1,10 +1,9 @@
 -- What a log shows after one more operation.
 use Rattle.std.proofs.Common.{◌≡◌, ℕ, Bool, true, List, [], ◌∷◌, Option, refl}
-use Rattle.oneshot_word.proofs.Names.{◌&&◌, ◌++◌, ap, ◌∙◌, list_all, and_parts, Seen, Op, Noted, saw, sending, dropping, SenderAt, sender_moves, sender_next, Slots, Row, blocked, storing, swapped}
-use Rattle.oneshot_word.proofs.Names.{found_closed, ReceiverAt, here, full, unclosed, disconnected, resolved, receiver_moves, receiver_next, In, head, tail, each_passes, send_found, drop_found}
-use Rattle.oneshot_word.proofs.Names.{sent_to_it, sent_to_overdue, dropped_before_it, dropped_before_overdue, sent_late, dropped_late, sent_overtaken, dropped_overtaken, along, stores_next}
-use Rattle.oneshot_word.proofs.Names.{overdue_next, gone_next, wrote_next}
-use Rattle.oneshot_machine.specs.Phases.{looked, waits}
+use Rattle.oneshot_word.proofs.Names.{◌&&◌, ◌++◌, ap, ◌∙◌, and_parts, Seen, Op, Noted, saw, sending, dropping, SenderAt, sender_moves, sender_next, Slots, Row, ReceiverAt, receiver_moves}
+use Rattle.oneshot_word.proofs.Names.{receiver_next, In, head, tail, send_found, drop_found, sent_to_it, sent_to_overdue, dropped_before_it, dropped_before_overdue, sent_late, dropped_late}
+use Rattle.oneshot_word.proofs.Names.{sent_overtaken, dropped_overtaken, along, stores_next, overdue_next, gone_next, wrote_next}
+use Rattle.oneshot_machine.proofs.EachPhase.{in_each_receiver_row}
 use Rattle.oneshot_word.specs.EndLogs.{sent, dropped}
 use Rattle.oneshot_word.proofs.WordsEqual.{is_bool, bools_are, is_word, words_are}
 use Rattle.oneshot_word.proofs.RuleImplies.{stores_of, overdue_of, gone_of, wrote_of, SenderSays, says_none, says_owes, says_last, says_late, says_overtaken, ReceiverSays}
@@ -51,15 +50,6 @@ abbrev agree_by : ReceiverAt → Row ReceiverAt → Bool
 agree_by q row =
     let seen = saw row.0 row.2 in agree (facts_next (facts_at q) row.0 seen) (facts_at (receiver_next q row.0 seen))
 
-told : (q : ReceiverAt) → list_all (agree_by q) (receiver_moves q) ≡ true
-told (here looked) = refl
-told (waits blocked) = refl
-told (full (swapped storing)) = refl
-told (unclosed storing) = refl
-told (disconnected found_closed) = refl
-told (resolved found_closed) = refl
-told _ = refl
-
 pub sender_says : {xs : List Noted} {p next : SenderAt} {op : Op} {before after : Slots} (word : ℕ)
     → SenderSays xs p → In (op, before, word, next, after) (sender_moves p)
     → SenderSays (xs ++ (op, saw op word) ∷ []) (sender_next p op (saw op word))
@@ -85,7 +75,7 @@ sender_says _ (says_overtaken _ _) there = elim there [ ]
 adds : (q : ReceiverAt) {next : ReceiverAt} {op : Op} {before after : Slots} (word : ℕ)
     → In (op, before, word, next, after) (receiver_moves q)
     → Tells (facts_next (facts_at q) op (saw op word)) (facts_at (receiver_next q op (saw op word)))
-adds q word row = tells _ _ (each_passes (agree_by q) (receiver_moves q) (told q) row)
+adds q word row = tells _ _ (in_each_receiver_row agree_by refl q row)
 
 pub receiver_says : {ys : List Noted} (q : ReceiverAt) {next : ReceiverAt} {op : Op} {before after : Slots} (word : ℕ)
     → In (op, before, word, next, after) (receiver_moves q) → ReceiverSays ys q

@@ -2,12 +2,11 @@
 use Rattle.std.proofs.Common.{◌≡◌, ℕ, Bool, true, false, Option, Some, None, refl}
 use Rattle.std.specs.Prelude.{is_some}
 use Rattle.oneshot_machine.specs.TableRows.{is_same_seen}
-use Rattle.oneshot_machine.specs.Phases.{looked, waits}
-use Rattle.oneshot_word.proofs.Names.{sym, ap, ◌∙◌, subst, not, ◌||◌, saw, Word, list_all, each_passes, In, Op, Row, Slots, Share, none, empty, filled, SenderAt, fresh, owes, finished, late}
-use Rattle.oneshot_word.proofs.Names.{overtaken, no_sender, sender_owns, ReceiverAt, receiver_moves, blocked, storing, swapped, found_closed, here, full, unclosed, disconnected, resolved, Held, away}
-use Rattle.oneshot_word.proofs.Names.{vacant, held, SenderMay, may, Turns, stays_away, stays_vacant, stays_held, gives_room, gives_thing, gets_room, gets_thing, AnyWaker, Slot, Message, Home}
-use Rattle.oneshot_word.proofs.Names.{message_home, Lies, lies_out, lies_bare, lies_filled, IsGiven, IsTaken, took_none, took_it, Carried, Front, slot_vacant, slot_held, not_carried, carried, SeatOf}
-use Rattle.oneshot_word.proofs.Names.{seat_of, GivesOnce, has_given, gave_none, HoldsTaken, holds_no_slot, holds_none, holds_it, gave, took}
+use Rattle.oneshot_machine.proofs.EachPhase.{in_each_receiver_row}
+use Rattle.oneshot_word.proofs.Names.{sym, ap, ◌∙◌, subst, not, ◌||◌, saw, Word, In, Op, Row, Slots, Share, none, empty, filled, SenderAt, fresh, owes, finished, late, overtaken, no_sender}
+use Rattle.oneshot_word.proofs.Names.{sender_owns, ReceiverAt, receiver_moves, Held, away, vacant, held, SenderMay, may, Turns, stays_away, stays_vacant, stays_held, gives_room, gives_thing}
+use Rattle.oneshot_word.proofs.Names.{gets_room, gets_thing, AnyWaker, Slot, Message, Home, message_home, Lies, lies_out, lies_bare, lies_filled, IsGiven, IsTaken, took_none, took_it, Carried, Front}
+use Rattle.oneshot_word.proofs.Names.{slot_vacant, slot_held, not_carried, carried, SeatOf, seat_of, GivesOnce, has_given, gave_none, HoldsTaken, holds_no_slot, holds_none, holds_it, gave, took}
 
 -- a message that keeps the promise, and that the sender gives if it gives up its slot
 abbrev pub Offers : {T P : Type 0} → (P → T → Type 0) → P → Held T → T → Type 0
@@ -73,15 +72,6 @@ is_kept_slot _ _ = true
 abbrev keeps_slot : Row ReceiverAt → Bool
 keeps_slot (op, before, word, next, after) = is_kept_slot before.0 after.0
 
-receiver_rows : (q : ReceiverAt) → list_all keeps_slot (receiver_moves q) ≡ true
-receiver_rows (here looked) = refl
-receiver_rows (waits blocked) = refl
-receiver_rows (full (swapped storing)) = refl
-receiver_rows (unclosed storing) = refl
-receiver_rows (disconnected found_closed) = refl
-receiver_rows (resolved found_closed) = refl
-receiver_rows _ = refl
-
 -- it gets a message exactly by an operation that finds 4, and may find 4 again once it has one
 abbrev pub is_found_so : Share → Share → Bool → Bool
 is_found_so none filled found = found
@@ -91,24 +81,15 @@ is_found_so _ _ found = not found
 abbrev finds_so : Row ReceiverAt → Bool
 finds_so (op, before, word, next, after) = is_found_so before.0 after.0 (is_same_seen (saw op word) (Word 4))
 
-receiver_finds : (q : ReceiverAt) → list_all finds_so (receiver_moves q) ≡ true
-receiver_finds (here looked) = refl
-receiver_finds (waits blocked) = refl
-receiver_finds (full (swapped storing)) = refl
-receiver_finds (unclosed storing) = refl
-receiver_finds (disconnected found_closed) = refl
-receiver_finds (resolved found_closed) = refl
-receiver_finds _ = refl
-
 pub finds_it_so : (q : ReceiverAt) {next : ReceiverAt} (op : Op) {before after : Slots} (word : ℕ)
     → In (op, before, word, next, after) (receiver_moves q)
     → is_found_so before.0 after.0 (is_same_seen (saw op word) (Word 4)) ≡ true
-finds_it_so q op word row = each_passes finds_so (receiver_moves q) (receiver_finds q) row
+finds_it_so q op word row = in_each_receiver_row (λ q. finds_so) refl q row
 
 -- the receiver never gives up the message's slot
 pub keeps_its_slot : (q : ReceiverAt) {next : ReceiverAt} {op : Op} {before after : Slots} {word : ℕ}
     → In (op, before, word, next, after) (receiver_moves q) → is_kept_slot before.0 after.0 ≡ true
-keeps_its_slot q row = each_passes keeps_slot (receiver_moves q) (receiver_rows q) row
+keeps_its_slot q row = in_each_receiver_row (λ q. keeps_slot) refl q row
 
 unfound : (had found : Bool) → not found ≡ true → had ≡ (had || found)
 unfound true false e = refl
@@ -121,10 +102,7 @@ module _ {T : Type 0} where
   gives_once m away = has_given
   gives_once (held x) vacant = gave_none
   gives_once (held x) (held y) = gave_none
-  gives_once away vacant = gave_none
-  gives_once away (held y) = gave_none
-  gives_once vacant vacant = gave_none
-  gives_once vacant (held y) = gave_none
+  gives_once _ _ = gave_none
 
   -- while the sender has given none, the receiver has taken none
   pub none_taken : {given : Option T} {taken : Option T} (later : Option T) → IsTaken given taken → given ≡ None
@@ -159,31 +137,17 @@ module _ {T : Type 0} where
   -- a receiver without the slot has taken none, so a message that it took stays the one
   pub stays_taken : {s s' : Share} {m m' : Held T} {taken : Option T} → Turns s s' m m' → HoldsTaken taken m → (x : T)
       → taken ≡ Some x → took m m' taken ≡ Some x
-  stays_taken stays_away holds x is = is
-  stays_taken stays_vacant holds x is = is
-  stays_taken (stays_held y) holds x is = is
-  stays_taken gives_room holds x is = is
-  stays_taken (gives_thing y) holds x is = is
-  stays_taken gets_room holds x is = is
   stays_taken (gets_thing y) holds_no_slot x is = absurd (cc is)
+  stays_taken _ holds x is = is
 
   pub takes_as_found : {s s' : Share} {m m' : Held T} {taken : Option T} (found : Bool) → Turns s s' m m'
       → is_found_so s s' found ≡ true → HoldsTaken taken m → is_some (took m m' taken) ≡ (is_some taken || found)
-  takes_as_found {taken} found stays_away so holds = unfound (is_some taken) found so
-  takes_as_found {taken} found stays_vacant so holds = unfound (is_some taken) found so
   takes_as_found found (stays_held x) so (holds_it _) = refl
-  takes_as_found {taken} found gives_room so holds = unfound (is_some taken) found so
-  takes_as_found {taken} found (gives_thing x) so holds = unfound (is_some taken) found so
-  takes_as_found {taken} found gets_room so holds = unfound (is_some taken) found so
   takes_as_found found (gets_thing x) so holds_no_slot = sym so
+  takes_as_found {taken} found _ so holds = unfound (is_some taken) found so
 
   -- it is the one given, if a message that the receiver gets is
   pub takes_given : {s s' : Share} {m m' : Held T} {given taken : Option T} → Turns s s' m m' → IsTaken given taken
       → ((x : T) → m' ≡ held x → given ≡ Some x) → IsTaken given (took m m' taken)
-  takes_given stays_away same gets = same
-  takes_given stays_vacant same gets = same
-  takes_given (stays_held x) same gets = same
-  takes_given gives_room same gets = same
-  takes_given (gives_thing x) same gets = same
-  takes_given gets_room same gets = same
   takes_given (gets_thing x) same gets = took_it x (gets x refl)
+  takes_given _ same gets = same

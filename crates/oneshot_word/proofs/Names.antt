@@ -13,8 +13,7 @@ pub use Rattle.oneshot_machine.specs.Noted.{Noted, saw, is_same_op}
 pub use Rattle.oneshot_machine.specs.Orders.{has_row, Reaches, nothing_made, sender_makes, receiver_makes, HasRow, InOrder, none_made, by_sender, by_receiver}
 pub use Rattle.oneshot_machine.specs.Phases.{By, sending, dropping, SenderAt, fresh, owes, finished, late, overtaken, swapped, found_closed, closed_itself, ReceiverAt, first, here, claimed, withdrew}
 pub use Rattle.oneshot_machine.specs.Phases.{overdue, full, unclosed, disconnected, resolved, gone, swapped_in, word_of, at_once, waited, by_future, by_poll, Share, no_sender, sender_owns, Row, Slots}
-pub use Rattle.oneshot_machine.specs.Phases.{sender_at, sender_next, sender_moves, blocked, storing, receiver_at, receiver_next, receiver_moves, receiver_owns, none, empty, filled, no_receiver}
-pub use Rattle.oneshot_machine.specs.Phases.{is_row_for, next_by}
+pub use Rattle.oneshot_machine.specs.Phases.{sender_at, sender_next, sender_moves, receiver_at, receiver_next, receiver_moves, receiver_owns, none, empty, filled, no_receiver, is_row_for, next_by}
 pub use Rattle.oneshot_machine.specs.RowExamples.{no_slot, room, has}
 pub use Rattle.oneshot_machine.specs.Slots.{Held, IsOwned, not_its_own, own_vacant, own_held, Owns, away, vacant, held, SenderMay, may, Turns, stays_away, stays_vacant, stays_held, gives_room}
 pub use Rattle.oneshot_machine.specs.Slots.{gives_thing, gets_room, gets_thing, In, Finds, finds, head, tail, IsSlot, is_away, is_vacant, is_held, ReceiverMay, May, SenderOwns, ReceiverOwns}

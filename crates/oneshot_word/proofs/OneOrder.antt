@@ -1,16 +1,15 @@
 -- Two orders of the same logs are the same: the logs alone show which end performed the last operation.
 use Rattle.std.proofs.Common.{◌≡◌, ℕ, Bool, true, false, List, [], ◌∷◌, Option, Some, None, refl}
 use Rattle.oneshot_word.proofs.Names.{not, ◌&&◌, ◌||◌, ◌++◌, sym, ap, ◌∙◌, subst, true≢false, list_all, eq-eqb, Op, Noted, saw, is_same_seen, HasRow, has_row, Reaches, nothing_made, sender_makes}
-use Rattle.oneshot_word.proofs.Names.{receiver_makes, Slots, Row, sending, dropping, SenderAt, fresh, owes, no_sender, sender_at, sender_next, sender_moves, blocked, storing, swapped, ReceiverAt}
-use Rattle.oneshot_word.proofs.Names.{here, full, unclosed, receiver_at, receiver_moves, In, word_after, each_passes, same_sight, phase_from-snoc, OrderIsOne, WorkedOrders, WrongOrders}
+use Rattle.oneshot_word.proofs.Names.{receiver_makes, Slots, Row, SenderAt, fresh, owes, no_sender, sender_at, sender_next, sender_moves, ReceiverAt, receiver_at, receiver_moves, In, word_after}
+use Rattle.oneshot_word.proofs.Names.{each_passes, same_sight, phase_from-snoc, OrderIsOne, WorkedOrders, WrongOrders}
 use Rattle.oneshot_machine.specs.declared.machine.End.TheVariants.{Sender, Receiver}
-use Rattle.oneshot_machine.specs.Phases.{looked, waits}
+use Rattle.oneshot_machine.proofs.EachPhase.{senders, at_each_sender, at_each_pair}
 use Rattle.oneshot_word.proofs.WordsEqual.{is_word}
 use Rattle.oneshot_word.proofs.Between.{between}
 use Rattle.oneshot_word.proofs.ByRows.{made_by, sender_is, receiver_is, IsByRows, by_rows}
 use Rattle.oneshot_word.proofs.LastOnes.{not_empty, same_start, same_last}
 use Rattle.oneshot_word.proofs.RuleImplies.{word_between, Is, is}
-use Rattle.oneshot_word.proofs.RuleKept.{senders, is_sender}
 
 -- whether a sender may be in the first phase and later in the second, another one
 abbrev goes_on : SenderAt → SenderAt → Bool
@@ -36,13 +35,6 @@ differs earlier later q row =
 abbrev tells_apart : ReceiverAt → SenderAt → SenderAt → Bool
 tells_apart q earlier later = not (goes_on earlier later) || list_all (differs earlier later q) (receiver_moves q)
 
-told_apart : (q : ReceiverAt) → list_all (λ s. list_all (tells_apart q s) senders) senders ≡ true
-told_apart (here looked) = refl
-told_apart (waits blocked) = refl
-told_apart (full (swapped storing)) = refl
-told_apart (unclosed storing) = refl
-told_apart _ = refl
-
 implied : (condition claim : Bool) → (not condition || claim) ≡ true → condition ≡ true → claim ≡ true
 implied true claim so e = so
 implied false claim so e = absurd (cc e)
@@ -64,8 +56,9 @@ apart : (earlier later : SenderAt) (q : ReceiverAt) {op : Op} {v w : ℕ} → go
     → Is (word_between earlier q) v → Is (word_between later q) w → HasRow (receiver_moves q) op w
     → saw op v ≡ saw op w → ⊥
 apart earlier later q {op} {v} {w} goes before after (has_row row) same =
-    let by_earlier = each_passes (λ s. list_all (tells_apart q s) senders) senders (told_apart q) (is_sender earlier) in
-    let by_later = each_passes (tells_apart q earlier) senders by_earlier (is_sender later) in
+    let by_earlier =
+    at_each_pair (λ earlier q. list_all (tells_apart q earlier) senders) refl earlier q in
+    let by_later = at_each_sender (tells_apart q earlier) by_earlier later in
     let all = implied (goes_on earlier later) _ by_later goes in
     not_both (is_seen (word_between earlier q) op w) (is_word (word_between later q) (Some w))
     (each_passes (differs earlier later q) (receiver_moves q) all row) (sees_same op w before same) (found_so after)
@@ -96,16 +89,12 @@ takes_on p earlier =
     not (not_after earlier p)
     || list_all (λ (row : Row SenderAt). goes_on earlier (sender_next p row.0 (saw row.0 row.2))) (sender_moves p)
 
-all_taken_on : (p : SenderAt) → list_all (takes_on p) senders ≡ true
-all_taken_on (owes sending) = refl
-all_taken_on (owes dropping) = refl
-all_taken_on _ = refl
-
 taken_on : (p earlier : SenderAt) {next : SenderAt} {op : Op} {before after : Slots} {word : ℕ}
     → not_after earlier p ≡ true → In (op, before, word, next, after) (sender_moves p)
     → goes_on earlier (sender_next p op (saw op word)) ≡ true
 taken_on p earlier behind row =
-    let by_earlier = each_passes (takes_on p) senders (all_taken_on p) (is_sender earlier) in
+    let by_each = at_each_sender (λ p. list_all (takes_on p) senders) refl p in
+    let by_earlier = at_each_sender (takes_on p) by_each earlier in
     each_passes (λ (row : Row SenderAt). goes_on earlier (sender_next p row.0 (saw row.0 row.2))) (sender_moves p)
     (implied (not_after earlier p) _ by_earlier behind) row
 

@@ -1,10 +1,9 @@
 -- Each operation of an end keeps the rule: computed for each pair of phases.
-use Rattle.std.proofs.Common.{◌≡◌, ℕ, Bool, true, List, [], ◌∷◌, Option, Some, None, refl}
-use Rattle.oneshot_word.proofs.Names.{◌≤◌, sym, subst, leb, list_all, and_parts, leb-true, Act, Valid, homes_after, carried_after, Op, saw, Slots, Row, sending, dropping, SenderAt, fresh, owes}
-use Rattle.oneshot_word.proofs.Names.{finished, late, overtaken, no_sender, sender_moves, sender_owns, sender_next, blocked, storing, swapped, found_closed, ReceiverAt, first, here, full, unclosed}
-use Rattle.oneshot_word.proofs.Names.{disconnected, resolved, receiver_moves, receiver_owns, receiver_next, Held, IsSlot, In, head, tail, May, may, SenderMay, ReceiverMay, Finds, finds, each_passes}
-use Rattle.oneshot_word.proofs.Names.{AnyWaker, Slot, Message, with_waker, Carried, Part, message_first, waker_first, carried_as, SeatOf, seat_of, Home, Lies}
-use Rattle.oneshot_machine.specs.Phases.{looked, waits}
+use Rattle.std.proofs.Common.{◌≡◌, ℕ, Bool, true, [], ◌∷◌, Option, Some, None, refl}
+use Rattle.oneshot_word.proofs.Names.{◌≤◌, sym, subst, leb, and_parts, leb-true, Act, Valid, homes_after, carried_after, Op, saw, Slots, Row, SenderAt, sender_moves, sender_owns, sender_next}
+use Rattle.oneshot_word.proofs.Names.{ReceiverAt, receiver_moves, receiver_owns, receiver_next, Held, IsSlot, In, May, may, SenderMay, ReceiverMay, Finds, finds, each_passes, AnyWaker, Slot, Message}
+use Rattle.oneshot_word.proofs.Names.{with_waker, Carried, Part, message_first, waker_first, carried_as, SeatOf, seat_of, Home, Lies}
+use Rattle.oneshot_machine.proofs.EachPhase.{at_each_pair}
 use Rattle.oneshot_word.proofs.WordsEqual.{is_bool, bools_are}
 use Rattle.oneshot_word.proofs.FoundRow.{row_of, Found, found_none, found_row, found}
 use Rattle.oneshot_word.proofs.SlotMoves.{is_owned, Carries, carries, Moved, moved, goes, acts, both}
@@ -87,51 +86,12 @@ module _ {T H K At : Type 0} (kept : T → Type 0) (fits : AnyWaker H K → Type
         turns_from number (each_passes (λ (row : Row At). is_kept e at row.0 row.1 (e.word at)) (e.moves at) all row)
         message waker seat lies lies'
 
--- every phase of a sender
-abbrev pub senders : List SenderAt
-senders =
-    fresh
-    ∷ owes sending
-    ∷ owes dropping
-    ∷ finished sending
-    ∷ finished dropping
-    ∷ late sending
-    ∷ late dropping
-    ∷ overtaken sending
-    ∷ overtaken dropping
-    ∷ no_sender
-    ∷ []
-
-pub is_sender : (p : SenderAt) → In p senders
-is_sender fresh = head
-is_sender (owes sending) = tail head
-is_sender (owes dropping) = tail (tail head)
-is_sender (finished sending) = tail (tail (tail head))
-is_sender (finished dropping) = tail (tail (tail (tail head)))
-is_sender (late sending) = tail (tail (tail (tail (tail head))))
-is_sender (late dropping) = tail (tail (tail (tail (tail (tail head)))))
-is_sender (overtaken sending) = tail (tail (tail (tail (tail (tail (tail head))))))
-is_sender (overtaken dropping) = tail (tail (tail (tail (tail (tail (tail (tail head)))))))
-is_sender no_sender = tail (tail (tail (tail (tail (tail (tail (tail (tail head))))))))
-
+-- so at each pair of phases
 sender_keeps : (p : SenderAt) (q : ReceiverAt) → keeps_rule (sender_end q) p ≡ true
-sender_keeps fresh first = refl
-sender_keeps (owes sending) first = refl
-sender_keeps (owes dropping) first = refl
-sender_keeps (finished by) q = refl
-sender_keeps (late by) q = refl
-sender_keeps (overtaken by) q = refl
-sender_keeps no_sender q = refl
-sender_keeps _ _ = refl
+sender_keeps = at_each_pair (λ p q. keeps_rule (sender_end q) p) refl
 
-receiver_keeps : (q : ReceiverAt) → list_all (λ p. keeps_rule (receiver_end p) q) senders ≡ true
-receiver_keeps (here looked) = refl
-receiver_keeps (waits blocked) = refl
-receiver_keeps (full (swapped storing)) = refl
-receiver_keeps (unclosed storing) = refl
-receiver_keeps (disconnected found_closed) = refl
-receiver_keeps (resolved found_closed) = refl
-receiver_keeps _ = refl
+receiver_keeps : (p : SenderAt) (q : ReceiverAt) → keeps_rule (receiver_end p) q ≡ true
+receiver_keeps = at_each_pair (λ p q. keeps_rule (receiver_end p) q) refl
 
 module _ {T H K : Type 0} {kept : T → Type 0} {fits : AnyWaker H K → Type 0} {p : SenderAt} {q : ReceiverAt} {op : Op}
     {word : ℕ} {h k : Home T H K}
@@ -145,9 +105,7 @@ module _ {T H K : Type 0} {kept : T → Type 0} {fits : AnyWaker H K → Type 0}
   pub receiver_turns : ReceiverMay q op m w → SeatOf kept fits message_first (receiver_owns q) c m w
       → Meet T H K kept fits p q word h k → Turn kept fits (receiver_end p) q op word h k c m w
   receiver_turns asks seat (meet now lies lies') =
-      keeps_turn kept fits (receiver_end p) q op word
-      (each_passes (λ p. keeps_rule (receiver_end p) q) senders (receiver_keeps q) (is_sender p)) asks seat now lies
-      lies'
+      keeps_turn kept fits (receiver_end p) q op word (receiver_keeps p q) asks seat now lies lies'
 
 module _ (p : SenderAt) (q : ReceiverAt) {op : Op} {before after : Slots} {word : ℕ} where
   pub sender_leaves : {next : SenderAt} → Is (word_between p q) word
@@ -158,6 +116,4 @@ module _ (p : SenderAt) (q : ReceiverAt) {op : Op} {before after : Slots} {word 
   pub receiver_leaves : {next : ReceiverAt} → Is (word_between p q) word
       → In (op, before, word, next, after) (receiver_moves q)
       → Is (word_between p (receiver_next q op (saw op word))) (stepped op word)
-  receiver_leaves =
-      keeps_word (receiver_end p) q op word
-      (each_passes (λ p. keeps_rule (receiver_end p) q) senders (receiver_keeps q) (is_sender p))
+  receiver_leaves = keeps_word (receiver_end p) q op word (receiver_keeps p q)

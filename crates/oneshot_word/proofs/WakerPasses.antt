@@ -1,15 +1,13 @@
 -- The waker that has passed after an operation: the receiver gave it, and it is at home or the sender took it.
 use Rattle.std.proofs.Common.{◌≡◌, ℕ, Bool, true, false, List, [], ◌∷◌, Option, Some, refl}
 use Rattle.std.specs.Prelude.{if◌then◌else◌}
-use Rattle.oneshot_machine.specs.Phases.{looked, waits}
-use Rattle.oneshot_word.proofs.Names.{◌++◌, ◌||◌, not, list_all, eq-eqb, each_passes, sym, ap, ◌∙◌, subst, Op, Noted, Share, none, empty, filled, Slots, Row, In, SenderAt, fresh, sender_owns, blocked}
-use Rattle.oneshot_word.proofs.Names.{storing, swapped, found_closed, ReceiverAt, here, full, unclosed, disconnected, resolved, receiver_owns, receiver_moves, Held, away, vacant, held, Turns}
-use Rattle.oneshot_word.proofs.Names.{stays_away, stays_vacant, stays_held, gives_room, gives_thing, gets_room, gets_thing, AnyWaker, with_waker, Home, has_slots, waker_left, waker_home, Lies}
-use Rattle.oneshot_word.proofs.Names.{lies_out, IsPut, has_made, IsClaimed, claimed_none, claimed_it, Carried, Front, slot_vacant, slot_held, not_carried, carried, SeatOf, seat_of, HoldsClaimed}
-use Rattle.oneshot_word.proofs.Names.{claims_no_slot, claims_none, claims_it, gave, took}
+use Rattle.oneshot_machine.proofs.EachPhase.{at_each_pair}
+use Rattle.oneshot_word.proofs.Names.{◌++◌, ◌||◌, not, list_all, eq-eqb, each_passes, sym, ap, ◌∙◌, subst, Op, Noted, Share, none, filled, Slots, Row, In, SenderAt, fresh, sender_owns, ReceiverAt}
+use Rattle.oneshot_word.proofs.Names.{receiver_owns, receiver_moves, Held, away, vacant, held, Turns, stays_away, stays_vacant, stays_held, gives_room, gives_thing, gets_room, gets_thing, AnyWaker}
+use Rattle.oneshot_word.proofs.Names.{with_waker, Home, has_slots, waker_left, waker_home, Lies, lies_out, IsPut, has_made, IsClaimed, claimed_none, claimed_it, Carried, Front, slot_vacant, slot_held}
+use Rattle.oneshot_word.proofs.Names.{not_carried, carried, SeatOf, seat_of, HoldsClaimed, claims_no_slot, claims_none, claims_it, gave, took}
 use Rattle.oneshot_word.proofs.WordsEqual.{is_word}
 use Rattle.oneshot_word.proofs.RuleImplies.{word_between, Is, is, SenderSays, says_none, says_owes, says_last, says_late, says_overtaken}
-use Rattle.oneshot_word.proofs.RuleKept.{senders, is_sender}
 
 module _ {T H K : Type 0} where
   -- a waker in the end's slot satisfies the predicate
@@ -99,26 +97,16 @@ module _ {W : Type 0} where
   pub claims_put : {s s' : Share} {w w' : Held W} {put woke : Option W} {xs xs' : List Noted} → Turns s s' w w'
       → IsClaimed put xs woke → has_made xs' ≡ true → ((x : W) → w' ≡ held x → put ≡ Some x)
       → IsClaimed put xs' (took w w' woke)
-  claims_put stays_away claim made gets = claims_on claim made
-  claims_put stays_vacant claim made gets = claims_on claim made
-  claims_put (stays_held x) claim made gets = claims_on claim made
-  claims_put gives_room claim made gets = claims_on claim made
-  claims_put (gives_thing x) claim made gets = claims_on claim made
-  claims_put gets_room claim made gets = claims_on claim made
   claims_put (gets_thing x) claim made gets = claimed_it x (gets x refl) made
+  claims_put _ claim made gets = claims_on claim made
 
   -- and after an operation of the receiver, which gives a waker only to a sender that has made none
   pub still_claimed : {s s' : Share} {w w' : Held W} {put woke : Option W} {xs : List Noted} → Turns s s' w w'
       → IsClaimed put xs woke → (s ≡ filled → s' ≡ none → has_made xs ≡ false) → IsClaimed (gave w w' put) xs woke
-  still_claimed stays_away claim none_made = claim
-  still_claimed stays_vacant claim none_made = claim
-  still_claimed (stays_held x) claim none_made = claim
-  still_claimed gives_room claim none_made = claim
-  still_claimed gets_room claim none_made = claim
-  still_claimed (gets_thing x) claim none_made = claim
   still_claimed (gives_thing x) claimed_none none_made = claimed_none
   still_claimed (gives_thing x) (claimed_it k same made) none_made =
       let e = sym made ∙ none_made refl refl in absurd (cc e)
+  still_claimed _ claim none_made = claim
 
   -- a waker that an end gets is the one noted
   pub gets_taken : {w w' : Held W} (woke : Option W) (k : W) → w ≡ away → w' ≡ held k → took w w' woke ≡ Some k
@@ -148,15 +136,6 @@ abbrev puts_alone : SenderAt → ReceiverAt → Row ReceiverAt → Bool
 puts_alone p q row =
     if is_put row.1.1 row.4.1 then is_fresh p || not (is_word (word_between p q) (Some row.2)) else true
 
-receiver_puts : (q : ReceiverAt) → list_all (λ p. list_all (puts_alone p q) (receiver_moves q)) senders ≡ true
-receiver_puts (here looked) = refl
-receiver_puts (waits blocked) = refl
-receiver_puts (full (swapped storing)) = refl
-receiver_puts (unclosed storing) = refl
-receiver_puts (disconnected found_closed) = refl
-receiver_puts (resolved found_closed) = refl
-receiver_puts _ = refl
-
 said_none : {xs : List Noted} {p : SenderAt} → SenderSays xs p → is_fresh p ≡ true → has_made xs ≡ false
 said_none says_none e = refl
 said_none (says_owes by found) e = absurd (cc e)
@@ -175,10 +154,8 @@ fresh_so false false so e = absurd (cc so)
 puts_so : (fresh_p found : Bool) (s s' : Share) → s ≡ filled → s' ≡ none → found ≡ true
     → (if is_put s s' then fresh_p || not found else true) ≡ true → fresh_p ≡ true
 puts_so fresh_p found filled none from to so e = fresh_so fresh_p found so e
-puts_so fresh_p found filled empty from to so e = absurd (cc to)
-puts_so fresh_p found filled filled from to so e = absurd (cc to)
-puts_so fresh_p found none s' from to so e = absurd (cc from)
-puts_so fresh_p found empty s' from to so e = absurd (cc from)
+puts_so fresh_p found filled _ from to so e = absurd (cc to)
+puts_so fresh_p found _ s' from to so e = absurd (cc from)
 
 pub none_made : {xs : List Noted} (p : SenderAt) (q : ReceiverAt) {next : ReceiverAt} {op : Op} {before after : Slots}
     {word : ℕ} → SenderSays xs p → Is (word_between p q) word → In (op, before, word, next, after) (receiver_moves q)
@@ -187,7 +164,7 @@ none_made p q {next} {op} {before} {after} {word} said now row from to =
     said_none said
     (puts_so (is_fresh p) (is_word (word_between p q) (Some word)) before.1 after.1 from to (is_found now)
     (each_passes (puts_alone p q) (receiver_moves q)
-    (each_passes (λ p. list_all (puts_alone p q) (receiver_moves q)) senders (receiver_puts q) (is_sender p)) row))
+    (at_each_pair (λ p q. list_all (puts_alone p q) (receiver_moves q)) refl p q) row))
 
 pub made_more : (xs : List Noted) (x : Noted) → has_made (xs ++ x ∷ []) ≡ true
 made_more [] x = refl
