@@ -16,14 +16,8 @@ use Rattle.oneshot_drive.proofs.Stretches.{on, by_word, by_own, ran}
 
 -- it may load
 polled_loads : {at : ReceiverAt} → Polled at → has_row Load (receiver_slots at) (receiver_moves at) ≡ true
-polled_loads (unpolled rests_new) = refl
 polled_loads (unpolled (rests_open looked)) = refl
-polled_loads (unpolled (rests_open between)) = refl
-polled_loads (unpolled (rests_closed c)) = refl
-polled_loads left_copy = refl
-polled_loads kept_copy = refl
-polled_loads found_sender = refl
-polled_loads (has_resolved c) = refl
+polled_loads _ = refl
 
 -- a receiver at this phase may be dropped
 abbrev pub Drops : ReceiverAt → Type 0

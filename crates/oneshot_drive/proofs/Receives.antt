@@ -1,11 +1,11 @@
 -- The obligations of each receive that blocks after the word that decides it, and the runs that its steps make.
 use Rattle.oneshot_drive.proofs.Names.{◌≡◌, ℕ, Bool, true, false, List, [], ◌∷◌, Option, Result, Ok, Err, refl, sym, subst, RecvError, RecvTimeoutError, Found, Reply, ReceiverPos, Try, Ref, Timed}
 use Rattle.oneshot_drive.proofs.Names.{Value, Close, Take, CloseOnly, StartLoad, SumClock, RecvLoad, RecvTake, RecvFreeGot, RecvFreeGone, Recv, RecvTimeout, Store, Log, Grows, receiver_of, did, took}
-use Rattle.oneshot_drive.proofs.Names.{clocked, worded, between, ReceiverAt, here, full, Got, at_once, waited, swapped, by_future, by_poll, unclosed, Swapping, Closing, closed_itself, disconnected}
-use Rattle.oneshot_drive.proofs.Names.{receiver_moves, receiver_next, empty, filled, receiver_step, receiver_row, Goes, last, more, Ran, ReceiverRan, vacant, receiver_moved, and_then, GroundState}
-use Rattle.oneshot_drive.proofs.Names.{StandsWith, Stands, receiver_slots, ReceiverAsks, ReceiverMakes, Path, value_end, EndsAt, Returns, returned, taken, Refills, refilled, HandAt, AtRest}
-use Rattle.oneshot_drive.proofs.Names.{rests_open, IsClosedAt, LeavesClosed, left_received, left_closed, LeavesTimed, timed_received, timed_out, timed_closed, IsReady, Hands, as_it_was, sender_took}
-use Rattle.oneshot_drive.proofs.Names.{came_back, is_room, has_row, Each, landings}
+use Rattle.oneshot_drive.proofs.Names.{clocked, worded, between, ReceiverAt, here, full, Got, at_once, unclosed, Swapping, Closing, closed_itself, disconnected, receiver_moves, receiver_next, empty}
+use Rattle.oneshot_drive.proofs.Names.{filled, receiver_step, receiver_row, Goes, last, more, Ran, ReceiverRan, vacant, receiver_moved, and_then, GroundState, StandsWith, Stands, receiver_slots}
+use Rattle.oneshot_drive.proofs.Names.{ReceiverAsks, ReceiverMakes, Path, value_end, EndsAt, Returns, returned, taken, Refills, refilled, HandAt, AtRest, rests_open, IsClosedAt, LeavesClosed}
+use Rattle.oneshot_drive.proofs.Names.{left_received, left_closed, LeavesTimed, timed_received, timed_out, timed_closed, IsReady, Hands, as_it_was, sender_took, came_back, is_room, has_row, Each}
+use Rattle.oneshot_drive.proofs.Names.{landings}
 use Rattle.oneshot_errors.specs.declared.recv_timeout.RecvTimeoutError.TheVariants as Timed
 use Rattle.oneshot_drive.specs.declared.found.Found.TheVariants as F
 use Rattle.oneshot_machine.specs.declared.machine.Reply.TheVariants as R
@@ -17,24 +17,15 @@ use Rattle.oneshot_drive.proofs.Stretches.{by_clock, ran, before}
 -- a receiver that found the message, in any way, may close the channel, and still has the message then
 stores_full : (g : Got) → has_row (Store 2) (receiver_slots (full g)) (receiver_moves (full g)) ≡ true
 stores_full at_once = refl
-stores_full waited = refl
-stores_full (swapped by) = refl
-stores_full by_future = refl
-stores_full by_poll = refl
+stores_full _ = refl
 
 keeps_full : (g : Got) → Each (λ n next after. after ≡ (filled, empty)) (landings (Store 2) (receiver_moves (full g)))
 keeps_full at_once = (refl, tt)
-keeps_full waited = (refl, tt)
-keeps_full (swapped by) = (refl, tt)
-keeps_full by_future = (refl, tt)
-keeps_full by_poll = (refl, tt)
+keeps_full _ = (refl, tt)
 
 slots_full : (g : Got) → receiver_slots (full g) ≡ (filled, empty)
 slots_full at_once = refl
-slots_full waited = refl
-slots_full (swapped by) = refl
-slots_full by_future = refl
-slots_full by_poll = refl
+slots_full _ = refl
 
 module _ {T W : Type 0} where
   pub full_asks : {g : Got} {s : GroundState T W} → Stands (full g) s → ReceiverAsks (Store 2) s

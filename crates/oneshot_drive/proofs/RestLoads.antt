@@ -10,16 +10,12 @@ use Rattle.oneshot_drive.proofs.AfterOperations.{lone, Came, came, asks, lands}
 
 -- it may load, and may be dropped
 rests_load : {at : ReceiverAt} → Rests at → has_row Load (receiver_slots at) (receiver_moves at) ≡ true
-rests_load rests_new = refl
 rests_load (rests_open looked) = refl
-rests_load (rests_open between) = refl
-rests_load (rests_closed c) = refl
+rests_load _ = refl
 
 rests_swap : {at : ReceiverAt} → Rests at → has_row (Swap 2) (receiver_slots at) (receiver_moves at) ≡ true
-rests_swap rests_new = refl
 rests_swap (rests_open looked) = refl
-rests_swap (rests_open between) = refl
-rests_swap (rests_closed c) = refl
+rests_swap _ = refl
 
 -- the word that its load finds, and where that leads
 pub data Looked : ℕ → ReceiverAt → Type 0 where

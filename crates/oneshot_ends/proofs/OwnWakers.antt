@@ -17,10 +17,11 @@ use Rattle.oneshot_word.specs.Seats.{gave}
 use Rattle.oneshot_word.specs.Side.{Side, ReceiverDid}
 use Rattle.oneshot_ends.specs.declared.token.WakingHalf.{WakingHalf}
 use Rattle.oneshot_ends.specs.Grounds.{left_of, state_of, IsNewReceiver}
-use Rattle.oneshot_ends.specs.OwnWakers.{IsHalfOf, is_waiting, Gave, WaitsBy, IsNoThread, WaitsByNoThread, WaitsByHalvesOf}
+use Rattle.oneshot_ends.specs.OwnWakers.{IsHalfOf, is_waiting, Gave, WaitsBy, IsNoThread, WaitsByHalvesOf}
 use Rattle.oneshot_ends.specs.Taken.{KeepsTaken}
 use Rattle.oneshot_ends.specs.Tokens.{ParkingView}
 use Rattle.oneshot_ends.proofs.GrewByRuns.{words_of}
+use Rattle.oneshot_ends.proofs.LentGrounds.{KeepsOwn}
 use Rattle.oneshot_ends.proofs.Taken.{side_keeps, ground_keeps}
 
 abbrev pub is_out : Share → Share → Bool
@@ -107,10 +108,7 @@ module _ {T W P : Type 0} (freed : Bool) (s : Side T W P) {now : Side T W P} (is
 pub operated : {T K P : Type 0} (freed : Bool) (s : Side T (AnyWaker WakingHalf K) P)
     {now : Side T (AnyWaker WakingHalf K) P} → left_of freed s ≡ now → freed ≡ false
     → (next : Side T (AnyWaker WakingHalf K) P) {op : Op} {word : ℕ} → ReceiverDid s op word next
-    → (next.about ≡ now.about)
-    × ((parker : TableId) → WaitsByHalvesOf parker now → WaitsByHalvesOf parker (left_of freed next))
-    × (WaitsByNoThread now → WaitsByNoThread (left_of freed next))
-    × KeepsTaken now.passed next.passed now.log next.log
+    → KeepsOwn now (left_of freed next)
 operated freed s is unfreed next did = (
   did.about ∙ ap (λ s. s.about) is,
   λ parker. ground_after freed s is (IsHalfOf parker) next unfreed did,

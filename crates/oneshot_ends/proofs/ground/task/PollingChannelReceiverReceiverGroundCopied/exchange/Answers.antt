@@ -1,6 +1,7 @@
 -- Proofs of the goals that `exchange` of `Polling` as a `ReceiverGround` leaves.
 use Rattle.std.proofs.Common.{refl, [], ◌∷◌}
 use Rattle.oneshot_machine.specs.declared.states.Op.TheVariants.{Exchange}
+use Rattle.oneshot_ends.proofs.LentGrounds.{polling_keeps}
 use Rattle.oneshot_ends.proofs.PollingTokens.{told, token_can, token_found}
 use Rattle.oneshot_ends.proofs.ground.task.PollingChannelReceiverReceiverGroundCopied.exchange.Goals as goal
 
@@ -17,10 +18,4 @@ returns-clause-finds g c =
     c.exchange.result c.exchange.ensures.finds
 
 pub returns-clause-keeps : goal.returns-clause-keeps
-returns-clause-keeps g c = (
-  λ fact h. h,
-  refl,
-  c.exchange.ensures.keeps.0,
-  c.exchange.ensures.keeps.2,
-  c.exchange.ensures.keeps.3,
-)
+returns-clause-keeps g c = polling_keeps c.args.self.now.ground.now c.exchange.new.self c.exchange.ensures.keeps _

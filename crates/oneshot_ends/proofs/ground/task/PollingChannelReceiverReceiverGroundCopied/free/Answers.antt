@@ -1,5 +1,6 @@
 -- Proofs of the goals that `free` of `Polling` as a `ReceiverGround` leaves.
 use Rattle.std.proofs.Common.{refl, [], ◌∷◌}
+use Rattle.oneshot_ends.proofs.LentGrounds.{polling_keeps}
 use Rattle.oneshot_ends.proofs.PollingTokens.{told}
 use Rattle.oneshot_ends.proofs.ground.task.PollingChannelReceiverReceiverGroundCopied.free.Goals as goal
 
@@ -7,4 +8,4 @@ pub returns-clause-log : goal.returns-clause-log
 returns-clause-log g c = told (_ ∷ _ ∷ _ ∷ []) c.args.self.now.ground.now c.free.new.self _ _ refl c.free.ensures.log
 
 pub returns-clause-keeps : goal.returns-clause-keeps
-returns-clause-keeps g c = (λ fact h. h, refl, c.free.ensures.keeps.0, c.free.ensures.keeps.2, c.free.ensures.keeps.3)
+returns-clause-keeps g c = polling_keeps c.args.self.now.ground.now c.free.new.self c.free.ensures.keeps _

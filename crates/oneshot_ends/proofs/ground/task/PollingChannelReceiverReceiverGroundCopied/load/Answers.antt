@@ -1,6 +1,7 @@
 -- Proofs of the goals that `load` of `Polling` as a `ReceiverGround` leaves.
 use Rattle.std.proofs.Common.{refl, [], ◌∷◌}
 use Rattle.oneshot_machine.specs.declared.states.Op.TheVariants.{Load}
+use Rattle.oneshot_ends.proofs.LentGrounds.{polling_keeps}
 use Rattle.oneshot_ends.proofs.PollingTokens.{told, token_can, token_found}
 use Rattle.oneshot_ends.proofs.ground.task.PollingChannelReceiverReceiverGroundCopied.load.Goals as goal
 
@@ -15,4 +16,4 @@ returns-clause-finds g c =
     token_found [] c.args.self.now.ground.now c.load.new.self Load c.load.result c.load.ensures.finds
 
 pub returns-clause-keeps : goal.returns-clause-keeps
-returns-clause-keeps g c = (λ fact h. h, refl, c.load.ensures.keeps.0, c.load.ensures.keeps.2, c.load.ensures.keeps.3)
+returns-clause-keeps g c = polling_keeps c.args.self.now.ground.now c.load.new.self c.load.ensures.keeps _

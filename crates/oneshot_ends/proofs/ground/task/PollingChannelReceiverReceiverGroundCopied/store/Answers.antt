@@ -1,6 +1,7 @@
 -- Proofs of the goals that `store` of `Polling` as a `ReceiverGround` leaves.
 use Rattle.std.proofs.Common.{refl, [], ◌∷◌}
 use Rattle.oneshot_machine.specs.declared.states.Op.TheVariants.{Store}
+use Rattle.oneshot_ends.proofs.LentGrounds.{polling_keeps}
 use Rattle.oneshot_ends.proofs.PollingTokens.{told, token_can, token_found}
 use Rattle.oneshot_ends.proofs.ground.task.PollingChannelReceiverReceiverGroundCopied.store.Goals as goal
 
@@ -16,10 +17,4 @@ returns-clause-finds g c =
     token_found [] c.args.self.now.ground.now c.store.new.self (Store c.args.new) c.store.result c.store.ensures.finds
 
 pub returns-clause-keeps : goal.returns-clause-keeps
-returns-clause-keeps g c = (
-  λ fact h. h,
-  refl,
-  c.store.ensures.keeps.0,
-  c.store.ensures.keeps.2,
-  c.store.ensures.keeps.3,
-)
+returns-clause-keeps g c = polling_keeps c.args.self.now.ground.now c.store.new.self c.store.ensures.keeps _

@@ -1,6 +1,7 @@
 -- Proofs of the goals that `swap` of `Polling` as a `ReceiverGround` leaves.
 use Rattle.std.proofs.Common.{refl, [], ◌∷◌}
 use Rattle.oneshot_machine.specs.declared.states.Op.TheVariants.{Swap}
+use Rattle.oneshot_ends.proofs.LentGrounds.{polling_keeps}
 use Rattle.oneshot_ends.proofs.PollingTokens.{told, token_can, token_found}
 use Rattle.oneshot_ends.proofs.ground.task.PollingChannelReceiverReceiverGroundCopied.swap.Goals as goal
 
@@ -15,4 +16,4 @@ returns-clause-finds g c =
     token_found [] c.args.self.now.ground.now c.swap.new.self (Swap c.args.new) c.swap.result c.swap.ensures.finds
 
 pub returns-clause-keeps : goal.returns-clause-keeps
-returns-clause-keeps g c = (λ fact h. h, refl, c.swap.ensures.keeps.0, c.swap.ensures.keeps.2, c.swap.ensures.keeps.3)
+returns-clause-keeps g c = polling_keeps c.args.self.now.ground.now c.swap.new.self c.swap.ensures.keeps _

@@ -1,13 +1,6 @@
 -- Proofs of the goals that `drop_message` of `Blocking` as a `ReceiverGround` leaves.
-use Rattle.std.proofs.Common.{refl}
+use Rattle.oneshot_ends.proofs.LentGrounds.{blocking_keeps}
 use Rattle.oneshot_ends.proofs.ground.thread.BlockingChannelReceiverReceiverGroundChannelWaker.drop_message.Goals as goal
 
 pub returns-clause-keeps : goal.returns-clause-keeps
-returns-clause-keeps g c = (
-  c.drop_message.ensures.keeps.0,
-  λ has. has,
-  refl,
-  λ owned. c.drop_message.ensures.keeps.1 _
-      owned,
-  c.drop_message.ensures.keeps.3,
-)
+returns-clause-keeps g c = blocking_keeps c.args.self.now.ground.now c.drop_message.new.self c.drop_message.ensures.keeps

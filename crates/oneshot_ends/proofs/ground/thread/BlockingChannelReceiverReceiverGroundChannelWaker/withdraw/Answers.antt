@@ -1,15 +1,9 @@
 -- Proofs of the goals that `withdraw` of `Blocking` as a `ReceiverGround` leaves.
-use Rattle.std.proofs.Common.{refl}
+use Rattle.oneshot_ends.proofs.LentGrounds.{blocking_keeps}
 use Rattle.oneshot_ends.proofs.ground.thread.BlockingChannelReceiverReceiverGroundChannelWaker.withdraw.Goals as goal
 
 pub returns-clause-keeps : goal.returns-clause-keeps
-returns-clause-keeps g c = (
-  c.withdraw.ensures.keeps.0,
-  λ has. has,
-  refl,
-  λ owned. c.withdraw.ensures.keeps.1 _ owned,
-  c.withdraw.ensures.keeps.3,
-)
+returns-clause-keeps g c = blocking_keeps c.args.self.now.ground.now c.withdraw.new.self c.withdraw.ensures.keeps
 
 pub returns-clause-has : goal.returns-clause-has
 returns-clause-has g c = λ has.
