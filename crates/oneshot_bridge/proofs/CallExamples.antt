@@ -10,6 +10,7 @@ use Rattle.oneshot_machine.specs.declared.machine.Step.TheVariants as Steps
 use Rattle.oneshot_machine.specs.declared.machine.future.FuturePos.TheVariants as F
 use Rattle.oneshot_machine.specs.declared.machine.receiver.ReceiverStart.TheVariants.{IntoFuture}
 use Rattle.oneshot_machine.specs.declared.machine.sender.SenderCall.TheVariants.{Drop}
+use Rattle.oneshot_machine.specs.declared.states.TheConstants.{RECEIVING, DISCONNECTED, EMPTY, MESSAGE}
 
 -- the first call of a receiver
 record IsFirst (T W : Type 0) (x : ReceiverStart × Reply) (log : List Noted) : Type 0 where
@@ -22,27 +23,30 @@ module _ {T W : Type 0} where
   abbrev saw : Step → Seen → Event T W
   saw step seen = record { step = step; seen = seen; message = None; waker = None }
 
-  tries_once : ReceiverCalled T W as_receiver ((TryRecv, R.Empty) ∷ []) ((Load, Word 3) ∷ [])
-  tries_once = called TryRecv R.Empty (worded Load 3 ∷ []) not_called refl (last (worded Load 3) refl refl)
+  tries_once : ReceiverCalled T W as_receiver ((TryRecv, R.Empty) ∷ []) ((Load, Word EMPTY) ∷ [])
+  tries_once = called TryRecv R.Empty (worded Load EMPTY ∷ []) not_called refl (last (worded Load EMPTY) refl refl)
 
   pub worked_calls : WorkedCalls T W
   worked_calls =
       record {
         tries =
-            called TryRecv R.Message (worded Load 4 ∷ worded (Store 2) 4 ∷ did Steps.TakeMessage ∷ []) tries_once refl
-            (more (Try Close) (worded Load 4) _ refl refl
-            (more (Try Take) (worded (Store 2) 4) _ refl refl (last (did Steps.TakeMessage) refl refl)));
+            called TryRecv R.Message
+            (worded Load MESSAGE ∷ worded (Store DISCONNECTED) MESSAGE ∷ did Steps.TakeMessage ∷ []) tries_once refl
+            (more (Try Close) (worded Load MESSAGE) _ refl refl
+            (more (Try Take) (worded (Store DISCONNECTED) MESSAGE) _ refl refl
+            (last (did Steps.TakeMessage) refl refl)));
         polls =
             called Poll R.Pending
-            (worded Load 3 ∷ saw Steps.Copy (Refused false) ∷ did Steps.WriteWaker ∷ worded (Exchange 3 0) 3 ∷ [])
+            (worded Load EMPTY ∷ saw Steps.Copy (Refused false) ∷ did Steps.WriteWaker
+            ∷ worded (Exchange EMPTY RECEIVING) EMPTY ∷ [])
             (became_future tries_once) refl
-            (more (Future F.PollCopy) (worded Load 3) _ refl refl
+            (more (Future F.PollCopy) (worded Load EMPTY) _ refl refl
             (more (Future F.PollWrite) (saw Steps.Copy (Refused false)) _ refl refl
             (more (Future F.PollExchange) (did Steps.WriteWaker) _ refl refl
-            (last (worded (Exchange 3 0) 3) refl refl))));
+            (last (worded (Exchange EMPTY RECEIVING) EMPTY) refl refl))));
         sends =
-            called_once Send R.Sent (did Steps.WriteMessage ∷ worded Add 3 ∷ []) refl
-            (more SendAdd (did Steps.WriteMessage) _ refl refl (last (worded Add 3) refl refl));
+            called_once Send R.Sent (did Steps.WriteMessage ∷ worded Add EMPTY ∷ []) refl
+            (more SendAdd (did Steps.WriteMessage) _ refl refl (last (worded Add EMPTY) refl refl));
       }
 
   -- without a call there is no operation
@@ -80,7 +84,7 @@ module _ {T W : Type 0} where
             λ log was. let first : IsFirst T W (Poll, R.Pending) log = first_call (Poll, R.Pending) was refl in
             let stays_not : false ≡ true = first.its in cc stays_not;
         takes_nothing =
-            λ was. let first : IsFirst T W (TryRecv, R.Message) ((Load, Word 3) ∷ []) =
+            λ was. let first : IsFirst T W (TryRecv, R.Message) ((Load, Word EMPTY) ∷ []) =
             first_call (TryRecv, R.Message) was refl in tries_in_vain first.made first.leaves;
         sends_once = λ log was. sends_once was refl;
       }

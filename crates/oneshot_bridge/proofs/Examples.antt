@@ -7,6 +7,7 @@ use Rattle.std.specs.Option.{IsSome}
 use Rattle.oneshot_machine.specs.declared.machine.Reply.TheVariants as R
 use Rattle.oneshot_machine.specs.declared.machine.Seen.TheVariants.{Word}
 use Rattle.oneshot_machine.specs.declared.machine.Step.TheVariants as Steps
+use Rattle.oneshot_machine.specs.declared.states.TheConstants.{RECEIVING, UNPARKING, EMPTY, MESSAGE}
 use Rattle.oneshot_machine.specs.Orders.{sender_makes, receiver_makes}
 use Rattle.oneshot_world.specs.declared.state.ReceiverState.TheVariants as RS
 
@@ -15,47 +16,49 @@ module _ {T : Type 0} (m : T) where
   sender = (
     _,
     quietly
-        (by_one (Swap 4, Word 1)
+        (by_one (Swap MESSAGE, Word UNPARKING)
         (quietly
-        (by_one (Add, Word 0) (quietly begins (quiet SendWrite Done (Goes SendAdd) refl refl refl))
-        (operates SendAdd (Add, Word 0) (Goes SendTakeWaker) refl refl refl))
+        (by_one (Add, Word RECEIVING) (quietly begins (quiet SendWrite Done (Goes SendAdd) refl refl refl))
+        (operates SendAdd (Add, Word RECEIVING) (Goes SendTakeWaker) refl refl refl))
         (quiet SendTakeWaker Done (Goes SendFinal) refl refl refl))
-        (operates SendFinal (Swap 4, Word 1) (Goes SendWake) refl refl refl))
+        (operates SendFinal (Swap MESSAGE, Word UNPARKING) (Goes SendWake) refl refl refl))
         (quiet SendWake Done (Answers R.Sent) refl refl refl),
   )
 
-waits : ReceiverWalk receives ((Load, Word 3) ∷ (Swap 0, Word 3) ∷ [])
+waits : ReceiverWalk receives ((Load, Word EMPTY) ∷ (Swap RECEIVING, Word EMPTY) ∷ [])
     (RS.At (Value RecvPark), (opening_receiver receives).1, [])
 waits =
-    by_one (Swap 0, Word 3)
+    by_one (Swap RECEIVING, Word EMPTY)
     (quietly
-    (by_one (Load, Word 3) begins (operates (Value RecvLoad) (Load, Word 3) (Goes (Value RecvWrite)) refl refl refl))
+    (by_one (Load, Word EMPTY) begins
+    (operates (Value RecvLoad) (Load, Word EMPTY) (Goes (Value RecvWrite)) refl refl refl))
     (quiet (Value RecvWrite) Done (Goes (Value RecvSwap)) refl refl refl))
-    (operates (Value RecvSwap) (Swap 0, Word 3) (Goes (Value RecvPark)) refl refl refl)
+    (operates (Value RecvSwap) (Swap RECEIVING, Word EMPTY) (Goes (Value RecvPark)) refl refl refl)
 
 receiver : (s : ReceiverStand) × ReceiverWalk receives received s
 receiver = (
   _,
   quietly
       (quietly
-      (by_one (Load, Word 4)
+      (by_one (Load, Word MESSAGE)
       (quietly
-      (by_one (Load, Word 1)
+      (by_one (Load, Word UNPARKING)
       (quietly waits (quiet (Value RecvPark) (Token false) (Goes (Value RecvParkLoad)) refl refl refl))
-      (operates (Value RecvParkLoad) (Load, Word 1) (Goes (Value RecvPark)) refl refl refl))
+      (operates (Value RecvParkLoad) (Load, Word UNPARKING) (Goes (Value RecvPark)) refl refl refl))
       (quiet (Value RecvPark) (Token true) (Goes (Value RecvParkLoad)) refl refl refl))
-      (operates (Value RecvParkLoad) (Load, Word 4) (Goes (Value RecvTake)) refl refl refl))
+      (operates (Value RecvParkLoad) (Load, Word MESSAGE) (Goes (Value RecvTake)) refl refl refl))
       (quiet (Value RecvTake) Done (Goes (Value RecvFreeGot)) refl refl refl))
       (quiet (Value RecvFreeGot) Done (Answers R.Message) refl refl refl),
 )
 
-stored : Reaches [] ((Load, Word 3) ∷ (Swap 0, Word 3) ∷ []) 0
-stored = receiver_makes (Swap 0) (receiver_makes Load nothing_made (has_row head)) (has_row (tail (tail (tail head))))
+stored : Reaches [] ((Load, Word EMPTY) ∷ (Swap RECEIVING, Word EMPTY) ∷ []) RECEIVING
+stored = receiver_makes (Swap RECEIVING) (receiver_makes Load nothing_made (has_row head))
+    (has_row (tail (tail (tail head))))
 
-order : Reaches sent received 4
+order : Reaches sent received MESSAGE
 order =
     receiver_makes Load
-    (sender_makes (Swap 4)
+    (sender_makes (Swap MESSAGE)
     (receiver_makes Load (sender_makes Add stored (has_row (tail head))) (has_row (tail head))) (has_row head))
     (has_row (tail (tail head)))
 
@@ -117,23 +120,24 @@ begins_so x (quietly a q) e = begins_so x a e
 begins_so x (by_one {xs} y a made) e =
     subst IsFirst (same_last xs [] y x e) (makes_first (stays a (same_start xs [] y x e)) made)
 
-skips_its_load : IsFirst (Swap 0, Word 3) → ⊥
-skips_its_load first = let swaps : Load ≡ Swap 0 = first.0 in cc swaps
+skips_its_load : IsFirst (Swap RECEIVING, Word EMPTY) → ⊥
+skips_its_load first = let swaps : Load ≡ Swap RECEIVING = first.0 in cc swaps
 
-finds_a_waker : IsFirst (Load, Word 0) → ⊥
-finds_a_waker first = let no_row : IsSome (receiver_row (Value RecvLoad) (Word 0)) = first.1 in cc no_row
+finds_a_waker : IsFirst (Load, Word RECEIVING) → ⊥
+finds_a_waker first = let no_row : IsSome (receiver_row (Value RecvLoad) (Word RECEIVING)) = first.1 in cc no_row
 
 -- logs that differ from those of the run in one word, or by one operation
 abbrev seen_at : ℕ → List Noted → Seen
 seen_at n log = (get_or log n (Load, Done)).1
 
-adds_elsewhere : sent ≡ (Add, Word 3) ∷ (Swap 4, Word 1) ∷ [] → ⊥
-adds_elsewhere is = let found : Word 0 ≡ Word 3 = ap (seen_at 0) is in cc found
+adds_elsewhere : sent ≡ (Add, Word EMPTY) ∷ (Swap MESSAGE, Word UNPARKING) ∷ [] → ⊥
+adds_elsewhere is = let found : Word RECEIVING ≡ Word EMPTY = ap (seen_at 0) is in cc found
 
-wakes_before : received ≡ (Load, Word 3) ∷ (Swap 0, Word 3) ∷ (Load, Word 0) ∷ (Load, Word 4) ∷ [] → ⊥
-wakes_before is = let found : Word 1 ≡ Word 0 = ap (seen_at 2) is in cc found
+wakes_before : received ≡ (Load, Word EMPTY) ∷ (Swap RECEIVING, Word EMPTY) ∷ (Load, Word RECEIVING)
+    ∷ (Load, Word MESSAGE) ∷ [] → ⊥
+wakes_before is = let found : Word UNPARKING ≡ Word RECEIVING = ap (seen_at 2) is in cc found
 
-has_no_swap : sent ≡ (Add, Word 0) ∷ [] → ⊥
+has_no_swap : sent ≡ (Add, Word RECEIVING) ∷ [] → ⊥
 has_no_swap is = cc
 
 pub wrong_runs : {T : Type 0} (m : T) → WrongRuns m

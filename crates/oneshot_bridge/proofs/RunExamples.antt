@@ -7,6 +7,7 @@ use Rattle.oneshot_bridge.proofs.Names.{by_one, Quiet, quiet, Operates, operates
 use Rattle.oneshot_machine.specs.declared.machine.End.TheVariants as End
 use Rattle.oneshot_machine.specs.declared.machine.Reply.TheVariants as R
 use Rattle.oneshot_machine.specs.declared.machine.Seen.TheVariants.{Word}
+use Rattle.oneshot_machine.specs.declared.states.TheConstants.{DISCONNECTED, EMPTY, MESSAGE}
 use Rattle.oneshot_machine.proofs.InOrders.{in_order}
 use Rattle.oneshot_world.specs.declared.state.SenderState.TheVariants as SS
 use Rattle.oneshot_word.specs.declared.rule.Role.TheVariants as Role
@@ -41,14 +42,14 @@ module _ {T : Type 0} (m : T) where
       record {
         order = in_order orders_that_are.received;
         sender =
-            by_one (Add, Word 3) (quietly begins (quiet SendWrite Done (Goes SendAdd) refl refl refl))
-            (operates SendAdd (Add, Word 3) (Answers R.Sent) refl refl refl);
+            by_one (Add, Word EMPTY) (quietly begins (quiet SendWrite Done (Goes SendAdd) refl refl refl))
+            (operates SendAdd (Add, Word EMPTY) (Answers R.Sent) refl refl refl);
         receiver =
             quietly
-            (by_one (Store 2, Done)
-            (by_one (Load, Word 4) begins
-            (operates (Try TryLoad) (Load, Word 4) (Goes (Try Close)) refl refl refl))
-            (operates (Try Close) (Store 2, Done) (Goes (Try Take)) refl refl refl))
+            (by_one (Store DISCONNECTED, Done)
+            (by_one (Load, Word MESSAGE) begins
+            (operates (Try TryLoad) (Load, Word MESSAGE) (Goes (Try Close)) refl refl refl))
+            (operates (Try Close) (Store DISCONNECTED, Done) (Goes (Try Take)) refl refl refl))
             (quiet (Try Take) Done (Answers R.Message) refl refl refl);
       }
 

@@ -6,6 +6,7 @@ use Rattle.oneshot_bridge.proofs.Names.{receiver_made, turned, Scene, last_of, e
 use Rattle.oneshot_bridge.proofs.Names.{WrongOrder}
 use Rattle.oneshot_machine.specs.declared.machine.End.TheVariants.{Sender}
 use Rattle.oneshot_machine.specs.declared.machine.Step.TheVariants.{Word}
+use Rattle.oneshot_machine.specs.declared.states.TheConstants.{RECEIVING, MESSAGE}
 use Rattle.oneshot_bridge.proofs.Seen.{op_sees}
 
 -- an order of these logs that leaves this word, in which these ends operate
@@ -116,8 +117,8 @@ runs_are_in_order T a b moves entries now xs ys word run reached v order =
 abbrev worked : InOrder sent received 4
 worked =
     by_receiver Load
-    (by_sender (Swap 4)
-    (by_receiver Load (by_sender Add (by_receiver (Swap 0) (by_receiver Load none_made)))))
+    (by_sender (Swap MESSAGE)
+    (by_receiver Load (by_sender Add (by_receiver (Swap RECEIVING) (by_receiver Load none_made)))))
 
 pub worked_order : {T : Type 0} (m : T) → WorkedOrder m
 worked_order m = record { ends = refl }

@@ -5,6 +5,7 @@ use Rattle.oneshot_bridge.proofs.Names.{sender_moves, Slots, Row, In, head, tail
 use Rattle.oneshot_bridge.proofs.Names.{operates, opening_sender, SenderStand, SenderWalk}
 use Rattle.oneshot_machine.specs.declared.machine.Reply.TheVariants as R
 use Rattle.oneshot_machine.specs.declared.machine.Seen.TheVariants.{Word}
+use Rattle.oneshot_machine.specs.declared.states.TheConstants.{RECEIVING, UNPARKING, DISCONNECTED, EMPTY, MESSAGE}
 use Rattle.oneshot_machine.specs.Orders.{sender_makes, receiver_makes}
 use Rattle.oneshot_machine.specs.Phases.{sender_at}
 use Rattle.oneshot_world.specs.declared.script.ErrorLast.TheVariants as EL
@@ -37,44 +38,55 @@ module _ {T : Type 0} (m : T) where
       → In (op, before, word, next, after) (sender_moves p)
       → Scripted (xs ++ (op, saw op word) ∷ []) (sender_next p op (saw op word))
   more _ not_begun head =
-      over sending _ refl (by_one (Add, Word 3) writes (operates SendAdd (Add, Word 3) (Answers R.Sent) refl refl refl))
+      over sending _ refl
+      (by_one (Add, Word EMPTY) writes (operates SendAdd (Add, Word EMPTY) (Answers R.Sent) refl refl refl))
   more _ not_begun (tail head) =
       owing sending
-      (quietly (by_one (Add, Word 0) writes (operates SendAdd (Add, Word 0) (Goes SendTakeWaker) refl refl refl))
+      (quietly (by_one (Add, Word RECEIVING) writes
+      (operates SendAdd (Add, Word RECEIVING) (Goes SendTakeWaker) refl refl refl))
       (quiet SendTakeWaker Done (Goes SendFinal) refl refl refl))
   more _ not_begun (tail (tail head)) =
       over sending _ refl
-      (by_one (Add, Word 2) writes (operates SendAdd (Add, Word 2) (Answers R.Refused) refl refl refl))
+      (by_one (Add, Word DISCONNECTED) writes
+      (operates SendAdd (Add, Word DISCONNECTED) (Answers R.Refused) refl refl refl))
   more _ not_begun (tail (tail (tail head))) =
       over dropping _ refl
-      (by_one (Xor, Word 3) begins (operates DropXor (Xor, Word 3) (Answers R.Done) refl refl refl))
+      (by_one (Xor, Word EMPTY) begins (operates DropXor (Xor, Word EMPTY) (Answers R.Done) refl refl refl))
   more _ not_begun (tail (tail (tail (tail head)))) =
       owing dropping
-      (quietly (by_one (Xor, Word 0) begins (operates DropXor (Xor, Word 0) (Goes DropTakeWaker) refl refl refl))
+      (quietly (by_one (Xor, Word RECEIVING) begins
+      (operates DropXor (Xor, Word RECEIVING) (Goes DropTakeWaker) refl refl refl))
       (quiet DropTakeWaker Done (Goes DropFinal) refl refl refl))
   more _ not_begun (tail (tail (tail (tail (tail head))))) =
       over dropping _ refl
-      (by_one (Xor, Word 2) begins (operates DropXor (Xor, Word 2) (Goes DropFree) refl refl refl))
+      (by_one (Xor, Word DISCONNECTED) begins
+      (operates DropXor (Xor, Word DISCONNECTED) (Goes DropFree) refl refl refl))
   more _ not_begun (tail (tail (tail (tail (tail (tail there)))))) = elim there [ ]
   more _ (owing sending walk) head =
       over sending _ refl
-      (by_one (Swap 4, Word 1) walk (operates SendFinal (Swap 4, Word 1) (Goes SendWake) refl refl refl))
+      (by_one (Swap MESSAGE, Word UNPARKING) walk
+      (operates SendFinal (Swap MESSAGE, Word UNPARKING) (Goes SendWake) refl refl refl))
   more _ (owing sending walk) (tail head) =
       over sending _ refl
-      (by_one (Swap 4, Word 3) walk (operates SendFinal (Swap 4, Word 3) (Goes SendWake) refl refl refl))
+      (by_one (Swap MESSAGE, Word EMPTY) walk
+      (operates SendFinal (Swap MESSAGE, Word EMPTY) (Goes SendWake) refl refl refl))
   more _ (owing sending walk) (tail (tail head)) =
       over sending _ refl
-      (by_one (Swap 4, Word 2) walk (operates SendFinal (Swap 4, Word 2) (Goes SendLateWake) refl refl refl))
+      (by_one (Swap MESSAGE, Word DISCONNECTED) walk
+      (operates SendFinal (Swap MESSAGE, Word DISCONNECTED) (Goes SendLateWake) refl refl refl))
   more _ (owing sending walk) (tail (tail (tail there))) = elim there [ ]
   more _ (owing dropping walk) head =
       over dropping _ refl
-      (by_one (Swap 2, Word 1) walk (operates DropFinal (Swap 2, Word 1) (Goes DropWake) refl refl refl))
+      (by_one (Swap DISCONNECTED, Word UNPARKING) walk
+      (operates DropFinal (Swap DISCONNECTED, Word UNPARKING) (Goes DropWake) refl refl refl))
   more _ (owing dropping walk) (tail head) =
       over dropping _ refl
-      (by_one (Swap 2, Word 3) walk (operates DropFinal (Swap 2, Word 3) (Goes DropWake) refl refl refl))
+      (by_one (Swap DISCONNECTED, Word EMPTY) walk
+      (operates DropFinal (Swap DISCONNECTED, Word EMPTY) (Goes DropWake) refl refl refl))
   more _ (owing dropping walk) (tail (tail head)) =
       over dropping _ refl
-      (by_one (Swap 2, Word 2) walk (operates DropFinal (Swap 2, Word 2) (Goes DropLateWake) refl refl refl))
+      (by_one (Swap DISCONNECTED, Word DISCONNECTED) walk
+      (operates DropFinal (Swap DISCONNECTED, Word DISCONNECTED) (Goes DropLateWake) refl refl refl))
   more _ (owing dropping walk) (tail (tail (tail there))) = elim there [ ]
   more {next} {op} {before} {after} word (over by s none walk) there =
       absurd (no_row (subst (λ rows. In (op, before, word, next, after) rows) none there))

@@ -2,7 +2,7 @@
 use Rattle.oneshot_drive.proofs.Names.{◌≡◌, ℕ, false, List, [], ◌∷◌, refl, sym, ◌∙◌, subst, TakeWaker, Wake, Swap, Xor, Event, Log, Grows, words, sender_of, receiver_of, handed, worded, By, sending}
 use Rattle.oneshot_drive.proofs.Names.{dropping, SenderAt, fresh, owes, late, no_sender, sender_moves, ReceiverAt, first, here, looked, between, waits, claimed, withdrew, full, at_once, by_future}
 use Rattle.oneshot_drive.proofs.Names.{disconnected, receiver_moves, Slots, Held, In, finds, SenderFinds, leads, sender_moved, GroundState, StandsWith, SenderMakes, ReceiverMakes, EndsAt, landings}
-use Rattle.oneshot_drive.proofs.Names.{landings_of, landed, Each, each, sender_apart}
+use Rattle.oneshot_drive.proofs.Names.{landings_of, landed, Each, each, sender_apart, RECEIVING, DISCONNECTED, EMPTY}
 use Rattle.std.proofs.Common.{Bool, true, ◌==◌, not, ◌++◌, ap}
 use Rattle.std.specs.List.{list_all}
 use Rattle.oneshot_machine.specs.declared.machine.Reply.{Reply}
@@ -20,7 +20,7 @@ use Rattle.oneshot_drive.proofs.AfterOperations.{lone, at_word, one_of, sender_l
 use Rattle.oneshot_drive.proofs.SenderCalls.{is_swap}
 
 -- a sender that owes its last word leaves it
-owed_over : (by : By) → Each (λ n next after. LastLeaves by (not (n == 2)) next)
+owed_over : (by : By) → Each (λ n next after. LastLeaves by (not (n == DISCONNECTED)) next)
     (landings_of is_swap (sender_moves (owes by)))
 owed_over sending = (last_finished, (last_finished, (last_overtaken, tt)))
 owed_over dropping = (last_finished, (last_finished, (last_overtaken, tt)))
@@ -41,15 +41,15 @@ over_at {by} is over = subst (SenderIsOver by) (sym is) over
 module _ {T W : Type 0} where
   module _ {slots : Slots} {b a : GroundState T W} (n : ℕ) (is : StandsWith sender_of fresh slots b) where
     -- its first operation found no receiver that waits
-    pub flipped_over : n ≡ 3 → SenderMakes Xor n b a → Grows b.log a.log (worded Xor n ∷ [])
+    pub flipped_over : n ≡ EMPTY → SenderMakes Xor n b a → Grows b.log a.log (worded Xor n ∷ [])
         → SenderIsOver dropping (sender_of a.log)
     flipped_over e made grows =
-        over_at (lone (at_word 3 e (sender_lands b Xor n is.phase made grows))).stands.phase over_finished
+        over_at (lone (at_word EMPTY e (sender_lands b Xor n is.phase made grows))).stands.phase over_finished
 
     -- or one that waits
-    pub flipped_owes : n ≡ 0 → SenderMakes Xor n b a → Grows b.log a.log (worded Xor n ∷ [])
+    pub flipped_owes : n ≡ RECEIVING → SenderMakes Xor n b a → Grows b.log a.log (worded Xor n ∷ [])
         → sender_of a.log ≡ owes dropping
-    flipped_owes e made grows = (lone (at_word 0 e (sender_lands b Xor n is.phase made grows))).stands.phase
+    flipped_owes e made grows = (lone (at_word RECEIVING e (sender_lands b Xor n is.phase made grows))).stands.phase
 
   -- or one that was gone
   pub late_over : {by : By} {slots : Slots} {a : GroundState T W} → StandsWith sender_of (late by) slots a
@@ -59,12 +59,12 @@ module _ {T W : Type 0} where
   last_over : {by : By} {at after : SenderAt} {new n : ℕ} {m m' : Held T} {w w' : Held W} → at ≡ owes by
       → ((next : SenderAt) (before later : Slots) → In (Swap new, before, n, next, later) (sender_moves at)
       → after ≡ next) → SenderFinds at (Swap new) n m w m' w'
-      → LastLeaves by (not (n == 2)) after
+      → LastLeaves by (not (n == DISCONNECTED)) after
   last_over {by} {at} {n = n} owing leads_to (finds {before} {after = slots} {next} row message waker) =
-      let Left : ℕ → SenderAt → Slots → Type 0 = λ n next after. LastLeaves by (not (n == 2)) next in
+      let Left : ℕ → SenderAt → Slots → Type 0 = λ n next after. LastLeaves by (not (n == DISCONNECTED)) next in
       let all : Each Left (landings_of is_swap (sender_moves at)) =
       subst (λ at. Each Left (landings_of is_swap (sender_moves at))) (sym owing) (owed_over by) in
-      subst (LastLeaves by (not (n == 2))) (sym (leads_to next before slots row))
+      subst (LastLeaves by (not (n == DISCONNECTED))) (sym (leads_to next before slots row))
       (each Left (landings_of is_swap (sender_moves at)) all (landed is_swap (sender_moves at) refl row))
 
   -- it takes the waker, leaves its last word, and uses the waker
@@ -72,9 +72,9 @@ module _ {T W : Type 0} where
       by
       → Grows l k.log (handed TakeWaker y ∷ []) → SenderMakes (Swap word) n k j
       → Grows k.log j.log (worded (Swap word) n ∷ []) → Grows j.log z (handed Wake y ∷ [])
-      → LastLeaves by (not (n == 2)) (sender_of z)
+      → LastLeaves by (not (n == DISCONNECTED)) (sender_of z)
   finished_over {k = k} {by = by} word y n owing took made grows used =
-      subst (LastLeaves by (not (n == 2))) (sym (sender_still (handed Wake y ∷ []) refl used))
+      subst (LastLeaves by (not (n == DISCONNECTED))) (sym (sender_still (handed Wake y ∷ []) refl used))
       (last_over (sender_still (handed TakeWaker y ∷ []) refl took ∙ owing)
       (λ next before after row. sender_moved (Swap word) n grows
       ∙ leads no_sender (sender_moves (sender_of k.log)) (sender_apart (sender_of k.log)) row) made)
@@ -123,7 +123,7 @@ module _ {T W : Type 0} where
       ]
 
 -- the swap of a receiver's drop
-drops : (at : ReceiverAt) → Each (λ n next after. HasLeft next) (landings (Swap 2) (receiver_moves at))
+drops : (at : ReceiverAt) → Each (λ n next after. HasLeft next) (landings (Swap DISCONNECTED) (receiver_moves at))
 drops first = (left_first, (left_last, (left_last, tt)))
 drops (here looked) = (left_first, (left_last, (left_last, tt)))
 drops (here between) = (left_first, (left_last, (left_last, tt)))
@@ -136,11 +136,12 @@ drops (waits blocked) = tt
 drops _ = tt
 
 module _ {T W : Type 0} where
-  pub dropped : {b a : GroundState T W} (n : ℕ) → ReceiverMakes (Swap 2) n b a
-      → Grows b.log a.log (worded (Swap 2) n ∷ []) → HasLeft (receiver_of a.log)
+  pub dropped : {b a : GroundState T W} (n : ℕ) → ReceiverMakes (Swap DISCONNECTED) n b a
+      → Grows b.log a.log (worded (Swap DISCONNECTED) n ∷ []) → HasLeft (receiver_of a.log)
   dropped {b} n made grows =
       let end =
-      one_of (λ n next after. HasLeft next) (drops (receiver_of b.log)) (lands b (Swap 2) n refl made grows) in
+      one_of (λ n next after. HasLeft next) (drops (receiver_of b.log))
+      (lands b (Swap DISCONNECTED) n refl made grows) in
       subst HasLeft (sym end.stands.phase) end.is_so
 
   pub stays_at : {l k : Log T W} (Phases : ReceiverAt → Type 0) (steps : List (Event T W)) → words steps ≡ []

@@ -3,7 +3,8 @@ use Rattle.oneshot_drive.proofs.Names.{◌≡◌, ℕ, true, false, [], ◌∷�
 use Rattle.oneshot_drive.proofs.Names.{PollBackFull, PollBackClosed, AgainCopy, AgainExchange, AgainBack, PollOwn, Exchange, Log, Grows, receiver_of, did, handed, copied, worded, ReceiverAt, here}
 use Rattle.oneshot_drive.proofs.Names.{looked, waits, polled, again, claimed, withdrew, full, by_future, by_poll, found_closed, disconnected, resolved, receiver_moves, Share, none, empty, filled}
 use Rattle.oneshot_drive.proofs.Names.{Slots, receiver_step, receiver_row, Outcome, Goes, Answers, Held, vacant, held, IsSlot, is_held, ReceiverMay, ReceiverFinds, GroundState, StandsWith, Stands}
-use Rattle.oneshot_drive.proofs.Names.{ReceiverMakes, Path, LeavesPolled, leaves_waiting, poll_end, EndsPoll, MayLeave, is_room, has_row, Each, landings}
+use Rattle.oneshot_drive.proofs.Names.{ReceiverMakes, Path, LeavesPolled, leaves_waiting, poll_end, EndsPoll, MayLeave, is_room, has_row, Each, landings, RECEIVING, UNPARKING, DISCONNECTED, EMPTY}
+use Rattle.oneshot_drive.proofs.Names.{MESSAGE}
 use Rattle.oneshot_drive.specs.declared.found.Found.TheVariants as F
 use Rattle.oneshot_machine.specs.declared.machine.Reply.TheVariants as R
 use Rattle.oneshot_machine.specs.declared.machine.Seen.TheVariants as S
@@ -13,11 +14,11 @@ use Rattle.oneshot_drive.proofs.Stretches.{on, by_word, by_write, by_withdraw, b
 
 -- where the exchange of a copy leads, with the copy in the slot
 pub data Left : ℕ → ReceiverAt → Slots → Type 0 where
-  left_copy : Left 3 (waits polled) (none, none)
-  left_full : Left 4 (full by_poll) (filled, filled)
-  left_over : Left 2 (resolved found_closed) (empty, filled)
+  left_copy : Left EMPTY (waits polled) (none, none)
+  left_full : Left MESSAGE (full by_poll) (filled, filled)
+  left_over : Left DISCONNECTED (resolved found_closed) (empty, filled)
 
-leaves : (at : ReceiverAt) → Each Left (landings (Exchange 3 0) (receiver_moves at))
+leaves : (at : ReceiverAt) → Each Left (landings (Exchange EMPTY RECEIVING) (receiver_moves at))
 leaves (here looked) = (left_copy, (left_full, (left_over, tt)))
 leaves withdrew = (left_copy, (left_full, (left_over, tt)))
 leaves (waits polled) = tt
@@ -53,45 +54,47 @@ module _ {T W : Type 0} where
 
   -- `leave`: it may store a copy if the slot is empty
   pub may_leave : {at : ReceiverAt} {share : Share} {s : GroundState T W} → StandsWith receiver_of at (share, empty) s
-      → has_row (Exchange 3 0) (share, filled) (receiver_moves at) ≡ true → MayLeave s
+      → has_row (Exchange EMPTY RECEIVING) (share, filled) (receiver_moves at) ≡ true → MayLeave s
   may_leave {s} is has =
       record {
         room = is_room is.waker;
-        asks = λ copy. asks {s = record { log = s.log; message = s.message; waker = held copy }} (Exchange 3 0)
+        asks =
+            λ copy. asks {s = record { log = s.log; message = s.message; waker = held copy }} (Exchange EMPTY RECEIVING)
             (record { phase = is.phase; message = is.message; waker = is_held copy }) has;
       }
 
   pub leave_asks : {b : GroundState T W} {k : Log T W} {m : Held T} {w : Held W} (y : W) → MayLeave b
       → Grows b.log k (handed Steps.WriteWaker y ∷ []) → m ≡ b.message → w ≡ held y
-      → ReceiverMay (receiver_of k) (Exchange 3 0) m w
+      → ReceiverMay (receiver_of k) (Exchange EMPTY RECEIVING) m w
   leave_asks y may s message waker =
-      subst (λ (z : ReceiverAt × Held T × Held W). ReceiverMay z.0 (Exchange 3 0) z.1 z.2)
+      subst (λ (z : ReceiverAt × Held T × Held W). ReceiverMay z.0 (Exchange EMPTY RECEIVING) z.1 z.2)
       (λ i. (sym (still (handed Steps.WriteWaker y ∷ []) refl s) i, sym message i, sym waker i)) (may.asks y)
 
   pub left : {l k : Log T W} {m m' : Held T} {w w' : Held W} (n : ℕ)
-      → ReceiverFinds (receiver_of l) (Exchange 3 0) n m w m' w' → Grows l k (worded (Exchange 3 0) n ∷ [])
+      → ReceiverFinds (receiver_of l) (Exchange EMPTY RECEIVING) n m w m' w'
+      → Grows l k (worded (Exchange EMPTY RECEIVING) n ∷ [])
       → OneOf receiver_of n (record { log = k; message = m'; waker = w' }) Left
   left {l} {m} {w} n made grows =
       one_of Left (leaves (receiver_of l))
-      (lands (record { log = l; message = m; waker = w }) (Exchange 3 0) n refl made grows)
+      (lands (record { log = l; message = m; waker = w }) (Exchange EMPTY RECEIVING) n refl made grows)
 
-  waits_with : {at : ReceiverAt} {slots : Slots} {s : GroundState T W} → Left 3 at slots
+  waits_with : {at : ReceiverAt} {slots : Slots} {s : GroundState T W} → Left EMPTY at slots
       → StandsWith receiver_of at slots s → EndsPoll F.Nothing s
   waits_with left_copy is = record { at = waits polled; is_one = leaves_waiting; stands = is }
 
-  full_with : {at : ReceiverAt} {slots : Slots} {s : GroundState T W} → Left 4 at slots
+  full_with : {at : ReceiverAt} {slots : Slots} {s : GroundState T W} → Left MESSAGE at slots
       → StandsWith receiver_of at slots s → StandsWith receiver_of (full by_poll) (filled, filled) s
   full_with left_full is = is
 
   over_with : {n : ℕ} {at : ReceiverAt} {slots : Slots} {s : GroundState T W} → Left n at slots
-      → StandsWith receiver_of at slots s → ¬ (n ≡ 3) → ¬ (n ≡ 4)
-      → Lone receiver_of n s (2, resolved found_closed, (empty, filled))
+      → StandsWith receiver_of at slots s → ¬ (n ≡ EMPTY) → ¬ (n ≡ MESSAGE)
+      → Lone receiver_of n s (DISCONNECTED, resolved found_closed, (empty, filled))
   over_with left_copy is a b = absurd (a refl)
   over_with left_full is a b = absurd (b refl)
   over_with left_over is a b = record { word = refl; stands = is }
 
   there_with : {n : ℕ} {at : ReceiverAt} {slots : Slots} {s : GroundState T W} → Left n at slots
-      → StandsWith receiver_of at slots s → ¬ (n ≡ 3) → IsSlot filled s.waker
+      → StandsWith receiver_of at slots s → ¬ (n ≡ EMPTY) → IsSlot filled s.waker
   there_with left_copy is a = absurd (a refl)
   there_with left_full is a = is.waker
   there_with left_over is a = is.waker
@@ -100,22 +103,23 @@ module _ {T W : Type 0} where
     left_with : (word : ℕ) → n ≡ word → Left word found.next found.after
     left_with word e = subst (λ n. Left n found.next found.after) e found.is_so
 
-    pub left_waits : n ≡ 3 → EndsPoll F.Nothing s
-    left_waits e = waits_with (left_with 3 e) found.stands
+    pub left_waits : n ≡ EMPTY → EndsPoll F.Nothing s
+    left_waits e = waits_with (left_with EMPTY e) found.stands
 
-    pub left_there : ¬ (n ≡ 3) → IsSlot filled s.waker
+    pub left_there : ¬ (n ≡ EMPTY) → IsSlot filled s.waker
     left_there a = there_with found.is_so found.stands a
 
-    pub none_left : ¬ (n ≡ 3) → ¬ (n ≡ 4) → n ≡ 2
+    pub none_left : ¬ (n ≡ EMPTY) → ¬ (n ≡ MESSAGE) → n ≡ DISCONNECTED
     none_left a b = (over_with found.is_so found.stands a b).word
 
     -- once the copy is taken back
     module _ {z : GroundState T W} {k : W} (back : Grows s.log z.log (handed Steps.Withdraw k ∷ []))
         (message : z.message ≡ s.message) (waker : z.waker ≡ vacant) where
-      pub withdrew_full : n ≡ 4 → EndsPoll F.Message z
-      withdrew_full e = (by_poll, refl, withdrew_waker (full_with (left_with 4 e) found.stands) back message waker)
+      pub withdrew_full : n ≡ MESSAGE → EndsPoll F.Message z
+      withdrew_full e =
+          (by_poll, refl, withdrew_waker (full_with (left_with MESSAGE e) found.stands) back message waker)
 
-      pub withdrew_over : ¬ (n ≡ 3) → ¬ (n ≡ 4) → EndsPoll F.Closed z
+      pub withdrew_over : ¬ (n ≡ EMPTY) → ¬ (n ≡ MESSAGE) → EndsPoll F.Closed z
       withdrew_over a b =
           record {
             at = resolved found_closed;
@@ -134,70 +138,74 @@ module _ {T W : Type 0} where
   exchanged_to {p} a b o n found at leads e s =
       by_word o (Exchange a b) n s at (ap (λ n. receiver_row p (S.Word n)) e ∙ leads)
 
-  pub leave_waits : {l k j : Log T W} (y : W) (n : ℕ) → n ≡ 3 → Grows l k (handed Steps.WriteWaker y ∷ [])
-      → Grows k j (worded (Exchange 3 0) n ∷ []) → Path (Future PollWrite) (poll_end F.Nothing) l j
-  leave_waits y n e s t = on (writes y s) (exchanged_to 3 0 _ n 3 refl refl e t)
+  pub leave_waits : {l k j : Log T W} (y : W) (n : ℕ) → n ≡ EMPTY → Grows l k (handed Steps.WriteWaker y ∷ [])
+      → Grows k j (worded (Exchange EMPTY RECEIVING) n ∷ []) → Path (Future PollWrite) (poll_end F.Nothing) l j
+  leave_waits y n e s t = on (writes y s) (exchanged_to EMPTY RECEIVING _ n EMPTY refl refl e t)
 
-  pub leave_full : {l k j z : Log T W} (y u : W) (n : ℕ) → n ≡ 4 → Grows l k (handed Steps.WriteWaker y ∷ [])
-      → Grows k j (worded (Exchange 3 0) n ∷ []) → Grows j z (handed Steps.Withdraw u ∷ [])
+  pub leave_full : {l k j z : Log T W} (y u : W) (n : ℕ) → n ≡ MESSAGE → Grows l k (handed Steps.WriteWaker y ∷ [])
+      → Grows k j (worded (Exchange EMPTY RECEIVING) n ∷ []) → Grows j z (handed Steps.Withdraw u ∷ [])
       → Path (Future PollWrite) (poll_end F.Message) l z
   leave_full y u n e s t v =
-      on (writes y s) (on (exchanged_to 3 0 (Goes (Future PollBackFull)) n 4 refl refl e t)
+      on (writes y s) (on (exchanged_to EMPTY RECEIVING (Goes (Future PollBackFull)) n MESSAGE refl refl e t)
       (by_withdraw _ u v refl refl))
 
-  pub leave_over : {l k j z : Log T W} (y u : W) (n : ℕ) → n ≡ 2 → Grows l k (handed Steps.WriteWaker y ∷ [])
-      → Grows k j (worded (Exchange 3 0) n ∷ []) → Grows j z (handed Steps.Withdraw u ∷ [])
+  pub leave_over : {l k j z : Log T W} (y u : W) (n : ℕ) → n ≡ DISCONNECTED → Grows l k (handed Steps.WriteWaker y ∷ [])
+      → Grows k j (worded (Exchange EMPTY RECEIVING) n ∷ []) → Grows j z (handed Steps.Withdraw u ∷ [])
       → Path (Future PollWrite) (poll_end F.Closed) l z
   leave_over y u n e s t v =
-      on (writes y s) (on (exchanged_to 3 0 (Goes (Future PollBackClosed)) n 2 refl refl e t)
+      on (writes y s) (on (exchanged_to EMPTY RECEIVING (Goes (Future PollBackClosed)) n DISCONNECTED refl refl e t)
       (by_withdraw _ u v refl refl))
 
   -- `leave_again`: where the exchange of the earlier copy landed
-  pub backed : {b a : GroundState T W} (n : ℕ) → Stands (waits again) b → ReceiverMakes (Exchange 0 3) n b a
-      → Grows b.log a.log (worded (Exchange 0 3) n ∷ [])
-      → Lands receiver_of n a (landings (Exchange 0 3) (receiver_moves (waits again)))
-  backed {b} n is made grows = lands b (Exchange 0 3) n is.phase made grows
+  pub backed : {b a : GroundState T W} (n : ℕ) → Stands (waits again) b → ReceiverMakes (Exchange RECEIVING EMPTY) n b a
+      → Grows b.log a.log (worded (Exchange RECEIVING EMPTY) n ∷ [])
+      → Lands receiver_of n a (landings (Exchange RECEIVING EMPTY) (receiver_moves (waits again)))
+  backed {b} n is made grows = lands b (Exchange RECEIVING EMPTY) n is.phase made grows
 
   pub again_backed : {b k a : GroundState T W} (c : Option W) (n : ℕ) → Stands (waits again) b
       → Grows b.log k.log (copied c ∷ []) → k.message ≡ b.message → k.waker ≡ b.waker
-      → ReceiverMakes (Exchange 0 3) n k a → Grows k.log a.log (worded (Exchange 0 3) n ∷ [])
-      → Lands receiver_of n a (landings (Exchange 0 3) (receiver_moves (waits again)))
+      → ReceiverMakes (Exchange RECEIVING EMPTY) n k a → Grows k.log a.log (worded (Exchange RECEIVING EMPTY) n ∷ [])
+      → Lands receiver_of n a (landings (Exchange RECEIVING EMPTY) (receiver_moves (waits again)))
   again_backed c n is s message waker made grows = backed n (copied_on c is s message waker) made grows
 
   module _ {n : ℕ} {s : GroundState T W}
-      (found : Lands receiver_of n s (landings (Exchange 0 3) (receiver_moves (waits again)))) where
-    pub backed_copy : n ≡ 0 → StandsWith receiver_of withdrew (none, filled) s
-    backed_copy e = (lone (at_word 0 e found)).stands
+      (found : Lands receiver_of n s (landings (Exchange RECEIVING EMPTY) (receiver_moves (waits again)))) where
+    pub backed_copy : n ≡ RECEIVING → StandsWith receiver_of withdrew (none, filled) s
+    backed_copy e = (lone (at_word RECEIVING e found)).stands
 
-    pub backed_sender : n ≡ 1 → Stands claimed s
-    backed_sender e = (lone (at_word 1 e found)).stands
+    pub backed_sender : n ≡ UNPARKING → Stands claimed s
+    backed_sender e = (lone (at_word UNPARKING e found)).stands
 
-    pub backed_full : n ≡ 4 → EndsPoll F.Message s
-    backed_full e = (by_future, refl, (lone (at_word 4 e found)).stands)
+    pub backed_full : n ≡ MESSAGE → EndsPoll F.Message s
+    backed_full e = (by_future, refl, (lone (at_word MESSAGE e found)).stands)
 
-    pub backed_none : n ≡ 2 → EndsPoll F.Closed s
-    backed_none e = record { at = disconnected found_closed; is_one = refl; stands = (lone (at_word 2 e found)).stands }
+    pub backed_none : n ≡ DISCONNECTED → EndsPoll F.Closed s
+    backed_none e =
+        record { at = disconnected found_closed; is_one = refl; stands = (lone (at_word DISCONNECTED e found)).stands }
 
     -- it found no other word
-    pub backed_other : {X : Type 0} → ¬ (n ≡ 0) → ¬ (n ≡ 1) → ¬ (n ≡ 2) → ¬ (n ≡ 4) → X
-    backed_other a b c d = unlisted (not_at 4 d (not_at 2 c (not_at 1 b (not_at 0 a found))))
+    pub backed_other : {X : Type 0} → ¬ (n ≡ RECEIVING) → ¬ (n ≡ UNPARKING) → ¬ (n ≡ DISCONNECTED) → ¬ (n ≡ MESSAGE) → X
+    backed_other a b c d =
+        unlisted (not_at MESSAGE d (not_at DISCONNECTED c (not_at UNPARKING b (not_at RECEIVING a found))))
 
   module _ {l k : Log T W} (c : Option W) (y : W) (made : c ≡ Some y) (s : Grows l k (copied c ∷ [])) where
     pub again_to : {j : Log T W} (o : Outcome ReceiverPos) (n found : ℕ)
         → receiver_row (Future AgainExchange) (S.Word found) ≡ Some o → n ≡ found
-        → Grows k j (worded (Exchange 0 3) n ∷ []) → Path (Future AgainCopy) o l j
-    again_to o n found leads e t = on (copies c y made refl refl s) (exchanged_to 0 3 o n found refl leads e t)
+        → Grows k j (worded (Exchange RECEIVING EMPTY) n ∷ []) → Path (Future AgainCopy) o l j
+    again_to o n found leads e t =
+        on (copies c y made refl refl s) (exchanged_to RECEIVING EMPTY o n found refl leads e t)
 
-    pub again_left : {j i z : Log T W} (f : Found) (n : ℕ) (u : W) → n ≡ 0 → Grows k j (worded (Exchange 0 3) n ∷ [])
+    pub again_left : {j i z : Log T W} (f : Found) (n : ℕ) (u : W) → n ≡ RECEIVING
+        → Grows k j (worded (Exchange RECEIVING EMPTY) n ∷ [])
         → Grows j i (handed Steps.Withdraw u ∷ []) → Path (Future PollWrite) (poll_end f) i z
         → Path (Future AgainCopy) (poll_end f) l z
     again_left f n u e t v path =
-        on (again_to (Goes (Future AgainBack)) n 0 refl e t)
+        on (again_to (Goes (Future AgainBack)) n RECEIVING refl e t)
         (on (by_withdraw (Goes (Future PollWrite)) u v refl refl) path)
 
-    pub again_late : {j z : Log T W} (n : ℕ) → n ≡ 1 → Grows k j (worded (Exchange 0 3) n ∷ [])
+    pub again_late : {j z : Log T W} (n : ℕ) → n ≡ UNPARKING → Grows k j (worded (Exchange RECEIVING EMPTY) n ∷ [])
         → Grows j z (did Steps.WakeOwn ∷ []) → Path (Future AgainCopy) (poll_end F.Nothing) l z
-    again_late n e t v = on (again_to (Goes (Future PollOwn)) n 1 refl e t) (by_own _ v refl refl)
+    again_late n e t v = on (again_to (Goes (Future PollOwn)) n UNPARKING refl e t) (by_own _ v refl refl)
 
     pub first_left : {z : Log T W} (f : Found) → Path (Future PollWrite) (poll_end f) k z
         → Path (Future PollCopy) (poll_end f) l z

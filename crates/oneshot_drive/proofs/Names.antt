@@ -57,6 +57,7 @@ pub use Rattle.oneshot_machine.specs.declared.machine.sender.SenderPos.TheVarian
 pub use Rattle.oneshot_machine.specs.declared.machine.timed.TimedPos.TheVariants.{SumClock, Clock, TimedLoad, EndSwap, EndBack, LatePark, LateLoad}
 pub use Rattle.oneshot_machine.specs.declared.machine.try_recv.TryPos.TheVariants.{Close, Take, CloseOnly}
 pub use Rattle.oneshot_machine.specs.declared.machine.value.ValuePos.TheVariants.{RecvLoad, RecvTake, RecvFreeGot, RecvFreeGone, RecvSwap, RecvPark, RecvParkLoad}
+pub use Rattle.oneshot_machine.specs.declared.states.TheConstants.{RECEIVING, UNPARKING, DISCONNECTED, EMPTY, MESSAGE}
 pub use Rattle.oneshot_machine.specs.declared.states.Op.{Op}
 pub use Rattle.oneshot_machine.specs.declared.states.Op.TheVariants.{Store, Load, Swap, Exchange, Add, Xor}
 pub use Rattle.std.proofs.Common.{◌≡◌, ℕ, Bool, true, false, List, [], ◌∷◌, Option, Result, Ok, Err, refl, sym, subst, ◌++◌, Some, ap, ◌∙◌, None, not, ◌≢◌, arith, rules}

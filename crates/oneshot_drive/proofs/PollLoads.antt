@@ -4,7 +4,8 @@ use Rattle.oneshot_drive.proofs.Names.{AsyncLoad, AsyncSwap, Load, Store, Swap, 
 use Rattle.oneshot_drive.proofs.Names.{at_once, waited, swapped, by_future, by_poll, Closing, found_closed, closed_itself, disconnected, resolved, receiver_next, receiver_moves, empty, word_of}
 use Rattle.oneshot_drive.proofs.Names.{receiver_step, receiver_row, Outcome, Goes, Answers, last, more, ReceiverRan, and_then, GroundState, StandsWith, Stands, StandsIn, receiver_slots, ReceiverAsks}
 use Rattle.oneshot_drive.proofs.Names.{ReceiverMakes, Path, rests_new, rests_open, rests_closed, IsClosedAt, Polled, unpolled, left_copy, kept_copy, found_sender, has_resolved, IsPolled, LeavesPolled}
-use Rattle.oneshot_drive.proofs.Names.{leaves_resolved, leaves_over, leaves_gone, leaves_uncopied, leaves_waiting, leaves_its_copy, leaves_claimed, EndsPoll, has_row, Each, landings}
+use Rattle.oneshot_drive.proofs.Names.{leaves_resolved, leaves_over, leaves_gone, leaves_uncopied, leaves_waiting, leaves_its_copy, leaves_claimed, EndsPoll, has_row, Each, landings, RECEIVING}
+use Rattle.oneshot_drive.proofs.Names.{UNPARKING, DISCONNECTED, EMPTY, MESSAGE}
 use Rattle.oneshot_drive.specs.declared.found.Found.TheVariants as F
 use Rattle.oneshot_machine.specs.declared.machine.Reply.TheVariants as R
 use Rattle.oneshot_machine.specs.declared.machine.Seen.TheVariants as S
@@ -21,15 +22,15 @@ polled_loads _ = refl
 
 -- a receiver at this phase may be dropped
 abbrev pub Drops : ReceiverAt → Type 0
-Drops at = has_row (Swap 2) (receiver_slots at) (receiver_moves at) ≡ true
+Drops at = has_row (Swap DISCONNECTED) (receiver_slots at) (receiver_moves at) ≡ true
 
 -- the word that its load finds, and where that leads
 pub data Met : ℕ → ReceiverAt → Type 0 where
-  met_empty : Met 3 (here looked)
-  met_message : {g : Got} → word_of g ≡ 4 → Drops (full g) → Met 4 (full g)
-  met_closed : (c : Closing) → Met 2 (disconnected c)
-  met_copy : Met 0 (waits again)
-  met_sender : Met 1 claimed
+  met_empty : Met EMPTY (here looked)
+  met_message : {g : Got} → word_of g ≡ MESSAGE → Drops (full g) → Met MESSAGE (full g)
+  met_closed : (c : Closing) → Met DISCONNECTED (disconnected c)
+  met_copy : Met RECEIVING (waits again)
+  met_sender : Met UNPARKING claimed
 
 meets : {at : ReceiverAt} → Polled at
     → Each (λ n next after. Met n next × (after ≡ receiver_slots next)) (landings Load (receiver_moves at))
@@ -47,7 +48,7 @@ meets found_sender = ((met_sender, refl), ((met_message refl refl, refl), ((met_
 meets (has_resolved c) = ((met_closed c, refl), tt)
 
 -- after its load the drop goes on to its swap, unless the load found a stored copy
-ends_met : {n : ℕ} {at : ReceiverAt} → Met n at → ¬ (n ≡ 0)
+ends_met : {n : ℕ} {at : ReceiverAt} → Met n at → ¬ (n ≡ RECEIVING)
     → Drops at × (receiver_row (AsyncDrop AsyncLoad) (S.Word n) ≡ Some (Goes (AsyncDrop AsyncSwap)))
 ends_met met_empty a = (refl, refl)
 ends_met (met_message word drops) a = (drops, refl)
@@ -56,7 +57,7 @@ ends_met met_copy a = absurd (a refl)
 ends_met met_sender a = (refl, refl)
 
 no_word : {X : Type 0} {n : ℕ} {at : ReceiverAt} → Met n at
-    → ¬ (n ≡ 0) → ¬ (n ≡ 1) → ¬ (n ≡ 2) → ¬ (n ≡ 3) → ¬ (n ≡ 4) → X
+    → ¬ (n ≡ RECEIVING) → ¬ (n ≡ UNPARKING) → ¬ (n ≡ DISCONNECTED) → ¬ (n ≡ EMPTY) → ¬ (n ≡ MESSAGE) → X
 no_word met_copy a b c d e = absurd (a refl)
 no_word met_sender a b c d e = absurd (b refl)
 no_word (met_closed k) a b c d e = absurd (c refl)
@@ -64,14 +65,16 @@ no_word met_empty a b c d e = absurd (d refl)
 no_word (met_message word drops) a b c d e = absurd (e refl)
 
 -- how a poll leaves the future
-leaves_taken : {T : Type 0} (g : Got) (x : T) → LeavesPolled (Ready (Ok x)) (receiver_next (full g) (Store 2) S.Done)
+leaves_taken : {T : Type 0} (g : Got) (x : T)
+    → LeavesPolled (Ready (Ok x)) (receiver_next (full g) (Store DISCONNECTED) S.Done)
 leaves_taken at_once x = leaves_received x
 leaves_taken waited x = leaves_received x
 leaves_taken (swapped by) x = leaves_received x
 leaves_taken by_future x = leaves_resolved x
 leaves_taken by_poll x = leaves_resolved x
 
-pub taken_leaves : {T : Type 0} {at : ReceiverAt} (g : Got) (x : T) → at ≡ receiver_next (full g) (Store 2) S.Done
+pub taken_leaves : {T : Type 0} {at : ReceiverAt} (g : Got) (x : T)
+    → at ≡ receiver_next (full g) (Store DISCONNECTED) S.Done
     → LeavesPolled (Ready (Ok x)) at
 taken_leaves g x is = subst (λ at. LeavesPolled (Ready (Ok x)) at) (sym is) (leaves_taken g x)
 
@@ -92,19 +95,19 @@ closed_leaves (resolved c) e is = leaves_gone e c
 closed_leaves _ e is = absurd (cc is)
 
 module _ {T W : Type 0} where
-  open_met : {at : ReceiverAt} {s : GroundState T W} → Met 3 at → Stands at s → Stands (here looked) s
+  open_met : {at : ReceiverAt} {s : GroundState T W} → Met EMPTY at → Stands at s → Stands (here looked) s
   open_met met_empty stands = stands
 
-  copy_met : {at : ReceiverAt} {s : GroundState T W} → Met 0 at → Stands at s → Stands (waits again) s
+  copy_met : {at : ReceiverAt} {s : GroundState T W} → Met RECEIVING at → Stands at s → Stands (waits again) s
   copy_met met_copy stands = stands
 
-  sender_met : {at : ReceiverAt} {s : GroundState T W} → Met 1 at → Stands at s → Stands claimed s
+  sender_met : {at : ReceiverAt} {s : GroundState T W} → Met UNPARKING at → Stands at s → Stands claimed s
   sender_met met_sender stands = stands
 
-  full_met : {at : ReceiverAt} {s : GroundState T W} → Met 4 at → Stands at s → EndsPoll F.Message s
+  full_met : {at : ReceiverAt} {s : GroundState T W} → Met MESSAGE at → Stands at s → EndsPoll F.Message s
   full_met (met_message {g} word drops) stands = (g, word, stands)
 
-  closed_met : {at : ReceiverAt} {s : GroundState T W} → Met 2 at → Stands at s → EndsPoll F.Closed s
+  closed_met : {at : ReceiverAt} {s : GroundState T W} → Met DISCONNECTED at → Stands at s → EndsPoll F.Closed s
   closed_met (met_closed k) stands = record { at = disconnected k; is_one = refl; stands = stands }
 
   pub meet_asks : {s : GroundState T W} → IsPolled s → ReceiverAsks Load s
@@ -118,28 +121,29 @@ module _ {T W : Type 0} where
     met_with : (word : ℕ) → n ≡ word → Met word found.at
     met_with word e = subst (λ n. Met n found.at) e found.is_so
 
-    pub met_open : n ≡ 3 → Stands (here looked) s
-    met_open e = open_met (met_with 3 e) found.stands
+    pub met_open : n ≡ EMPTY → Stands (here looked) s
+    met_open e = open_met (met_with EMPTY e) found.stands
 
-    pub met_copied : n ≡ 0 → Stands (waits again) s
-    met_copied e = copy_met (met_with 0 e) found.stands
+    pub met_copied : n ≡ RECEIVING → Stands (waits again) s
+    met_copied e = copy_met (met_with RECEIVING e) found.stands
 
-    pub met_claimed : n ≡ 1 → Stands claimed s
-    met_claimed e = sender_met (met_with 1 e) found.stands
+    pub met_claimed : n ≡ UNPARKING → Stands claimed s
+    met_claimed e = sender_met (met_with UNPARKING e) found.stands
 
-    pub met_full : n ≡ 4 → EndsPoll F.Message s
-    met_full e = full_met (met_with 4 e) found.stands
+    pub met_full : n ≡ MESSAGE → EndsPoll F.Message s
+    met_full e = full_met (met_with MESSAGE e) found.stands
 
-    pub met_over : n ≡ 2 → EndsPoll F.Closed s
-    met_over e = closed_met (met_with 2 e) found.stands
+    pub met_over : n ≡ DISCONNECTED → EndsPoll F.Closed s
+    met_over e = closed_met (met_with DISCONNECTED e) found.stands
 
     -- it found no other word
-    pub met_none : {X : Type 0} → ¬ (n ≡ 0) → ¬ (n ≡ 1) → ¬ (n ≡ 2) → ¬ (n ≡ 3) → ¬ (n ≡ 4) → X
+    pub met_none : {X : Type 0} → ¬ (n ≡ RECEIVING) → ¬ (n ≡ UNPARKING) → ¬ (n ≡ DISCONNECTED) → ¬ (n ≡ EMPTY)
+        → ¬ (n ≡ MESSAGE) → X
     met_none a b c d e = no_word found.is_so a b c d e
 
-    pub met_end : ¬ (n ≡ 0) → ReceiverAsks (Swap 2) s
+    pub met_end : ¬ (n ≡ RECEIVING) → ReceiverAsks (Swap DISCONNECTED) s
         × (receiver_row (AsyncDrop AsyncLoad) (S.Word n) ≡ Some (Goes (AsyncDrop AsyncSwap)))
-    met_end a = let ends = ends_met found.is_so a in (asks (Swap 2) found.stands ends.0, ends.1)
+    met_end a = let ends = ends_met found.is_so a in (asks (Swap DISCONNECTED) found.stands ends.0, ends.1)
 
   pub loaded_to : {l k : Log T W} {p : ReceiverPos} (o : Outcome ReceiverPos) (n found : ℕ)
       → Steps.Word Load ≡ receiver_step p → receiver_row p (S.Word found) ≡ Some o → n ≡ found
@@ -152,13 +156,14 @@ module _ {T W : Type 0} where
   met_path {p} n found leads e s path = on (loaded_to (Goes p) n found refl leads e s) path
 
   -- it finds the sender about to finish, and wakes its own task
-  pub met_own : {l k z : Log T W} (n : ℕ) → n ≡ 1 → Grows l k (worded Load n ∷ []) → Grows k z (did Steps.WakeOwn ∷ [])
+  pub met_own : {l k z : Log T W} (n : ℕ) → n ≡ UNPARKING → Grows l k (worded Load n ∷ [])
+      → Grows k z (did Steps.WakeOwn ∷ [])
       → Path (Future PollLoad) (Answers R.Pending) l z
-  met_own n e s t = met_path n 1 refl e s (by_own _ t refl refl)
+  met_own n e s t = met_path n UNPARKING refl e s (by_own _ t refl refl)
 
   -- `poll`: it closes the channel, and takes the message
   pub taken_rests : {s : GroundState T W} (g : Got)
-      → StandsWith receiver_of (receiver_next (full g) (Store 2) S.Done) (empty, empty) s → IsPolled s
+      → StandsWith receiver_of (receiver_next (full g) (Store DISCONNECTED) S.Done) (empty, empty) s → IsPolled s
   taken_rests at_once is =
       record { at = disconnected closed_itself; is_one = unpolled (rests_closed closed_itself); stands = is }
   taken_rests waited is =
@@ -169,10 +174,11 @@ module _ {T W : Type 0} where
   taken_rests by_poll is = record { at = resolved closed_itself; is_one = has_resolved closed_itself; stands = is }
 
   pub poll_ran : {l k j z : Log T W} (n : ℕ) (x : T) → Path (Future PollLoad) (Goes (Try Close)) l k
-      → Grows k j (worded (Store 2) n ∷ []) → Grows j z (took x ∷ []) → ReceiverRan C.Poll l z R.Message [] (x ∷ [])
+      → Grows k j (worded (Store DISCONNECTED) n ∷ []) → Grows j z (took x ∷ [])
+      → ReceiverRan C.Poll l z R.Message [] (x ∷ [])
   poll_ran n x path s t =
-      ran path (worded (Store 2) n ∷ took x ∷ []) (more (Try Take) _ _ refl refl (last _ refl refl))
-      (and_then (worded (Store 2) n ∷ []) _ s t) refl refl
+      ran path (worded (Store DISCONNECTED) n ∷ took x ∷ []) (more (Try Take) _ _ refl refl (last _ refl refl))
+      (and_then (worded (Store DISCONNECTED) n ∷ []) _ s t) refl refl
 
   -- or leaves the future open
   pub pending_rests : {s : GroundState T W} → EndsPoll F.Nothing s → IsPolled s

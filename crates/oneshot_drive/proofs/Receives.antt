@@ -5,7 +5,7 @@ use Rattle.oneshot_drive.proofs.Names.{clocked, worded, between, ReceiverAt, her
 use Rattle.oneshot_drive.proofs.Names.{filled, receiver_step, receiver_row, Goes, last, more, Ran, ReceiverRan, vacant, receiver_moved, and_then, GroundState, StandsWith, Stands, receiver_slots}
 use Rattle.oneshot_drive.proofs.Names.{ReceiverAsks, ReceiverMakes, Path, value_end, EndsAt, Returns, returned, taken, Refills, refilled, HandAt, AtRest, rests_open, IsClosedAt, LeavesClosed}
 use Rattle.oneshot_drive.proofs.Names.{left_received, left_closed, LeavesTimed, timed_received, timed_out, timed_closed, IsReady, Hands, as_it_was, sender_took, came_back, is_room, has_row, Each}
-use Rattle.oneshot_drive.proofs.Names.{landings}
+use Rattle.oneshot_drive.proofs.Names.{landings, DISCONNECTED}
 use Rattle.oneshot_errors.specs.declared.recv_timeout.RecvTimeoutError.TheVariants as Timed
 use Rattle.oneshot_drive.specs.declared.found.Found.TheVariants as F
 use Rattle.oneshot_machine.specs.declared.machine.Reply.TheVariants as R
@@ -15,11 +15,12 @@ use Rattle.oneshot_drive.proofs.AfterOperations.{lone, asks, lands, one_of, stan
 use Rattle.oneshot_drive.proofs.Stretches.{by_clock, ran, before}
 
 -- a receiver that found the message, in any way, may close the channel, and still has the message then
-stores_full : (g : Got) → has_row (Store 2) (receiver_slots (full g)) (receiver_moves (full g)) ≡ true
+stores_full : (g : Got) → has_row (Store DISCONNECTED) (receiver_slots (full g)) (receiver_moves (full g)) ≡ true
 stores_full at_once = refl
 stores_full _ = refl
 
-keeps_full : (g : Got) → Each (λ n next after. after ≡ (filled, empty)) (landings (Store 2) (receiver_moves (full g)))
+keeps_full : (g : Got)
+    → Each (λ n next after. after ≡ (filled, empty)) (landings (Store DISCONNECTED) (receiver_moves (full g)))
 keeps_full at_once = (refl, tt)
 keeps_full _ = (refl, tt)
 
@@ -28,55 +29,59 @@ slots_full at_once = refl
 slots_full _ = refl
 
 module _ {T W : Type 0} where
-  pub full_asks : {g : Got} {s : GroundState T W} → Stands (full g) s → ReceiverAsks (Store 2) s
-  full_asks {g} is = asks (Store 2) is (stores_full g)
+  pub full_asks : {g : Got} {s : GroundState T W} → Stands (full g) s → ReceiverAsks (Store DISCONNECTED) s
+  full_asks {g} is = asks (Store DISCONNECTED) is (stores_full g)
 
   pub has_message : {g : Got} {s : GroundState T W} → Stands (full g) s
       → StandsWith receiver_of (full g) (filled, empty) s
   has_message {g} {s} is = subst (λ slots. StandsWith receiver_of (full g) slots s) (slots_full g) is
 
-  pub closed_over : {g : Got} {b a : GroundState T W} (n : ℕ) → Stands (full g) b → ReceiverMakes (Store 2) n b a
-      → Grows b.log a.log (worded (Store 2) n ∷ [])
-      → StandsWith receiver_of (receiver_next (full g) (Store 2) S.Done) (filled, empty) a
+  pub closed_over : {g : Got} {b a : GroundState T W} (n : ℕ) → Stands (full g) b
+      → ReceiverMakes (Store DISCONNECTED) n b a
+      → Grows b.log a.log (worded (Store DISCONNECTED) n ∷ [])
+      → StandsWith receiver_of (receiver_next (full g) (Store DISCONNECTED) S.Done) (filled, empty) a
   closed_over {g} {b} {a} n is made grows =
       let found =
-      one_of (λ n next after. after ≡ (filled, empty)) (keeps_full g) (lands b (Store 2) n is.phase made grows) in
+      one_of (λ n next after. after ≡ (filled, empty)) (keeps_full g)
+      (lands b (Store DISCONNECTED) n is.phase made grows) in
       let has : StandsWith receiver_of found.next (filled, empty) a =
       subst (λ slots. StandsWith receiver_of found.next slots a) found.is_so found.stands in
       record {
-        phase = subst (λ at. receiver_of a.log ≡ receiver_next at (Store 2) S.Done) is.phase
-            (receiver_moved (Store 2) n grows);
+        phase = subst (λ at. receiver_of a.log ≡ receiver_next at (Store DISCONNECTED) S.Done) is.phase
+            (receiver_moved (Store DISCONNECTED) n grows);
         message = has.message;
         waker = has.waker;
       }
 
   -- `receive`: it closes the channel, with the message in its slot
   pub ended_full : {b a : GroundState T W} (n : ℕ)
-      → (g : Got) × (receiver_next (full g) (Store 2) S.Done ≡ disconnected closed_itself) × Stands (full g) b
-      → ReceiverMakes (Store 2) n b a → Grows b.log a.log (worded (Store 2) n ∷ [])
+      → (g : Got) × (receiver_next (full g) (Store DISCONNECTED) S.Done ≡ disconnected closed_itself)
+      × Stands (full g) b
+      → ReceiverMakes (Store DISCONNECTED) n b a → Grows b.log a.log (worded (Store DISCONNECTED) n ∷ [])
       → StandsWith receiver_of (disconnected closed_itself) (filled, empty) a
   ended_full {a} n ends made grows =
       subst (λ at. StandsWith receiver_of at (filled, empty) a) ends.1 (closed_over n ends.2 made grows)
 
   pub full_ran : {p : ReceiverPos} {l k j z : Log T W} (n : ℕ) (x : T) → Path p (Goes (Try Close)) l k
-      → Grows k j (worded (Store 2) n ∷ []) → Grows j z (took x ∷ [])
+      → Grows k j (worded (Store DISCONNECTED) n ∷ []) → Grows j z (took x ∷ [])
       → Ran receiver_step receiver_row p l z R.Message [] (x ∷ [])
   full_ran n x path s t =
-      ran path (worded (Store 2) n ∷ took x ∷ []) (more (Try Take) _ _ refl refl (last _ refl refl))
-      (and_then (worded (Store 2) n ∷ []) _ s t) refl refl
+      ran path (worded (Store DISCONNECTED) n ∷ took x ∷ []) (more (Try Take) _ _ refl refl (last _ refl refl))
+      (and_then (worded (Store DISCONNECTED) n ∷ []) _ s t) refl refl
 
   -- or the sender is gone
-  pub shut : {by : Swapping} {b a : GroundState T W} (n : ℕ) → Stands (unclosed by) b → ReceiverMakes (Store 2) n b a
-      → Grows b.log a.log (worded (Store 2) n ∷ []) → Stands (disconnected closed_itself) a
-  shut {b} n is made grows = (lone (lands b (Store 2) n is.phase made grows)).stands
+  pub shut : {by : Swapping} {b a : GroundState T W} (n : ℕ) → Stands (unclosed by) b
+      → ReceiverMakes (Store DISCONNECTED) n b a
+      → Grows b.log a.log (worded (Store DISCONNECTED) n ∷ []) → Stands (disconnected closed_itself) a
+  shut {b} n is made grows = (lone (lands b (Store DISCONNECTED) n is.phase made grows)).stands
 
   pub over_leaves : {c : Closing} {s : GroundState T W} → Stands (disconnected c) s
       → LeavesTimed {T = T} (Err Timed.Disconnected) (receiver_of s.log)
   over_leaves {c} is = subst (λ at. LeavesTimed {T = T} (Err Timed.Disconnected) at) (sym is.phase) (timed_closed c)
 
   pub shut_ran : {p : ReceiverPos} {l k j : Log T W} (n : ℕ) → Path p (Goes (Try CloseOnly)) l k
-      → Grows k j (worded (Store 2) n ∷ []) → Ran receiver_step receiver_row p l j R.Disconnected [] []
-  shut_ran n path s = ran path (worded (Store 2) n ∷ []) (last _ refl refl) s refl refl
+      → Grows k j (worded (Store DISCONNECTED) n ∷ []) → Ran receiver_step receiver_row p l j R.Disconnected [] []
+  shut_ran n path s = ran path (worded (Store DISCONNECTED) n ∷ []) (last _ refl refl) s refl refl
 
   -- or its deadline is over
   pub out_rests : {s : GroundState T W} → Stands (here between) s → AtRest s

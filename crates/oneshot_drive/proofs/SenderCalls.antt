@@ -3,7 +3,8 @@ use Rattle.oneshot_drive.proofs.Names.{◌≡◌, ℕ, Bool, true, false, not, [
 use Rattle.oneshot_drive.proofs.Names.{sending, dropping, SenderAt, fresh, owes, late, no_sender, sender_moves, Share, none, empty, filled, Slots, Held, away, vacant, held, IsSlot, is_away, is_vacant}
 use Rattle.oneshot_drive.proofs.Names.{is_held, Turns, stays_away, stays_vacant, stays_held, gives_room, gives_thing, gets_room, gets_thing, In, finds, SenderMay, SenderFinds, leads, and_then}
 use Rattle.oneshot_drive.proofs.Names.{sender_moved, GroundState, StandsWith, SenderMakes, IsFresh, IsError, IsLate, is_late, is_overtaken, Owes, LastFinds, finds_waiting, finds_overdue, finds_gone}
-use Rattle.oneshot_drive.proofs.Names.{Finishes, IsOvertaken, is_in, is_room, put_in, as_before, turned, has_row, landings_of, landed, Each, each, found_so, sender_apart}
+use Rattle.oneshot_drive.proofs.Names.{Finishes, IsOvertaken, is_in, is_room, put_in, as_before, turned, has_row, landings_of, landed, Each, each, found_so, sender_apart, RECEIVING, DISCONNECTED}
+use Rattle.oneshot_drive.proofs.Names.{EMPTY, MESSAGE}
 use Rattle.oneshot_machine.specs.Phases.{finished}
 use Rattle.oneshot_drive.proofs.AfterOperations.{Lone, lone, unlisted, at_word, not_at, sender_asks, sender_lands, sender_still}
 
@@ -65,7 +66,7 @@ pub left : {X : Type 0} {h : Held X} → IsSlot none h → h ≡ away
 left is_away = refl
 
 -- whether the receiver is here, by the word that the swap found
-here_by : {n : ℕ} {here : Bool} → LastFinds n here → here ≡ not (n == 2)
+here_by : {n : ℕ} {here : Bool} → LastFinds n here → here ≡ not (n == DISCONNECTED)
 here_by finds_waiting = refl
 here_by finds_overdue = refl
 here_by finds_gone = refl
@@ -84,31 +85,33 @@ module _ {T W : Type 0} where
 
   module _ {slots : Slots} {b a : GroundState T W} (n : ℕ) (is : StandsWith sender_of fresh slots b) where
     -- it found the receiver, which has its message then; or a waiting receiver; or none
-    pub added_here : n ≡ 3 → SenderMakes Add n b a → Grows b.log a.log (worded Add n ∷ [])
-        → Lone sender_of n a (3, finished sending, (none, none))
-    added_here e made grows = lone (at_word 3 e (sender_lands b Add n is.phase made grows))
+    pub added_here : n ≡ EMPTY → SenderMakes Add n b a → Grows b.log a.log (worded Add n ∷ [])
+        → Lone sender_of n a (EMPTY, finished sending, (none, none))
+    added_here e made grows = lone (at_word EMPTY e (sender_lands b Add n is.phase made grows))
 
-    pub added_waiting : n ≡ 0 → SenderMakes Add n b a → Grows b.log a.log (worded Add n ∷ [])
-        → Lone sender_of n a (0, owes sending, (filled, filled))
-    added_waiting e made grows = lone (at_word 0 e (sender_lands b Add n is.phase made grows))
+    pub added_waiting : n ≡ RECEIVING → SenderMakes Add n b a → Grows b.log a.log (worded Add n ∷ [])
+        → Lone sender_of n a (RECEIVING, owes sending, (filled, filled))
+    added_waiting e made grows = lone (at_word RECEIVING e (sender_lands b Add n is.phase made grows))
 
-    pub added : n ≡ 2 → SenderMakes Add n b a → Grows b.log a.log (worded Add n ∷ [])
-        → Lone sender_of n a (2, late sending, (filled, empty))
-    added e made grows = lone (at_word 2 e (sender_lands b Add n is.phase made grows))
+    pub added : n ≡ DISCONNECTED → SenderMakes Add n b a → Grows b.log a.log (worded Add n ∷ [])
+        → Lone sender_of n a (DISCONNECTED, late sending, (filled, empty))
+    added e made grows = lone (at_word DISCONNECTED e (sender_lands b Add n is.phase made grows))
 
-    pub flipped : n ≡ 2 → SenderMakes Xor n b a → Grows b.log a.log (worded Xor n ∷ [])
-        → Lone sender_of n a (2, late dropping, (empty, empty))
-    flipped e made grows = lone (at_word 2 e (sender_lands b Xor n is.phase made grows))
+    pub flipped : n ≡ DISCONNECTED → SenderMakes Xor n b a → Grows b.log a.log (worded Xor n ∷ [])
+        → Lone sender_of n a (DISCONNECTED, late dropping, (empty, empty))
+    flipped e made grows = lone (at_word DISCONNECTED e (sender_lands b Xor n is.phase made grows))
 
     -- it found no other word
-    module _ {X : Type 0} (not_3 : ¬ (n ≡ 3)) (not_0 : ¬ (n ≡ 0)) (not_2 : ¬ (n ≡ 2)) where
+    module _ {X : Type 0} (not_3 : ¬ (n ≡ EMPTY)) (not_0 : ¬ (n ≡ RECEIVING)) (not_2 : ¬ (n ≡ DISCONNECTED)) where
       pub added_none : SenderMakes Add n b a → Grows b.log a.log (worded Add n ∷ []) → X
       added_none made grows =
-          unlisted (not_at 2 not_2 (not_at 0 not_0 (not_at 3 not_3 (sender_lands b Add n is.phase made grows))))
+          unlisted (not_at DISCONNECTED not_2
+          (not_at RECEIVING not_0 (not_at EMPTY not_3 (sender_lands b Add n is.phase made grows))))
 
       pub flipped_none : SenderMakes Xor n b a → Grows b.log a.log (worded Xor n ∷ []) → X
       flipped_none made grows =
-          unlisted (not_at 2 not_2 (not_at 0 not_0 (not_at 3 not_3 (sender_lands b Xor n is.phase made grows))))
+          unlisted (not_at DISCONNECTED not_2
+          (not_at RECEIVING not_0 (not_at EMPTY not_3 (sender_lands b Xor n is.phase made grows))))
 
     owed : {at : SenderAt} {share : Share} (word : ℕ) → ¬ (share ≡ none) → StandsWith sender_of at (share, filled) a
         → has_row (Swap word) (share, empty) (sender_moves at) ≡ true → Owes word a
@@ -122,16 +125,18 @@ module _ {T W : Type 0} where
               (record { phase = stands.phase; message = stands.message; waker = is_vacant }) has;
         }
 
-    pub send_owes : n ≡ 0 → SenderMakes Add n b a → Grows b.log a.log (worded Add n ∷ []) → Owes 4 a
-    send_owes e made grows = owed 4 (λ e. cc) (added_waiting e made grows).stands refl
+    pub send_owes : n ≡ RECEIVING → SenderMakes Add n b a → Grows b.log a.log (worded Add n ∷ []) → Owes MESSAGE a
+    send_owes e made grows = owed MESSAGE (λ e. cc) (added_waiting e made grows).stands refl
 
-    pub drop_owes : n ≡ 0 → SenderMakes Xor n b a → Grows b.log a.log (worded Xor n ∷ []) → Owes 2 a
+    pub drop_owes : n ≡ RECEIVING → SenderMakes Xor n b a → Grows b.log a.log (worded Xor n ∷ []) → Owes DISCONNECTED a
     drop_owes e made grows =
-        owed 2 (λ e. cc) (lone (at_word 0 e (sender_lands b Xor n is.phase made grows))).stands refl
+        owed DISCONNECTED (λ e. cc) (lone (at_word RECEIVING e (sender_lands b Xor n is.phase made grows))).stands refl
 
     -- its slot is still empty
-    pub flipped_room : n ≡ 0 → SenderMakes Xor n b a → Grows b.log a.log (worded Xor n ∷ []) → a.message ≡ vacant
-    flipped_room e made grows = is_room (lone (at_word 0 e (sender_lands b Xor n is.phase made grows))).stands.message
+    pub flipped_room : n ≡ RECEIVING → SenderMakes Xor n b a → Grows b.log a.log (worded Xor n ∷ [])
+        → a.message ≡ vacant
+    flipped_room e made grows =
+        is_room (lone (at_word RECEIVING e (sender_lands b Xor n is.phase made grows))).stands.message
 
   -- a refused `send`
   pub refused : {by : By} {a : GroundState T W} (x : T) → StandsWith sender_of (late by) (filled, empty) a
@@ -155,7 +160,7 @@ module _ {T W : Type 0} where
 
     pub finished_as : {m' : Held T} {w' : Held W} {j z : Log T W} {woken : W → Type 0} (n : ℕ)
         → SenderFinds (sender_of k) (Swap word) n m w m' w' → Grows k j (worded (Swap word) n ∷ [])
-        → Grows j z (handed Wake y ∷ []) → woken y → Finishes word (not (n == 2)) woken b.log z
+        → Grows j z (handed Wake y ∷ []) → woken y → Finishes word (not (n == DISCONNECTED)) woken b.log z
     finished_as n made t u woke =
         let ends = (found_so is_swap EndsAt refl (last_ends (sender_of k)) made).is_so in
         record {
@@ -169,7 +174,7 @@ module _ {T W : Type 0} where
   -- where that found the receiver gone
   late_over : {at then : SenderAt} {new n : ℕ} {m m' : Held T} {w w' : Held W}
       → ((next : SenderAt) (before after : Slots) → In (Swap new, before, n, next, after) (sender_moves at)
-      → then ≡ next) → SenderFinds at (Swap new) n m w m' w' → not (n == 2) ≡ false → ¬ (m ≡ away)
+      → then ≡ next) → SenderFinds at (Swap new) n m w m' w' → not (n == DISCONNECTED) ≡ false → ¬ (m ≡ away)
       → IsLate then × (m' ≡ m) × (w' ≡ vacant)
   late_over {at} {w'} leads_to (finds {before} {after} {next} row message waker) e has =
       let ends =
@@ -184,7 +189,7 @@ module _ {T W : Type 0} where
 
   -- where it found the receiver, it gave its message
   pub given_over : {at : SenderAt} {new n : ℕ} {m m' : Held T} {w w' : Held W} → SenderFinds at (Swap new) n m w m' w'
-      → not (n == 2) ≡ true → m' ≡ away
+      → not (n == DISCONNECTED) ≡ true → m' ≡ away
   given_over {at} {m'} (finds row message waker) e =
       let ends =
       each EndsAt (landings_of is_swap (sender_moves at)) (last_ends at)
@@ -193,7 +198,8 @@ module _ {T W : Type 0} where
 
   module _ {b k j z : GroundState T W} {word : ℕ} (y : W) (is : Owes word b) (message : k.message ≡ b.message) where
     pub overtaken_as : (n : ℕ) → SenderMakes (Swap word) n k j → Grows k.log j.log (worded (Swap word) n ∷ [])
-        → Grows j.log z.log (handed Wake y ∷ []) → z.message ≡ j.message → z.waker ≡ j.waker → not (n == 2) ≡ false
+        → Grows j.log z.log (handed Wake y ∷ []) → z.message ≡ j.message → z.waker ≡ j.waker
+        → not (n == DISCONNECTED) ≡ false
         → IsOvertaken b z
     overtaken_as n made t u kept waker e =
         let late =

@@ -2,7 +2,7 @@
 use Rattle.oneshot_drive.proofs.Names.{◌≡◌, ℕ, Bool, true, false, [], ◌∷◌, Some, refl, TakeWaker, Wake, Free, Send, IntoInner, DropError, SendAdd, SendTakeWaker, SendFinal, SendWake, SendLateWake}
 use Rattle.oneshot_drive.proofs.Names.{DropTakeWaker, DropFinal, DropWake, DropLateWake, IntoFree, ErrorFree, SenderPos, Swap, Add, Xor, Log, Grows, did, wrote, took, handed, worded, Goes, Answers}
 use Rattle.oneshot_drive.proofs.Names.{last, more, SenderRan, sender_step, sender_row, and_then, wakes, wakes_none, SenderWoke, finishing, LastFinds, finds_waiting, finds_overdue, finds_gone}
-use Rattle.oneshot_drive.proofs.Names.{Finishes, send_reply}
+use Rattle.oneshot_drive.proofs.Names.{Finishes, send_reply, RECEIVING, DISCONNECTED, EMPTY, MESSAGE}
 use Rattle.oneshot_machine.specs.declared.machine.Reply.TheVariants as R
 use Rattle.oneshot_machine.specs.declared.machine.Seen.TheVariants as S
 use Rattle.oneshot_machine.specs.declared.machine.Step.TheVariants.{DropMessage}
@@ -36,7 +36,8 @@ drop_late finds_gone = refl
 
 module _ {T W : Type 0} (woken : W → Type 0) where
   -- the runs of `send`
-  pub send_ran : {l k j : Log T W} {x : T} (n : ℕ) → n ≡ 3 → Grows l k (wrote x ∷ []) → Grows k j (worded Add n ∷ [])
+  pub send_ran : {l k j : Log T W} {x : T} (n : ℕ) → n ≡ EMPTY → Grows l k (wrote x ∷ [])
+      → Grows k j (worded Add n ∷ [])
       → SenderWoke woken Send l j R.Sent (x ∷ []) []
   send_ran {x} n e s t =
       record {
@@ -50,7 +51,7 @@ module _ {T W : Type 0} (woken : W → Type 0) where
         wakes = wakes_none (rw e) refl;
       }
 
-  pub send_refused : {l k j : Log T W} {x : T} (n : ℕ) → n ≡ 2 → Grows l k (wrote x ∷ [])
+  pub send_refused : {l k j : Log T W} {x : T} (n : ℕ) → n ≡ DISCONNECTED → Grows l k (wrote x ∷ [])
       → Grows k j (worded Add n ∷ []) → SenderWoke woken Send l j R.Refused (x ∷ []) []
   send_refused {x} n e s t =
       record {
@@ -64,13 +65,13 @@ module _ {T W : Type 0} (woken : W → Type 0) where
         wakes = wakes_none (rw e) refl;
       }
 
-  pub send_woke : {l k j z : Log T W} {x : T} (n : ℕ) (here : Bool) → n ≡ 0 → Grows l k (wrote x ∷ [])
-      → Grows k j (worded Add n ∷ []) → Finishes 4 here woken j z
+  pub send_woke : {l k j z : Log T W} {x : T} (n : ℕ) (here : Bool) → n ≡ RECEIVING → Grows l k (wrote x ∷ [])
+      → Grows k j (worded Add n ∷ []) → Finishes MESSAGE here woken j z
       → SenderWoke woken Send l z (send_reply here) (x ∷ []) []
   send_woke {x} n here e s t f =
       record {
         ran = record {
-          run = wrote x ∷ worded Add n ∷ finishing 4 f.found f.waker;
+          run = wrote x ∷ worded Add n ∷ finishing MESSAGE f.found f.waker;
           is_run = more SendAdd _ _ refl refl
               (more SendTakeWaker _ _ refl (rw e)
               (more SendFinal _ _ refl refl (more (send_wake here) _ _ refl (send_final f.finds)
@@ -83,7 +84,7 @@ module _ {T W : Type 0} (woken : W → Type 0) where
       }
 
   -- those of the drop
-  pub drop_ran : {l k : Log T W} (n : ℕ) → n ≡ 3 → Grows l k (worded Xor n ∷ [])
+  pub drop_ran : {l k : Log T W} (n : ℕ) → n ≡ EMPTY → Grows l k (worded Xor n ∷ [])
       → SenderWoke woken Drop l k R.Done [] []
   drop_ran n e s =
       record {
@@ -91,12 +92,13 @@ module _ {T W : Type 0} (woken : W → Type 0) where
         wakes = wakes_none (rw e) refl;
       }
 
-  pub drop_woke : {l k j : Log T W} (n : ℕ) → n ≡ 0 → Grows l k (worded Xor n ∷ []) → Finishes 2 true woken k j
+  pub drop_woke : {l k j : Log T W} (n : ℕ) → n ≡ RECEIVING → Grows l k (worded Xor n ∷ [])
+      → Finishes DISCONNECTED true woken k j
       → SenderWoke woken Drop l j R.Done [] []
   drop_woke n e s f =
       record {
         ran = record {
-          run = worded Xor n ∷ finishing 2 f.found f.waker;
+          run = worded Xor n ∷ finishing DISCONNECTED f.found f.waker;
           is_run = more DropTakeWaker _ _ refl (rw e)
               (more DropFinal _ _ refl refl (more DropWake _ _ refl (drop_final f.finds) (last _ refl refl)));
           grows = and_then _ _ s f.grows;
@@ -106,25 +108,26 @@ module _ {T W : Type 0} (woken : W → Type 0) where
         wakes = wakes f.waker (rw e) refl refl f.woke;
       }
 
-  pub drop_freed_late : {l k j z : Log T W} {was : W → Type 0} (n : ℕ) → n ≡ 0 → Grows l k (worded Xor n ∷ [])
-      → Finishes 2 false was k j → Grows j z (did Free ∷ []) → ((waker : W) → was waker → woken waker)
+  pub drop_freed_late : {l k j z : Log T W} {was : W → Type 0} (n : ℕ) → n ≡ RECEIVING → Grows l k (worded Xor n ∷ [])
+      → Finishes DISCONNECTED false was k j → Grows j z (did Free ∷ []) → ((waker : W) → was waker → woken waker)
       → SenderWoke woken Drop l z R.Done [] []
   drop_freed_late n e s f t still =
       record {
         ran = record {
-          run = worded Xor n ∷ handed TakeWaker f.waker ∷ worded (Swap 2) f.found ∷ handed Wake f.waker
+          run = worded Xor n ∷ handed TakeWaker f.waker ∷ worded (Swap DISCONNECTED) f.found ∷ handed Wake f.waker
               ∷ did Free ∷ [];
           is_run = more DropTakeWaker _ _ refl (rw e)
               (more DropFinal _ _ refl refl (more DropLateWake _ _ refl (drop_late f.finds)
               (more DropFree _ _ refl refl (last _ refl refl))));
-          grows = and_then (worded Xor n ∷ []) _ s (and_then (finishing 2 f.found f.waker) _ f.grows t);
+          grows = and_then (worded Xor n ∷ []) _ s (and_then (finishing DISCONNECTED f.found f.waker) _ f.grows t);
           gives = refl;
           gets = refl;
         };
         wakes = wakes f.waker (rw e) refl refl (still f.waker f.woke);
       }
 
-  pub drop_freed : {l k j : Log T W} (n : ℕ) → n ≡ 2 → Grows l k (worded Xor n ∷ []) → Grows k j (did Free ∷ [])
+  pub drop_freed : {l k j : Log T W} (n : ℕ) → n ≡ DISCONNECTED → Grows l k (worded Xor n ∷ [])
+      → Grows k j (did Free ∷ [])
       → SenderWoke woken Drop l j R.Done [] []
   drop_freed n e s t =
       record {

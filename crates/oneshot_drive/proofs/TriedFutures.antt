@@ -3,7 +3,7 @@ use Rattle.oneshot_drive.proofs.Names.{◌≡◌, ℕ, [], ◌∷◌, Some, Resu
 use Rattle.oneshot_drive.proofs.Names.{receiver_of, took, worded, ReceiverAt, looked, between, full, Got, at_once, waited, swapped, by_future, by_poll, Closing, closed_itself, disconnected, resolved}
 use Rattle.oneshot_drive.proofs.Names.{receiver_next, receiver_moves, empty, receiver_row, Goes, Answers, ReceiverRan, and_then, GroundState, StandsWith, Stands, StandsIn, ReceiverMakes, rests_new}
 use Rattle.oneshot_drive.proofs.Names.{rests_open, rests_closed, Polled, unpolled, left_copy, kept_copy, found_sender, has_resolved, IsPolled, LeavesTried, tried_received, tried_resolved}
-use Rattle.oneshot_drive.proofs.Names.{tried_closed, tried_uncopied, tried_its_copy, tried_claimed, is_registered, HandsNoWaker, Each, landings}
+use Rattle.oneshot_drive.proofs.Names.{tried_closed, tried_uncopied, tried_its_copy, tried_claimed, is_registered, HandsNoWaker, Each, landings, DISCONNECTED, MESSAGE}
 use Rattle.oneshot_errors.specs.declared.try_recv.TryRecvError.TheVariants as E
 use Rattle.oneshot_machine.specs.declared.machine.Reply.TheVariants as R
 use Rattle.oneshot_machine.specs.declared.machine.Seen.TheVariants as S
@@ -21,12 +21,12 @@ tried_polled tried_uncopied = unpolled (rests_open looked)
 tried_polled tried_its_copy = kept_copy
 tried_polled tried_claimed = found_sender
 
-over : {n : ℕ} {at : ReceiverAt} → Met n at → n ≡ 2 → (c : Closing) × (at ≡ disconnected c)
+over : {n : ℕ} {at : ReceiverAt} → Met n at → n ≡ DISCONNECTED → (c : Closing) × (at ≡ disconnected c)
 over (met_closed c) e = (c, refl)
 over _ e = absurd (cc)
 
 -- the rows of the words that leave it open
-empty_row : {n : ℕ} {at : ReceiverAt} → Met n at → ¬ (n ≡ 4) → ¬ (n ≡ 2)
+empty_row : {n : ℕ} {at : ReceiverAt} → Met n at → ¬ (n ≡ MESSAGE) → ¬ (n ≡ DISCONNECTED)
     → receiver_row (Future AsyncTryLoad) (S.Word n) ≡ Some (Answers R.Empty)
 empty_row met_empty a b = refl
 empty_row (met_message word drops) a b = absurd (a refl)
@@ -34,7 +34,7 @@ empty_row (met_closed c) a b = absurd (b refl)
 empty_row met_copy a b = refl
 empty_row met_sender a b = refl
 
-unsent : {T : Type 0} {n : ℕ} {at : ReceiverAt} → Met n at → ¬ (n ≡ 4) → ¬ (n ≡ 2)
+unsent : {T : Type 0} {n : ℕ} {at : ReceiverAt} → Met n at → ¬ (n ≡ MESSAGE) → ¬ (n ≡ DISCONNECTED)
     → LeavesTried {T = T} (Err E.Empty) at
 unsent met_empty a b = tried_uncopied
 unsent (met_message word drops) a b = absurd (a refl)
@@ -44,7 +44,7 @@ unsent met_sender a b = tried_claimed
 
 -- after its load it is registered if and only if it was before
 abbrev Unmoved : ReceiverAt → ℕ → ReceiverAt → Type 0
-Unmoved at n next = ¬ (n ≡ 4) → ¬ (n ≡ 2) → is_registered next ≡ is_registered at
+Unmoved at n next = ¬ (n ≡ MESSAGE) → ¬ (n ≡ DISCONNECTED) → is_registered next ≡ is_registered at
 
 unmoved : {at : ReceiverAt} → Polled at → Each (λ n next after. Unmoved at n next) (landings Load (receiver_moves at))
 unmoved (unpolled rests_new) = (λ a b. refl, (λ a b. refl, (λ a b. refl, tt)))
@@ -59,7 +59,7 @@ unmoved (has_resolved c) = (λ a b. refl, tt)
 module _ {T W : Type 0} where
   -- how it ends: with the message, disconnected, or with no message yet
   pub taken_ends : {s : GroundState T W} (g : Got) (x : T)
-      → StandsWith receiver_of (receiver_next (full g) (Store 2) S.Done) (empty, empty) s
+      → StandsWith receiver_of (receiver_next (full g) (Store DISCONNECTED) S.Done) (empty, empty) s
       → StandsIn (LeavesTried (Ok x)) s
   taken_ends at_once x is = record { at = disconnected closed_itself; is_one = tried_received x; stands = is }
   taken_ends waited x is = record { at = disconnected closed_itself; is_one = tried_received x; stands = is }
@@ -67,7 +67,7 @@ module _ {T W : Type 0} where
   taken_ends by_future x is = record { at = resolved closed_itself; is_one = tried_resolved x; stands = is }
   taken_ends by_poll x is = record { at = resolved closed_itself; is_one = tried_resolved x; stands = is }
 
-  pub over_ends : {n : ℕ} {s : GroundState T W} → Came Met n s → n ≡ 2
+  pub over_ends : {n : ℕ} {s : GroundState T W} → Came Met n s → n ≡ DISCONNECTED
       → StandsIn (LeavesTried {T = T} (Err E.Disconnected)) s
   over_ends {s} found e =
       let closed = over found.is_so e in
@@ -78,7 +78,7 @@ module _ {T W : Type 0} where
             found.stands;
       }
 
-  pub unsent_ends : {n : ℕ} {s : GroundState T W} → Came Met n s → ¬ (n ≡ 4) → ¬ (n ≡ 2)
+  pub unsent_ends : {n : ℕ} {s : GroundState T W} → Came Met n s → ¬ (n ≡ MESSAGE) → ¬ (n ≡ DISCONNECTED)
       → StandsIn (LeavesTried {T = T} (Err E.Empty)) s
   unsent_ends found a b = record { at = found.at; is_one = unsent found.is_so a b; stands = found.stands }
 
@@ -90,7 +90,7 @@ module _ {T W : Type 0} where
     tried_leaves = subst (λ at. LeavesTried result at) (sym ends.stands.phase) ends.is_one
 
   pub stays_registered : {b a : GroundState T W} (n : ℕ) → IsPolled b → ReceiverMakes Load n b a
-      → Grows b.log a.log (worded Load n ∷ []) → ¬ (n ≡ 4) → ¬ (n ≡ 2)
+      → Grows b.log a.log (worded Load n ∷ []) → ¬ (n ≡ MESSAGE) → ¬ (n ≡ DISCONNECTED)
       → is_registered (receiver_of a.log) ≡ is_registered (receiver_of b.log)
   stays_registered {b} n is made grows not_sent not_over =
       let found =
@@ -99,16 +99,17 @@ module _ {T W : Type 0} where
       ap is_registered found.stands.phase ∙ found.is_so not_sent not_over ∙ sym (ap is_registered is.stands.phase)
 
   -- its runs
-  pub taken_ran : {l k j z : Log T W} (n r : ℕ) (x : T) → n ≡ 4 → Grows l k (worded Load n ∷ [])
-      → Grows k j (worded (Store 2) r ∷ []) → Grows j z (took x ∷ [])
+  pub taken_ran : {l k j z : Log T W} (n r : ℕ) (x : T) → n ≡ MESSAGE → Grows l k (worded Load n ∷ [])
+      → Grows k j (worded (Store DISCONNECTED) r ∷ []) → Grows j z (took x ∷ [])
       → ReceiverRan AsyncTryRecv l z R.Message [] (x ∷ [])
-  taken_ran n r x e s t u = full_ran r x (loaded_to {p = Future AsyncTryLoad} (Goes (Try Close)) n 4 refl refl e s) t u
+  taken_ran n r x e s t u =
+      full_ran r x (loaded_to {p = Future AsyncTryLoad} (Goes (Try Close)) n MESSAGE refl refl e s) t u
 
-  pub over_ran : {l k : Log T W} (n : ℕ) → n ≡ 2 → Grows l k (worded Load n ∷ [])
+  pub over_ran : {l k : Log T W} (n : ℕ) → n ≡ DISCONNECTED → Grows l k (worded Load n ∷ [])
       → ReceiverRan AsyncTryRecv l k R.Disconnected [] []
-  over_ran n e s = whole (loaded_to {p = Future AsyncTryLoad} (Answers R.Disconnected) n 2 refl refl e s)
+  over_ran n e s = whole (loaded_to {p = Future AsyncTryLoad} (Answers R.Disconnected) n DISCONNECTED refl refl e s)
 
-  pub unsent_ran : {l k : Log T W} {s : GroundState T W} (n : ℕ) → Came Met n s → ¬ (n ≡ 4) → ¬ (n ≡ 2)
+  pub unsent_ran : {l k : Log T W} {s : GroundState T W} (n : ℕ) → Came Met n s → ¬ (n ≡ MESSAGE) → ¬ (n ≡ DISCONNECTED)
       → Grows l k (worded Load n ∷ []) → ReceiverRan AsyncTryRecv l k R.Empty [] []
   unsent_ran n found a b s =
       whole (by_word {p = Future AsyncTryLoad} (Answers R.Empty) Load n s refl (empty_row found.is_so a b))
@@ -118,10 +119,10 @@ module _ {T W : Type 0} where
   load_alone n s = record { steps = worded Load n ∷ []; grows = s; none = refl }
 
   pub words_alone : {l k j z : Log T W} (n r : ℕ) (x : T) → Grows l k (worded Load n ∷ [])
-      → Grows k j (worded (Store 2) r ∷ []) → Grows j z (took x ∷ []) → HandsNoWaker l z
+      → Grows k j (worded (Store DISCONNECTED) r ∷ []) → Grows j z (took x ∷ []) → HandsNoWaker l z
   words_alone n r x s t u =
       record {
-        steps = worded Load n ∷ worded (Store 2) r ∷ took x ∷ [];
-        grows = and_then (worded Load n ∷ []) _ s (and_then (worded (Store 2) r ∷ []) _ t u);
+        steps = worded Load n ∷ worded (Store DISCONNECTED) r ∷ took x ∷ [];
+        grows = and_then (worded Load n ∷ []) _ s (and_then (worded (Store DISCONNECTED) r ∷ []) _ t u);
         none = refl;
       }

@@ -3,7 +3,7 @@ use Rattle.oneshot_drive.proofs.Names.{◌≡◌, ℕ, Bool, true, false, [], �
 use Rattle.oneshot_drive.proofs.Names.{LatePark, LateLoad, RecvPark, RecvParkLoad, Load, Swap, Log, Grows, receiver_of, handed, parked, clocked, worded, ReceiverAt, here, between, waits, blocked}
 use Rattle.oneshot_drive.proofs.Names.{overdue, waited, swapped, stopping, found_closed, receiver_moves, none, filled, receiver_row, receiver_rows, receiver_step, Outcome, Goes, row_for, vacant}
 use Rattle.oneshot_drive.proofs.Names.{GroundState, StandsWith, Stands, receiver_slots, ReceiverAsks, ReceiverMakes, Path, ReceiveBy, by_ref, by_value, wait_of, asked_of, ref_end, end_of, EndsAt}
-use Rattle.oneshot_drive.proofs.Names.{Parks, parks_waiting, parks_overdue, has_row, landings}
+use Rattle.oneshot_drive.proofs.Names.{Parks, parks_waiting, parks_overdue, has_row, landings, RECEIVING, UNPARKING, DISCONNECTED, EMPTY, MESSAGE}
 use Rattle.oneshot_drive.specs.declared.found.Found.TheVariants as F
 use Rattle.oneshot_machine.specs.declared.machine.Seen.TheVariants as S
 use Rattle.oneshot_machine.specs.declared.machine.Step.TheVariants as Steps
@@ -24,21 +24,22 @@ woken_loads by_value = refl
 
 woken_rows : {timed : Bool} (way : ReceiveBy timed)
     → receiver_rows (woken_of way)
-    ≡ (S.Word 4, end_of way F.Message) ∷ (S.Word 2, end_of way F.Closed) ∷ (S.Word 0, Goes (wait_of way))
-    ∷ (S.Word 1, Goes (wait_of way)) ∷ []
+    ≡ (S.Word MESSAGE, end_of way F.Message) ∷ (S.Word DISCONNECTED, end_of way F.Closed)
+    ∷ (S.Word RECEIVING, Goes (wait_of way))
+    ∷ (S.Word UNPARKING, Goes (wait_of way)) ∷ []
 woken_rows (by_ref false) = refl
 woken_rows (by_ref true) = refl
 woken_rows by_value = refl
 
 -- the words that decide a waiting receive, and what it has found
 pub data Decides : ℕ → Found → Type 0 where
-  by_message : Decides 4 F.Message
-  by_end : Decides 2 F.Closed
+  by_message : Decides MESSAGE F.Message
+  by_end : Decides DISCONNECTED F.Closed
 
 decided_row : {timed : Bool} {word : ℕ} {f : Found} (way : ReceiveBy timed) → Decides word f
     → receiver_row (woken_of way) (S.Word word) ≡ Some (end_of way f)
-decided_row way by_message = ap (row_for (S.Word 4)) (woken_rows way)
-decided_row way by_end = ap (row_for (S.Word 2)) (woken_rows way)
+decided_row way by_message = ap (row_for (S.Word MESSAGE)) (woken_rows way)
+decided_row way by_end = ap (row_for (S.Word DISCONNECTED)) (woken_rows way)
 
 decided_late : {word : ℕ} {f : Found} → Decides word f
     → receiver_row (Timed LateLoad) (S.Word word) ≡ Some (ref_end f)
@@ -47,13 +48,13 @@ decided_late by_end = refl
 
 -- the words after which a waiting receive waits on
 data Longer : ℕ → ReceiverAt → Type 0 where
-  longer : Longer 0 (waits blocked)
-  claimed : Longer 1 (waits blocked)
+  longer : Longer RECEIVING (waits blocked)
+  claimed : Longer UNPARKING (waits blocked)
 
 longer_row : {timed : Bool} {n : ℕ} {at : ReceiverAt} (way : ReceiveBy timed) → Longer n at
     → receiver_row (woken_of way) (S.Word n) ≡ Some (Goes (wait_of way))
-longer_row way longer = ap (row_for (S.Word 0)) (woken_rows way)
-longer_row way claimed = ap (row_for (S.Word 1)) (woken_rows way)
+longer_row way longer = ap (row_for (S.Word RECEIVING)) (woken_rows way)
+longer_row way claimed = ap (row_for (S.Word UNPARKING)) (woken_rows way)
 
 longer_waits : {n : ℕ} {at : ReceiverAt} → Longer n at → at ≡ waits blocked
 longer_waits longer = refl
@@ -99,20 +100,22 @@ module _ {T W : Type 0} where
   module _ {n : ℕ} {s : GroundState T W}
       (found : Lands receiver_of n s (landings Load (receiver_moves (waits blocked)))) where
     pub woke_at : {word : ℕ} {f : Found} (timed : Bool) → Decides word f → n ≡ word → EndsAt timed f s
-    woke_at timed by_message e = (waited, refl, (lone (at_word 4 e found)).stands)
-    woke_at timed by_end e = (found_closed, (lone (at_word 2 e found)).stands)
+    woke_at timed by_message e = (waited, refl, (lone (at_word MESSAGE e found)).stands)
+    woke_at timed by_end e = (found_closed, (lone (at_word DISCONNECTED e found)).stands)
 
-    again : ¬ (n ≡ 4) → ¬ (n ≡ 2) → Came Longer n s
+    again : ¬ (n ≡ MESSAGE) → ¬ (n ≡ DISCONNECTED) → Came Longer n s
     again no_message not_closed =
-        came Longer ((longer, refl), ((claimed, refl), tt)) (not_at 2 not_closed (not_at 4 no_message found))
+        came Longer ((longer, refl), ((claimed, refl), tt))
+        (not_at DISCONNECTED not_closed (not_at MESSAGE no_message found))
 
-    pub woke_again : ¬ (n ≡ 4) → ¬ (n ≡ 2) → Stands (waits blocked) s
+    pub woke_again : ¬ (n ≡ MESSAGE) → ¬ (n ≡ DISCONNECTED) → Stands (waits blocked) s
     woke_again no_message not_closed =
         let on = again no_message not_closed in subst (λ at. Stands at s) (longer_waits on.is_so) on.stands
 
     -- it found no other word
-    pub woke_none : {X : Type 0} → ¬ (n ≡ 0) → ¬ (n ≡ 1) → ¬ (n ≡ 2) → ¬ (n ≡ 4) → X
-    woke_none a b c d = unlisted (not_at 4 d (not_at 2 c (not_at 1 b (not_at 0 a found))))
+    pub woke_none : {X : Type 0} → ¬ (n ≡ RECEIVING) → ¬ (n ≡ UNPARKING) → ¬ (n ≡ DISCONNECTED) → ¬ (n ≡ MESSAGE) → X
+    woke_none a b c d =
+        unlisted (not_at MESSAGE d (not_at DISCONNECTED c (not_at UNPARKING b (not_at RECEIVING a found))))
 
   -- a park, and where the load after it leads
   parks : {timed : Bool} {k j : Log T W} (way : ReceiveBy timed) (woken : Bool) → Grows k j (parked woken ∷ [])
@@ -136,7 +139,8 @@ module _ {T W : Type 0} where
         on (on_time way path asks no) (on (parks way woken s) (by_word o Load n t (woken_loads way) leads))
 
     pub parks_again : {state : GroundState T W}
-        → Lands receiver_of n state (landings Load (receiver_moves (waits blocked))) → ¬ (n ≡ 4) → ¬ (n ≡ 2)
+        → Lands receiver_of n state (landings Load (receiver_moves (waits blocked))) → ¬ (n ≡ MESSAGE)
+        → ¬ (n ≡ DISCONNECTED)
         → Path (wait_of way) (Goes (wait_of way)) l z
     parks_again found no_message not_closed = parks_to _ (longer_row way (again found no_message not_closed).is_so)
 
@@ -152,60 +156,62 @@ module _ {T W : Type 0} where
   stops_path f _ path asks e is stops = absurd (cc)
 
   -- `stop`: where its swap landed
-  pub stopped : {b a : GroundState T W} (n : ℕ) → Stands (waits blocked) b → ReceiverMakes (Swap 3) n b a
-      → Grows b.log a.log (worded (Swap 3) n ∷ [])
-      → Lands receiver_of n a (landings (Swap 3) (receiver_moves (waits blocked)))
-  stopped {b} n is made grows = lands b (Swap 3) n is.phase made grows
+  pub stopped : {b a : GroundState T W} (n : ℕ) → Stands (waits blocked) b → ReceiverMakes (Swap EMPTY) n b a
+      → Grows b.log a.log (worded (Swap EMPTY) n ∷ [])
+      → Lands receiver_of n a (landings (Swap EMPTY) (receiver_moves (waits blocked)))
+  stopped {b} n is made grows = lands b (Swap EMPTY) n is.phase made grows
 
   module _ {n : ℕ} {s : GroundState T W}
-      (found : Lands receiver_of n s (landings (Swap 3) (receiver_moves (waits blocked)))) where
-    pub stopped_open : n ≡ 0 → StandsWith receiver_of (here between) (none, filled) s
-    stopped_open e = (lone (at_word 0 e found)).stands
+      (found : Lands receiver_of n s (landings (Swap EMPTY) (receiver_moves (waits blocked)))) where
+    pub stopped_open : n ≡ RECEIVING → StandsWith receiver_of (here between) (none, filled) s
+    stopped_open e = (lone (at_word RECEIVING e found)).stands
 
-    pub stopped_full : n ≡ 4 → EndsAt true F.Message s
-    stopped_full e = (swapped stopping, refl, (lone (at_word 4 e found)).stands)
+    pub stopped_full : n ≡ MESSAGE → EndsAt true F.Message s
+    stopped_full e = (swapped stopping, refl, (lone (at_word MESSAGE e found)).stands)
 
-    pub stopped_over : n ≡ 2 → EndsAt true F.Unclosed s
-    stopped_over e = (stopping, (lone (at_word 2 e found)).stands)
+    pub stopped_over : n ≡ DISCONNECTED → EndsAt true F.Unclosed s
+    stopped_over e = (stopping, (lone (at_word DISCONNECTED e found)).stands)
 
-    pub stopped_late : n ≡ 1 → Stands overdue s
-    stopped_late e = (lone (at_word 1 e found)).stands
+    pub stopped_late : n ≡ UNPARKING → Stands overdue s
+    stopped_late e = (lone (at_word UNPARKING e found)).stands
 
     -- it found no other word
-    pub stopped_none : {X : Type 0} → ¬ (n ≡ 0) → ¬ (n ≡ 1) → ¬ (n ≡ 2) → ¬ (n ≡ 4) → X
-    stopped_none a b c d = unlisted (not_at 4 d (not_at 2 c (not_at 1 b (not_at 0 a found))))
+    pub stopped_none : {X : Type 0} → ¬ (n ≡ RECEIVING) → ¬ (n ≡ UNPARKING) → ¬ (n ≡ DISCONNECTED) → ¬ (n ≡ MESSAGE) → X
+    stopped_none a b c d =
+        unlisted (not_at MESSAGE d (not_at DISCONNECTED c (not_at UNPARKING b (not_at RECEIVING a found))))
 
     -- its waker is in its hand again
-    pub withdrew_nothing : {z : GroundState T W} {k : W} → n ≡ 0 → Grows s.log z.log (handed Steps.Withdraw k ∷ [])
+    pub withdrew_nothing : {z : GroundState T W} {k : W} → n ≡ RECEIVING
+        → Grows s.log z.log (handed Steps.Withdraw k ∷ [])
         → z.message ≡ s.message → z.waker ≡ vacant → EndsAt true F.Nothing z
     withdrew_nothing e back message waker = (refl, withdrew_waker (stopped_open e) back message waker)
 
   pub stops_to : {l k : Log T W} (o : Outcome ReceiverPos) (n found : ℕ)
-      → receiver_row (Timed EndSwap) (S.Word found) ≡ Some o → n ≡ found → Grows l k (worded (Swap 3) n ∷ [])
+      → receiver_row (Timed EndSwap) (S.Word found) ≡ Some o → n ≡ found → Grows l k (worded (Swap EMPTY) n ∷ [])
       → Path (Timed EndSwap) o l k
   stops_to o n found leads e s =
-      by_word o (Swap 3) n s refl (ap (λ n. receiver_row (Timed EndSwap) (S.Word n)) e ∙ leads)
+      by_word o (Swap EMPTY) n s refl (ap (λ n. receiver_row (Timed EndSwap) (S.Word n)) e ∙ leads)
 
-  pub nothing_path : {l k j : Log T W} (z : W) (n : ℕ) → n ≡ 0 → Grows l k (worded (Swap 3) n ∷ [])
+  pub nothing_path : {l k j : Log T W} (z : W) (n : ℕ) → n ≡ RECEIVING → Grows l k (worded (Swap EMPTY) n ∷ [])
       → Grows k j (handed Steps.Withdraw z ∷ []) → Path (Timed EndSwap) (ref_end F.Nothing) l j
-  nothing_path z n e s t = on (stops_to (Goes (Timed EndBack)) n 0 refl e s) (by_withdraw _ z t refl refl)
+  nothing_path z n e s t = on (stops_to (Goes (Timed EndBack)) n RECEIVING refl e s) (by_withdraw _ z t refl refl)
 
-  pub late_path : {l k z : Log T W} (f : Found) (n : ℕ) → n ≡ 1 → Grows l k (worded (Swap 3) n ∷ [])
+  pub late_path : {l k z : Log T W} (f : Found) (n : ℕ) → n ≡ UNPARKING → Grows l k (worded (Swap EMPTY) n ∷ [])
       → Path (Timed LatePark) (ref_end f) k z → Path (Timed EndSwap) (ref_end f) l z
-  late_path f n e s path = on (stops_to (Goes (Timed LatePark)) n 1 refl e s) path
+  late_path f n e s path = on (stops_to (Goes (Timed LatePark)) n UNPARKING refl e s) path
 
   -- `wait_late`: each word that its load may find
   module _ {n : ℕ} {s : GroundState T W} (found : Lands receiver_of n s (landings Load (receiver_moves overdue))) where
     pub ended_at : {word : ℕ} {f : Found} → Decides word f → n ≡ word → EndsAt true f s
-    ended_at by_message e = (waited, refl, (lone (at_word 4 e found)).stands)
-    ended_at by_end e = (found_closed, (lone (at_word 2 e found)).stands)
+    ended_at by_message e = (waited, refl, (lone (at_word MESSAGE e found)).stands)
+    ended_at by_end e = (found_closed, (lone (at_word DISCONNECTED e found)).stands)
 
-    pub ended_again : n ≡ 3 → Stands overdue s
-    ended_again e = (lone (at_word 3 e found)).stands
+    pub ended_again : n ≡ EMPTY → Stands overdue s
+    ended_again e = (lone (at_word EMPTY e found)).stands
 
     -- it found no other word
-    pub ended_none : {X : Type 0} → ¬ (n ≡ 2) → ¬ (n ≡ 3) → ¬ (n ≡ 4) → X
-    ended_none a b c = unlisted (not_at 4 c (not_at 3 b (not_at 2 a found)))
+    pub ended_none : {X : Type 0} → ¬ (n ≡ DISCONNECTED) → ¬ (n ≡ EMPTY) → ¬ (n ≡ MESSAGE) → X
+    ended_none a b c = unlisted (not_at MESSAGE c (not_at EMPTY b (not_at DISCONNECTED a found)))
 
   pub late_to : {l k j z : Log T W} (o : Outcome ReceiverPos) (n found : ℕ)
       → receiver_row (Timed LateLoad) (S.Word found) ≡ Some o → n ≡ found

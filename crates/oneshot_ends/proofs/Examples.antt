@@ -7,14 +7,14 @@ use Rattle.oneshot_machine.specs.declared.machine.Reply.TheVariants as R
 use Rattle.oneshot_machine.specs.declared.machine.Seen.TheVariants.{Word, Over}
 use Rattle.oneshot_machine.specs.declared.machine.Step.TheVariants as Steps
 use Rattle.oneshot_machine.specs.declared.machine.by_ref.RefPos.TheVariants.{StartLoad, StartWrite, StartSwap}
-use Rattle.oneshot_machine.specs.declared.machine.receiver.ReceiverPos.TheVariants.{Try, Ref, Timed}
+use Rattle.oneshot_machine.specs.declared.machine.receiver.ReceiverPos.TheVariants.{Ref, Timed}
 use Rattle.oneshot_machine.specs.declared.machine.receiver.ReceiverStart.TheVariants.{TryRecv, RecvTimeout}
 use Rattle.oneshot_machine.specs.declared.machine.sender.SenderCall.{SenderCall}
 use Rattle.oneshot_machine.specs.declared.machine.sender.SenderCall.TheVariants.{Send}
 use Rattle.oneshot_machine.specs.declared.machine.sender.SenderPos.TheVariants.{SendAdd}
 use Rattle.oneshot_machine.specs.declared.machine.timed.TimedPos.TheVariants.{SumClock, Clock, EndSwap, EndBack}
-use Rattle.oneshot_machine.specs.declared.machine.try_recv.TryPos.TheVariants.{Close, Take}
 use Rattle.oneshot_machine.specs.declared.states.Op.TheVariants.{Load, Store, Swap, Add}
+use Rattle.oneshot_machine.specs.declared.states.TheConstants.{RECEIVING, DISCONNECTED, EMPTY, MESSAGE}
 use Rattle.oneshot_machine.specs.Called.{not_called, became_future, SenderCalled, not_called_yet, called_once}
 use Rattle.oneshot_machine.specs.Logs.{did, handed, clocked, worded}
 use Rattle.oneshot_machine.specs.Noted.{Noted}
@@ -31,6 +31,7 @@ use Rattle.oneshot_ends.specs.Examples.{ran_out, EndsThatAre, EndsThatAreNot, Ca
 use Rattle.oneshot_ends.specs.Examples.{GroundsThatAreNot, OrdersThatAre, OrdersThatAreNot}
 use Rattle.oneshot_ends.proofs.CallsAnswered.{one_more, was_refused}
 use Rattle.oneshot_ends.proofs.Endless.{never_runs_out}
+use Rattle.oneshot_machine.proofs.ComputedRuns.{computed}
 
 module _ {T : Type 0} where
   sends_over : (word : ℕ) (r : Reply) → sender_row SendAdd (Word word) ≡ Some (Answers r)
@@ -77,8 +78,8 @@ module _ {T : Type 0} where
   runs_out over =
       record {
         run =
-            clocked over ∷ worded Load 3 ∷ handed Steps.WriteWaker tt ∷ worded (Swap 0) 3 ∷ clocked true
-            ∷ worded (Swap 3) 0 ∷ handed Steps.Withdraw tt ∷ [];
+            clocked over ∷ worded Load EMPTY ∷ handed Steps.WriteWaker tt ∷ worded (Swap RECEIVING) EMPTY ∷ clocked true
+            ∷ worded (Swap EMPTY) RECEIVING ∷ handed Steps.Withdraw tt ∷ [];
         is_run =
             more (Ref (StartLoad true)) _ _ refl (sums over)
             (more (Ref (StartWrite true)) _ _ refl refl
@@ -99,11 +100,11 @@ module _ {T : Type 0} where
         sends = sends_over 3 R.Sent refl;
         is_refused = sends_over 2 R.Refused refl;
         was_refused = was_refused (sends_over 2 R.Refused refl);
-        tries = record { run = worded Load 3 ∷ []; is_run = last _ refl refl; list = refl };
+        tries = record { run = worded Load EMPTY ∷ []; is_run = last _ refl refl; list = refl };
         takes =
             record {
-              run = worded Load 4 ∷ worded (Store 2) 4 ∷ did Steps.TakeMessage ∷ [];
-              is_run = more (Try Close) _ _ refl refl (more (Try Take) _ _ refl refl (last _ refl refl));
+              run = worded Load MESSAGE ∷ worded (Store DISCONNECTED) MESSAGE ∷ did Steps.TakeMessage ∷ [];
+              is_run = computed (refl, (refl, (refl, refl)));
               list = refl;
             };
         has_tried = (_, one_more TryRecv refl not_called tried);
@@ -119,8 +120,8 @@ module _ {T : Type 0} where
             λ timeout now fits sum. record { has_end = true; held = (λ _. sum, λ _. refl); grew = runs_out false };
       }
     where
-      tried : ReceiverGrew T TryRecv [] ((Load, Word 3) ∷ []) R.Empty
-      tried = record { run = worded Load 3 ∷ []; is_run = last _ refl refl; list = refl }
+      tried : ReceiverGrew T TryRecv [] ((Load, Word EMPTY) ∷ []) R.Empty
+      tried = record { run = worded Load EMPTY ∷ []; is_run = last _ refl refl; list = refl }
 
   -- the one call of an error, from its log
   refused_with : {calls : List (SenderCall × Reply)} {log : List Noted} → SenderCalled T Waking calls log

@@ -7,6 +7,7 @@ use Rattle.oneshot_machine.proofs.GrownLogs.{phase_from-snoc}
 use Rattle.oneshot_machine.proofs.Sameness.{each_passes}
 use Rattle.oneshot_machine.specs.declared.machine.Seen.TheVariants.{Word}
 use Rattle.oneshot_machine.specs.declared.states.Op.{Op}
+use Rattle.oneshot_machine.specs.declared.states.TheConstants.{RECEIVING}
 use Rattle.oneshot_machine.specs.Noted.{Noted, saw}
 use Rattle.oneshot_machine.specs.Orders.{Reaches, nothing_made, sender_makes, receiver_makes, has_row}
 use Rattle.oneshot_machine.specs.Phases.{Share, none, filled, Slots, Row, SenderAt, fresh, sender_moves, sender_at, ReceiverAt, first, waits, claimed, overdue, receiver_at, receiver_next}
@@ -28,23 +29,25 @@ either_so false c c' on e = on e
 appended : (xs : List Noted) (x : Noted) → finds_waiting xs ≡ true → finds_waiting (xs ++ x ∷ []) ≡ true
 appended [] x e = absurd (cc e)
 appended (y ∷ xs) x e =
-    either_so (is_same_seen y.1 (Word 0)) (finds_waiting xs) (finds_waiting (xs ++ x ∷ [])) (appended xs x) e
+    either_so (is_same_seen y.1 (Word RECEIVING)) (finds_waiting xs) (finds_waiting (xs ++ x ∷ [])) (appended xs x) e
 
--- a sender's first operation beside such a receiver finds 0
-finds_zero : (q : ReceiverAt) {word : ℕ} → is_waiting q ≡ true → Is (word_between fresh q) word → word ≡ 0
+-- a sender's first operation beside such a receiver finds RECEIVING
+finds_zero : (q : ReceiverAt) {word : ℕ} → is_waiting q ≡ true → Is (word_between fresh q) word → word ≡ RECEIVING
 finds_zero (waits w) left is = refl
 finds_zero claimed left now = elim now [ ]
 finds_zero overdue left now = elim now [ ]
 finds_zero _ left now = absurd (cc left)
 
 abbrev sees_zero : Row SenderAt → Bool
-sees_zero row = if row.2 == 0 then is_same_seen (saw row.0 row.2) (Word 0) else true
+sees_zero row = if row.2 == RECEIVING then is_same_seen (saw row.0 row.2) (Word RECEIVING) else true
 
 first_finds : {op : Op} {before after : Slots} {word : ℕ} {next : SenderAt}
-    → In (op, before, word, next, after) (sender_moves fresh) → word ≡ 0 → is_same_seen (saw op word) (Word 0) ≡ true
+    → In (op, before, word, next, after) (sender_moves fresh) → word ≡ RECEIVING
+    → is_same_seen (saw op word) (Word RECEIVING) ≡ true
 first_finds {op} {word} row zero =
-    if_so (word == 0) (is_same_seen (saw op word) (Word 0)) (each_passes sees_zero (sender_moves fresh) refl row)
-    (eq-eqb word 0 zero)
+    if_so (word == RECEIVING) (is_same_seen (saw op word) (Word RECEIVING))
+        (each_passes sees_zero (sender_moves fresh) refl row)
+    (eq-eqb word RECEIVING zero)
 
 on_sender : (xs : List Noted) {ys : List Noted} {op : Op} {before after : Slots} {word : ℕ} {next : SenderAt}
     → Reaches xs ys word → In (op, before, word, next, after) (sender_moves (sender_at xs))

@@ -6,6 +6,7 @@ use Rattle.std.specs.List.{list_all}
 use Rattle.oneshot_machine.specs.declared.machine.Seen.{Seen}
 use Rattle.oneshot_machine.specs.declared.machine.Seen.TheVariants.{Word}
 use Rattle.oneshot_machine.specs.declared.states.Op.{Op}
+use Rattle.oneshot_machine.specs.declared.states.TheConstants.{MESSAGE}
 use Rattle.oneshot_machine.specs.Noted.{Noted, saw, is_same_op}
 use Rattle.oneshot_machine.specs.Phases.{Row, ReceiverAt, first, here, waits, claimed, withdrew, overdue, no_receiver, receiver_moves, receiver_next, next_by, phase_from, receiver_at}
 use Rattle.oneshot_machine.specs.TableRows.{is_same_seen}
@@ -24,32 +25,34 @@ past withdrew = false
 past overdue = false
 past _ = true
 
-past_rows : (at : ReceiverAt) → past at ≡ true → list_all (λ (row : Row ReceiverAt). past row.3) (receiver_moves at) ≡ true
-past_rows at =
-    if_so (past at) _ (at_each_receiver
-    (λ at. if past at then list_all (λ (row : Row ReceiverAt). past row.3) (receiver_moves at) else true) refl at)
+abbrev leads_past : ReceiverAt → Bool
+leads_past at = list_all (λ (row : Row ReceiverAt). past row.3) (receiver_moves at)
+
+past_rows : (at : ReceiverAt) → past at ≡ true → leads_past at ≡ true
+past_rows at = if_so (past at) _ (at_each_receiver (λ at. if past at then leads_past at else true) refl at)
 
 -- a row that finds the message leads there
 abbrev found_row : Row ReceiverAt → Bool
-found_row (made, before, word, next, after) = if is_same_seen (saw made word) (Word 4) then past next else true
+found_row (made, before, word, next, after) = if is_same_seen (saw made word) (Word MESSAGE) then past next else true
 
 row_found : (op : Op) (rows : List (Row ReceiverAt)) → list_all found_row rows ≡ true
-    → past (next_by no_receiver rows op (Word 4)) ≡ true
+    → past (next_by no_receiver rows op (Word MESSAGE)) ≡ true
 row_found op [] all = refl
 row_found op (row ∷ rows) all =
     let parts = and_parts (found_row row) (list_all found_row rows) all in
-    by (is_same_op row.0 op) (is_same_seen (saw row.0 row.2) (Word 4)) parts.0 (row_found op rows parts.1)
+    by (is_same_op row.0 op) (is_same_seen (saw row.0 row.2) (Word MESSAGE)) parts.0 (row_found op rows parts.1)
   where
-    by : (a b : Bool) → (if b then past row.3 else true) ≡ true → past (next_by no_receiver rows op (Word 4)) ≡ true
-        → past (if a && b then row.3 else next_by no_receiver rows op (Word 4)) ≡ true
+    by : (a b : Bool) → (if b then past row.3 else true) ≡ true
+        → past (next_by no_receiver rows op (Word MESSAGE)) ≡ true
+        → past (if a && b then row.3 else next_by no_receiver rows op (Word MESSAGE)) ≡ true
     by true true now there = now
     by true false now there = there
     by false b now there = there
 
-found_next : (at : ReceiverAt) (op : Op) (seen : Seen) → is_same_seen seen (Word 4) ≡ true
+found_next : (at : ReceiverAt) (op : Op) (seen : Seen) → is_same_seen seen (Word MESSAGE) ≡ true
     → past (receiver_next at op seen) ≡ true
 found_next at op seen e =
-    ap (λ seen. past (receiver_next at op seen)) (seens_are_same seen (Word 4) e)
+    ap (λ seen. past (receiver_next at op seen)) (seens_are_same seen (Word MESSAGE) e)
     ∙ row_found op (receiver_moves at) (at_each_receiver (λ at. list_all found_row (receiver_moves at)) refl at)
 
 found_past : (at : ReceiverAt) (log : List Noted) → (past at || has_found log) ≡ true
@@ -60,9 +63,9 @@ found_past at [] e = by (past at) e
     by true e = refl
     by false e = e
 found_past at (x ∷ xs) e =
-    found_past (receiver_next at x.0 x.1) xs (by (past at) refl (is_same_seen x.1 (Word 4)) refl e)
+    found_past (receiver_next at x.0 x.1) xs (by (past at) refl (is_same_seen x.1 (Word MESSAGE)) refl e)
   where
-    by : (a : Bool) → past at ≡ a → (b : Bool) → is_same_seen x.1 (Word 4) ≡ b → (a || (b || has_found xs)) ≡ true
+    by : (a : Bool) → past at ≡ a → (b : Bool) → is_same_seen x.1 (Word MESSAGE) ≡ b → (a || (b || has_found xs)) ≡ true
         → (past (receiver_next at x.0 x.1) || has_found xs) ≡ true
     by true is b sees e =
         ap (λ d. d || has_found xs) (next_passes past no_receiver (receiver_moves at) x.0 x.1 refl (past_rows at is))

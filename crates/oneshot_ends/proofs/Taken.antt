@@ -20,6 +20,7 @@ use Rattle.oneshot_machine.specs.declared.machine.by_ref.RefPos.TheVariants.{Sta
 use Rattle.oneshot_machine.specs.declared.machine.timed.TimedPos.TheVariants.{Clock}
 use Rattle.oneshot_machine.specs.declared.machine.future.FuturePos.TheVariants.{IntoFuture, PollBackFull}
 use Rattle.oneshot_machine.specs.declared.states.Op.{Op}
+use Rattle.oneshot_machine.specs.declared.states.TheConstants.{MESSAGE}
 use Rattle.oneshot_machine.specs.Called.{Form, as_receiver, as_future, stays}
 use Rattle.oneshot_machine.specs.Noted.{Noted, op_of, saw}
 use Rattle.oneshot_machine.specs.Logs.{Event, words, receiver_of}
@@ -50,7 +51,7 @@ use Rattle.oneshot_ends.proofs.OpenTaken.{open_took_none}
 use Rattle.oneshot_ends.specs.Taken.{StaysTaken, has_found, TookAsFound, KeepsTaken, Takes, TakesReady, WasSent, is_message}
 
 pub found_both : (xs ys : List Noted) → has_found (xs ++ ys) ≡ (has_found xs || has_found ys)
-found_both xs ys = list_any-append (λ x. is_same_seen x.1 (Word 4)) xs ys
+found_both xs ys = list_any-append (λ x. is_same_seen x.1 (Word MESSAGE)) xs ys
 
 -- positions at which a call has found the message
 abbrev has_it : ReceiverPos → Bool
@@ -70,7 +71,7 @@ in_place _ = false
 
 -- whether an operation found it now, or one before
 abbrev finds_it : Bool → Op → Seen → Bool
-finds_it found op seen = found || is_same_seen seen (Word 4)
+finds_it found op seen = found || is_same_seen seen (Word MESSAGE)
 
 abbrev Stands : ReceiverPos → Bool → Type 0
 Stands p found = (in_place p ≡ true) × (has_it p ≡ found)
@@ -115,7 +116,8 @@ each_row p found seen (Answers r) stands leads =
 found_from : (found : Bool) (xs : List Noted) → phase_from finds_it found xs ≡ (found || has_found xs)
 found_from found [] = sym (or_comm found false)
 found_from found (x ∷ xs) =
-    found_from (found || is_same_seen x.1 (Word 4)) xs ∙ or_assoc found (is_same_seen x.1 (Word 4)) (has_found xs)
+    found_from (found || is_same_seen x.1 (Word MESSAGE)) xs
+    ∙ or_assoc found (is_same_seen x.1 (Word MESSAGE)) (has_found xs)
 
 -- a call that leaves the receiver in place, and does not begin with the message
 abbrev pub begins : ReceiverStart → Bool
@@ -272,8 +274,8 @@ module _ {T W P : Type 0} where
   did_keeps {s} {op = op} {word = word} did =
       record {
         stays = did.stays;
-        found = λ so. did.takes ∙ ap (λ b. b || is_same_seen (saw op word) (Word 4)) so
-            ∙ ap (λ b. has_found s.log || b) (or_comm false (is_same_seen (saw op word) (Word 4)))
+        found = λ so. did.takes ∙ ap (λ b. b || is_same_seen (saw op word) (Word MESSAGE)) so
+            ∙ ap (λ b. has_found s.log || b) (or_comm false (is_same_seen (saw op word) (Word MESSAGE)))
             ∙ sym (ap has_found did.list ∙ found_both s.log ((op, saw op word) ∷ []));
       }
 

@@ -69,8 +69,9 @@ at_each_sender test all p = each_passes test senders all (is_sender p)
 pub at_each_receiver : (test : ReceiverAt → Bool) → list_all test receivers ≡ true → (q : ReceiverAt) → test q ≡ true
 at_each_receiver test all q = each_passes test receivers all (is_receiver q)
 
-pub at_each_pair : (test : SenderAt → ReceiverAt → Bool) → list_all (λ q. list_all (λ p. test p q) senders) receivers ≡ true
-    → (p : SenderAt) (q : ReceiverAt) → test p q ≡ true
+pub at_each_pair : (test : SenderAt → ReceiverAt → Bool)
+    → list_all (λ q. list_all (λ p. test p q) senders) receivers ≡ true → (p : SenderAt) (q : ReceiverAt)
+    → test p q ≡ true
 at_each_pair test all p q =
     at_each_sender (λ p. test p q) (at_each_receiver (λ q. list_all (λ p. test p q) senders) all q) p
 

@@ -5,6 +5,7 @@ use Rattle.std.specs.List.{list_all}
 use Rattle.oneshot_machine.specs.declared.states.Op.{Op}
 use Rattle.oneshot_machine.specs.declared.states.Op.TheVariants.{Load, Swap, Add}
 use Rattle.oneshot_machine.specs.declared.machine.Seen.TheVariants.{Word}
+use Rattle.oneshot_machine.specs.declared.states.TheConstants.{RECEIVING, UNPARKING, MESSAGE}
 use Rattle.oneshot_machine.specs.Exact.{IsFound, none_yet, one_more, IsAllowed}
 use Rattle.oneshot_machine.specs.ExactExamples.{TablesAllow, TablesRefuse}
 use Rattle.oneshot_machine.specs.Noted.{Noted, saw, is_same_op}
@@ -64,12 +65,12 @@ never among = omega (arith, among.1)
 pub tables_refuse : TablesRefuse
 tables_refuse =
     record {
-      adds_over_4 = λ found. no_log sender_moves sender_at (Add, Word 4) refl refl found refl;
-      swaps_first = λ found. no_log sender_moves sender_at (Swap 4, Word 1) refl refl found refl;
-      finds_1_first = λ found. no_log receiver_moves receiver_at (Load, Word 1) refl refl found refl;
-      may_swap_first = not_allowed sender_moves fresh (Swap 4) refl refl;
+      adds_over_4 = λ found. no_log sender_moves sender_at (Add, Word MESSAGE) refl refl found refl;
+      swaps_first = λ found. no_log sender_moves sender_at (Swap MESSAGE, Word UNPARKING) refl refl found refl;
+      finds_1_first = λ found. no_log receiver_moves receiver_at (Load, Word UNPARKING) refl refl found refl;
+      may_swap_first = not_allowed sender_moves fresh (Swap MESSAGE) refl refl;
       may_add_again = not_allowed sender_moves (owes sending) Add refl refl;
-      may_store_first = not_allowed receiver_moves first (Swap 0) refl refl;
+      may_store_first = not_allowed receiver_moves first (Swap RECEIVING) refl refl;
       accepts_1 = λ so. let e = so refl in cc e;
       begins_nothing = λ exact.
           never (exact.no_more none_yet (may {m = held 7} {w = away} head (is_held 7) is_away));

@@ -1,16 +1,7 @@
 -- Proofs of the examples of logs and runs, computed.
-use Rattle.std.proofs.Common.{true, false, refl}
-use Rattle.oneshot_machine.specs.declared.machine.receiver.ReceiverPos.TheVariants.{Try, Ref, Timed, Value, Drop}
-use Rattle.oneshot_machine.specs.declared.machine.try_recv.TryPos.TheVariants.{Close, Take, CloseOnly}
-use Rattle.oneshot_machine.specs.declared.machine.by_ref.RefPos.TheVariants.{StartLoad, StartWrite, StartSwap, BackFull, BackClosed, Park, ParkLoad}
-use Rattle.oneshot_machine.specs.declared.machine.timed.TimedPos.TheVariants.{Clock, TimedPark, TimedLoad, EndSwap, EndBack, LatePark, LateLoad}
-use Rattle.oneshot_machine.specs.declared.machine.value.ValuePos.TheVariants.{RecvWrite, RecvSwap, RecvBackClosed, RecvPark, RecvParkLoad, RecvTake, RecvFreeGot, RecvFreeGone}
-use Rattle.oneshot_machine.specs.declared.machine.drop.DropPos.TheVariants.{DropMessage, DropFree}
-use Rattle.oneshot_machine.specs.declared.machine.sender.SenderPos.TheVariants.{SendAdd, SendTakeWaker, SendFinal, SendWake, SendLateWake, DropTakeWaker, DropFinal, DropWake, DropLateWake, IntoFree}
-use Rattle.oneshot_machine.specs.declared.machine.sender.SenderPos.TheVariants.{ErrorFree}
-use Rattle.oneshot_machine.specs.declared.machine.sender.SenderPos.TheVariants as SP
-use Rattle.oneshot_machine.specs.Runs.{last, more}
+use Rattle.std.proofs.Common.{refl}
 use Rattle.oneshot_machine.specs.Examples.{LogsOfSender, LogsOfReceiver, RunsThatAre}
+use Rattle.oneshot_machine.proofs.ComputedRuns.{computed}
 
 pub logs_of_sender : LogsOfSender
 logs_of_sender =
@@ -78,128 +69,33 @@ logs_of_receiver =
 pub runs_that_are : RunsThatAre
 runs_that_are =
     record {
-      sends = more SendAdd _ _ refl refl (last _ refl refl);
-      is_refused = more SendAdd _ _ refl refl (last _ refl refl);
-      wakes = more SendAdd _ _ refl refl
-          (more SendTakeWaker _ _ refl refl
-          (more SendFinal _ _ refl refl (more SendWake _ _ refl refl (last _ refl refl))));
-      is_refused_at_its_last_operation =
-          more SendAdd _ _ refl refl
-          (more SendTakeWaker _ _ refl refl
-          (more SendFinal _ _ refl refl
-          (more SendLateWake _ _ refl refl
-          (last _ refl refl))));
-      wakes_by_its_drop =
-          more DropTakeWaker _ _ refl refl
-          (more DropFinal _ _ refl refl (more DropWake _ _ refl refl (last _ refl refl)));
-      frees_after_its_wake =
-          more DropTakeWaker _ _ refl refl
-          (more DropFinal _ _ refl refl
-          (more DropLateWake _ _ refl refl
-          (more SP.DropFree _ _ refl refl
-          (last _ refl refl))));
-      gives_it_back = more IntoFree _ _ refl refl (last _ refl refl);
-      drops_the_error = more ErrorFree _ _ refl refl (last _ refl refl);
-      drops_the_sender = more SP.DropFree _ _ refl refl (last _ refl refl);
-      receives = more (Try Close) _ _ refl refl (more (Try Take) _ _ refl refl (last _ refl refl));
-      finds_nothing = last _ refl refl;
-      finds_no_sender = last _ refl refl;
-      waits_for_it =
-          more (Ref (StartWrite false)) _ _ refl refl
-          (more (Ref (StartSwap false)) _ _ refl refl
-          (more (Ref Park) _ _ refl refl
-          (more (Ref ParkLoad) _ _ refl refl
-          (more (Ref Park) _ _ refl refl
-          (more (Ref ParkLoad) _ _ refl refl
-          (more (Try Close) _ _ refl refl
-          (more (Try Take) _ _ refl refl
-          (last _ refl refl))))))));
-      need_not_wait =
-          more (Ref (StartWrite false)) _ _ refl refl
-          (more (Ref (StartSwap false)) _ _ refl refl
-          (more (Ref BackFull) _ _ refl refl
-          (more (Try Close) _ _ refl refl
-          (more (Try Take) _ _ refl refl
-          (last _ refl refl)))));
-      waits_for_nobody =
-          more (Ref (StartWrite false)) _ _ refl refl
-          (more (Ref (StartSwap false)) _ _ refl refl
-          (more (Ref BackClosed) _ _ refl refl
-          (more (Try CloseOnly) _ _ refl refl
-          (last _ refl refl))));
-      runs_out =
-          more (Ref (StartWrite true)) _ _ refl refl
-          (more (Ref (StartSwap true)) _ _ refl refl
-          (more (Timed Clock) _ _ refl refl
-          (more (Timed TimedPark) _ _ refl refl
-          (more (Timed TimedLoad) _ _ refl refl
-          (more (Timed Clock) _ _ refl refl
-          (more (Timed EndSwap) _ _ refl refl
-          (more (Timed EndBack) _ _ refl refl
-          (last _ refl refl))))))));
+      sends = computed (refl, (refl, refl));
+      is_refused = computed (refl, (refl, refl));
+      wakes = computed (refl, (refl, (refl, (refl, (refl, refl)))));
+      is_refused_at_its_last_operation = computed (refl, (refl, (refl, (refl, (refl, refl)))));
+      wakes_by_its_drop = computed (refl, (refl, (refl, (refl, refl))));
+      frees_after_its_wake = computed (refl, (refl, (refl, (refl, (refl, refl)))));
+      gives_it_back = computed (refl, (refl, refl));
+      drops_the_error = computed (refl, (refl, refl));
+      drops_the_sender = computed (refl, (refl, refl));
+      receives = computed (refl, (refl, (refl, refl)));
+      finds_nothing = computed (refl, refl);
+      finds_no_sender = computed (refl, refl);
+      waits_for_it = computed (refl, (refl, (refl, (refl, (refl, (refl, (refl, (refl, (refl, refl)))))))));
+      need_not_wait = computed (refl, (refl, (refl, (refl, (refl, (refl, refl))))));
+      waits_for_nobody = computed (refl, (refl, (refl, (refl, (refl, refl)))));
+      runs_out = computed (refl, (refl, (refl, (refl, (refl, (refl, (refl, (refl, (refl, refl)))))))));
       runs_out_after_its_sum =
-          more (Ref (StartLoad true)) _ _ refl refl
-          (more (Ref (StartWrite true)) _ _ refl refl
-          (more (Ref (StartSwap true)) _ _ refl refl
-          (more (Timed Clock) _ _ refl refl
-          (more (Timed TimedPark) _ _ refl refl
-          (more (Timed TimedLoad) _ _ refl refl
-          (more (Timed Clock) _ _ refl refl
-          (more (Timed EndSwap) _ _ refl refl
-          (more (Timed EndBack) _ _ refl refl
-          (last _ refl refl)))))))));
+          computed (refl, (refl, (refl, (refl, (refl, (refl, (refl, (refl, (refl, (refl, refl))))))))));
       runs_out_over_a_message =
-          more (Ref (StartWrite true)) _ _ refl refl
-          (more (Ref (StartSwap true)) _ _ refl refl
-          (more (Timed Clock) _ _ refl refl
-          (more (Timed TimedPark) _ _ refl refl
-          (more (Timed TimedLoad) _ _ refl refl
-          (more (Timed Clock) _ _ refl refl
-          (more (Timed EndSwap) _ _ refl refl
-          (more (Try Close) _ _ refl refl
-          (more (Try Take) _ _ refl refl
-          (last _ refl refl)))))))));
-      runs_out_over_a_drop =
-          more (Ref (StartWrite true)) _ _ refl refl
-          (more (Ref (StartSwap true)) _ _ refl refl
-          (more (Timed Clock) _ _ refl refl
-          (more (Timed TimedPark) _ _ refl refl
-          (more (Timed TimedLoad) _ _ refl refl
-          (more (Timed Clock) _ _ refl refl
-          (more (Timed EndSwap) _ _ refl refl
-          (more (Try CloseOnly) _ _ refl refl
-          (last _ refl refl))))))));
+          computed (refl, (refl, (refl, (refl, (refl, (refl, (refl, (refl, (refl, (refl, refl))))))))));
+      runs_out_over_a_drop = computed (refl, (refl, (refl, (refl, (refl, (refl, (refl, (refl, (refl, refl)))))))));
       waits_for_the_sender =
-          more (Ref (StartWrite true)) _ _ refl refl
-          (more (Ref (StartSwap true)) _ _ refl refl
-          (more (Timed Clock) _ _ refl refl
-          (more (Timed TimedPark) _ _ refl refl
-          (more (Timed TimedLoad) _ _ refl refl
-          (more (Timed Clock) _ _ refl refl
-          (more (Timed EndSwap) _ _ refl refl
-          (more (Timed LatePark) _ _ refl refl
-          (more (Timed LateLoad) _ _ refl refl
-          (more (Timed LatePark) _ _ refl refl
-          (more (Timed LateLoad) _ _ refl refl
-          (last _ refl refl)))))))))));
-      never_runs_out = more (Ref (StartLoad false)) _ _ refl refl (last _ refl refl);
-      waits_and_frees =
-          more (Value RecvWrite) _ _ refl refl
-          (more (Value RecvSwap) _ _ refl refl
-          (more (Value RecvPark) _ _ refl refl
-          (more (Value RecvParkLoad) _ _ refl refl
-          (more (Value RecvPark) _ _ refl refl
-          (more (Value RecvParkLoad) _ _ refl refl
-          (more (Value RecvTake) _ _ refl refl
-          (more (Value RecvFreeGot) _ _ refl refl
-          (last _ refl refl))))))));
-      waits_for_nobody_and_frees =
-          more (Value RecvWrite) _ _ refl refl
-          (more (Value RecvSwap) _ _ refl refl
-          (more (Value RecvBackClosed) _ _ refl refl
-          (more (Value RecvFreeGone) _ _ refl refl
-          (last _ refl refl))));
-      drops_the_message = more (Drop DropMessage) _ _ refl refl (more (Drop DropFree) _ _ refl refl (last _ refl refl));
+          computed (refl, (refl, (refl, (refl, (refl, (refl, (refl, (refl, (refl, (refl, (refl, (refl, refl))))))))))));
+      never_runs_out = computed (refl, (refl, refl));
+      waits_and_frees = computed (refl, (refl, (refl, (refl, (refl, (refl, (refl, (refl, (refl, refl)))))))));
+      waits_for_nobody_and_frees = computed (refl, (refl, (refl, (refl, (refl, refl)))));
+      drops_the_message = computed (refl, (refl, (refl, refl)));
       handed_in = refl;
       handed_out = refl;
       hands_nothing_out = refl;

@@ -13,6 +13,7 @@ use Rattle.oneshot_machine.specs.declared.machine.sender.SenderPos.TheVariants.{
 use Rattle.oneshot_machine.specs.declared.machine.try_recv.TryPos.TheVariants.{TryLoad}
 use Rattle.oneshot_machine.specs.declared.states.Op.{Op}
 use Rattle.oneshot_machine.specs.declared.states.Op.TheVariants.{Load, Add}
+use Rattle.oneshot_machine.specs.declared.states.TheConstants.{EMPTY}
 use Rattle.oneshot_machine.specs.Logs.{Event, words}
 use Rattle.oneshot_machine.specs.Noted.{Noted, op_of}
 use Rattle.oneshot_machine.specs.Receiver.{receiver_step, receiver_row}
@@ -44,7 +45,7 @@ module _ {T W : Type 0} where
 
   -- a `try_recv` that only loaded 3 receives no message
   pub tries_in_vain : {run : List (Event T W)} → Run receiver_step receiver_row (Try TryLoad) run R.Message
-      → (Load, Word 3) ∷ [] ≡ words run → ⊥
+      → (Load, Word EMPTY) ∷ [] ≡ words run → ⊥
   tries_in_vain (last x is leads) same =
       let row : Some (Answers R.Empty) ≡ Some (Answers R.Message) =
       ap (receiver_row (Try TryLoad)) (first_seen x [] is same) ∙ leads in cc row

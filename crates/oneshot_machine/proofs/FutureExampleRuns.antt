@@ -1,13 +1,11 @@
 -- Proofs of the examples of a future, computed.
 use Rattle.std.proofs.Common.{refl}
-use Rattle.oneshot_machine.specs.declared.machine.receiver.ReceiverPos.TheVariants.{Try, Future, AsyncDrop, Drop}
-use Rattle.oneshot_machine.specs.declared.machine.try_recv.TryPos.TheVariants.{Close, Take}
-use Rattle.oneshot_machine.specs.declared.machine.future.FuturePos.TheVariants.{PollCopy, PollWrite, PollExchange, PollBackFull, PollBackClosed, AgainCopy, AgainExchange, AgainBack, PollOwn}
-use Rattle.oneshot_machine.specs.declared.machine.async_drop.AsyncDropPos.TheVariants.{AsyncExchange, AsyncBack, AsyncSwap}
-use Rattle.oneshot_machine.specs.declared.machine.drop.DropPos.TheVariants.{DropFree}
-use Rattle.oneshot_machine.specs.Runs.{last, more}
+use Rattle.oneshot_machine.specs.declared.machine.receiver.ReceiverPos.TheVariants.{Future, AsyncDrop}
+use Rattle.oneshot_machine.specs.declared.machine.future.FuturePos.TheVariants.{PollCopy, PollWrite, PollExchange, PollBackFull, AgainCopy, PollOwn}
+use Rattle.oneshot_machine.specs.declared.machine.async_drop.AsyncDropPos.TheVariants.{AsyncExchange, AsyncSwap}
 use Rattle.oneshot_machine.specs.FutureExamples.{LogsOfFuture, FutureRuns, FutureRunsThatAreNot}
 use Rattle.oneshot_machine.proofs.ExampleNoRuns.{begins, answers, does_go_on, goes_on}
+use Rattle.oneshot_machine.proofs.ComputedRuns.{computed}
 
 pub logs_of_future : LogsOfFuture
 logs_of_future =
@@ -41,57 +39,20 @@ logs_of_future =
 pub future_runs : FutureRuns
 future_runs =
     record {
-      becomes_a_future = last _ refl refl;
-      waits_by_a_poll =
-          more (Future PollCopy) _ _ refl refl
-          (more (Future PollWrite) _ _ refl refl
-          (more (Future PollExchange) _ _ refl refl
-          (last _ refl refl)));
-      finds_no_memory_for_a_copy =
-          more (Future PollCopy) _ _ refl refl (more (Future PollOwn) _ _ refl refl (last _ refl refl));
-      finds_the_message_by_its_exchange =
-          more (Future PollCopy) _ _ refl refl
-          (more (Future PollWrite) _ _ refl refl
-          (more (Future PollExchange) _ _ refl refl
-          (more (Future PollBackFull) _ _ refl refl
-          (more (Try Close) _ _ refl refl
-          (more (Try Take) _ _ refl refl
-          (last _ refl refl))))));
-      finds_no_sender_by_its_exchange =
-          more (Future PollCopy) _ _ refl refl
-          (more (Future PollWrite) _ _ refl refl
-          (more (Future PollExchange) _ _ refl refl
-          (more (Future PollBackClosed) _ _ refl refl
-          (last _ refl refl))));
-      replaces_its_copy =
-          more (Future AgainCopy) _ _ refl refl
-          (more (Future AgainExchange) _ _ refl refl
-          (more (Future AgainBack) _ _ refl refl
-          (more (Future PollWrite) _ _ refl refl
-          (more (Future PollExchange) _ _ refl refl
-          (last _ refl refl)))));
-      polls_too_late =
-          more (Future AgainCopy) _ _ refl refl
-          (more (Future AgainExchange) _ _ refl refl
-          (more (Future PollOwn) _ _ refl refl
-          (last _ refl refl)));
-      polls_while_the_sender_finishes = more (Future PollOwn) _ _ refl refl (last _ refl refl);
-      tries_in_vain = last _ refl refl;
-      tries_while_the_sender_finishes = last _ refl refl;
-      receives_by_a_try = more (Try Close) _ _ refl refl (more (Try Take) _ _ refl refl (last _ refl refl));
-      drops_its_copy =
-          more (AsyncDrop AsyncExchange) _ _ refl refl
-          (more (AsyncDrop AsyncBack) _ _ refl refl
-          (more (AsyncDrop AsyncSwap) _ _ refl refl
-          (last _ refl refl)));
-      leaves_its_copy_with_the_sender =
-          more (AsyncDrop AsyncExchange) _ _ refl refl
-          (more (AsyncDrop AsyncSwap) _ _ refl refl
-          (last _ refl refl));
-      frees_where_the_sender_has_finished =
-          more (AsyncDrop AsyncSwap) _ _ refl refl
-          (more (Drop DropFree) _ _ refl refl
-          (last _ refl refl));
+      becomes_a_future = computed (refl, refl);
+      waits_by_a_poll = computed (refl, (refl, (refl, (refl, refl))));
+      finds_no_memory_for_a_copy = computed (refl, (refl, (refl, refl)));
+      finds_the_message_by_its_exchange = computed (refl, (refl, (refl, (refl, (refl, (refl, (refl, refl)))))));
+      finds_no_sender_by_its_exchange = computed (refl, (refl, (refl, (refl, (refl, refl)))));
+      replaces_its_copy = computed (refl, (refl, (refl, (refl, (refl, (refl, refl))))));
+      polls_too_late = computed (refl, (refl, (refl, (refl, refl))));
+      polls_while_the_sender_finishes = computed (refl, (refl, refl));
+      tries_in_vain = computed (refl, refl);
+      tries_while_the_sender_finishes = computed (refl, refl);
+      receives_by_a_try = computed (refl, (refl, (refl, refl)));
+      drops_its_copy = computed (refl, (refl, (refl, (refl, refl))));
+      leaves_its_copy_with_the_sender = computed (refl, (refl, (refl, refl)));
+      frees_where_the_sender_has_finished = computed (refl, (refl, (refl, refl)));
     }
 
 pub future_runs_that_are_not : FutureRunsThatAreNot

@@ -7,6 +7,7 @@ use Rattle.oneshot_machine.specs.declared.machine.receiver.ReceiverPos.TheVarian
 use Rattle.oneshot_machine.specs.declared.machine.sender.SenderPos.TheVariants.{SendAdd}
 use Rattle.oneshot_machine.specs.declared.machine.try_recv.TryPos.TheVariants.{Close, Take}
 use Rattle.oneshot_machine.specs.declared.states.Op.TheVariants.{Load}
+use Rattle.oneshot_machine.specs.declared.states.TheConstants.{EMPTY}
 use Rattle.oneshot_machine.specs.Examples.{sending_7, receiving_7}
 use Rattle.oneshot_machine.specs.LogExamples.{logged, LogsThatGrow, LogsThatDoNot}
 use Rattle.oneshot_machine.specs.Logs.{Event, worded, words, messages_given, messages_got}
@@ -49,7 +50,7 @@ logs_that_grow =
         gets = refl;
       };
       receives_nothing = record {
-        run = worded Load 3 ∷ [];
+        run = worded Load EMPTY ∷ [];
         is_run = last _ refl refl;
         grows = record { whole = refl; channel = refl; list = refl };
         gives = refl;

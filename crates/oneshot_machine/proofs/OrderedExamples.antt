@@ -2,67 +2,70 @@
 use Rattle.std.proofs.Common.{ℕ, [], ◌∷◌, ◌++◌}
 use Rattle.oneshot_machine.specs.declared.machine.Seen.TheVariants.{Word}
 use Rattle.oneshot_machine.specs.declared.states.Op.TheVariants.{Load, Store, Swap, Exchange, Add, Xor}
+use Rattle.oneshot_machine.specs.declared.states.TheConstants.{RECEIVING, UNPARKING, DISCONNECTED, EMPTY, MESSAGE}
 use Rattle.oneshot_machine.specs.Orders.{Reaches, has_row, nothing_made, sender_makes, receiver_makes}
 use Rattle.oneshot_machine.specs.OrderExamples.{waits, sent_over, OrdersThatAre, OrdersThatAreNot}
 use Rattle.oneshot_machine.specs.Slots.{head, tail}
 use Rattle.oneshot_machine.proofs.OrdersAhead.{Goes, sender_first, receiver_first, ahead}
 
-looked : Reaches [] ((Load, Word 3) ∷ []) 3
+looked : Reaches [] ((Load, Word EMPTY) ∷ []) EMPTY
 looked = receiver_makes Load nothing_made (has_row head)
 
-waiting : Reaches [] waits 0
-waiting = receiver_makes (Swap 0) looked (has_row (tail (tail (tail head))))
+waiting : Reaches [] waits RECEIVING
+waiting = receiver_makes (Swap RECEIVING) looked (has_row (tail (tail (tail head))))
 
-found : Reaches ((Add, Word 0) ∷ []) waits 1
+found : Reaches ((Add, Word RECEIVING) ∷ []) waits UNPARKING
 found = sender_makes Add waiting (has_row (tail head))
 
-sent : Reaches ((Add, Word 3) ∷ []) [] 4
+sent : Reaches ((Add, Word EMPTY) ∷ []) [] MESSAGE
 sent = sender_makes Add nothing_made (has_row head)
 
-gone : Reaches [] ((Swap 2, Word 3) ∷ []) 2
-gone = receiver_makes (Swap 2) nothing_made (has_row (tail (tail (tail head))))
+gone : Reaches [] ((Swap DISCONNECTED, Word EMPTY) ∷ []) DISCONNECTED
+gone = receiver_makes (Swap DISCONNECTED) nothing_made (has_row (tail (tail (tail head))))
 
 -- the receiver woke too early, and its deadline was over
-woke : Reaches ((Add, Word 0) ∷ []) (waits ++ (Load, Word 1) ∷ []) 1
+woke : Reaches ((Add, Word RECEIVING) ∷ []) (waits ++ (Load, Word UNPARKING) ∷ []) UNPARKING
 woke = receiver_makes Load found (has_row (tail head))
 
-stopped : Reaches ((Add, Word 0) ∷ []) (waits ++ (Swap 3, Word 1) ∷ (Load, Word 3) ∷ []) 3
+stopped : Reaches ((Add, Word RECEIVING) ∷ []) (waits ++ (Swap EMPTY, Word UNPARKING) ∷ (Load, Word EMPTY) ∷ []) EMPTY
 stopped =
-    receiver_makes Load (receiver_makes (Swap 3) found (has_row (tail (tail (tail (tail (tail head))))))) (has_row head)
+    receiver_makes Load (receiver_makes (Swap EMPTY) found (has_row (tail (tail (tail (tail (tail head)))))))
+    (has_row head)
 
 pub orders_that_are : OrdersThatAre
 orders_that_are =
     record {
       new = nothing_made;
-      received = receiver_makes (Store 2) (receiver_makes Load sent (has_row (tail head))) (has_row head);
-      waited_for_it = receiver_makes Load (sender_makes (Swap 4) woke (has_row head)) (has_row (tail (tail head)));
-      stopped_too_late = sender_makes (Swap 4) stopped (has_row (tail head));
+      received = receiver_makes (Store DISCONNECTED) (receiver_makes Load sent (has_row (tail head))) (has_row head);
+      waited_for_it =
+          receiver_makes Load (sender_makes (Swap MESSAGE) woke (has_row head)) (has_row (tail (tail head)));
+      stopped_too_late = sender_makes (Swap MESSAGE) stopped (has_row (tail head));
       polled =
-          receiver_makes (Exchange 3 0) (sender_makes Xor looked (has_row (tail (tail (tail head)))))
+          receiver_makes (Exchange EMPTY RECEIVING) (sender_makes Xor looked (has_row (tail (tail (tail head)))))
           (has_row (tail (tail (tail (tail (tail (tail (tail (tail head)))))))));
       sent_too_late = sender_makes Add gone (has_row (tail (tail head)));
     }
 
-begins_at_another_word : Goes 3 [] [] 0 → ⊥
+begins_at_another_word : Goes EMPTY [] [] 0 → ⊥
 begins_at_another_word goes = elim goes [ ]
 
-finds_what_nobody_left : {word : ℕ} → Goes 3 [] ((Load, Word 4) ∷ []) word → ⊥
+finds_what_nobody_left : {word : ℕ} → Goes EMPTY [] ((Load, Word MESSAGE) ∷ []) word → ⊥
 finds_what_nobody_left (receiver_first _ saw_so _) = cc
 
-finds_no_waker : {word : ℕ} → Goes 3 ((Add, Word 0) ∷ []) ((Load, Word 3) ∷ []) word → ⊥
+finds_no_waker : {word : ℕ} → Goes EMPTY ((Add, Word RECEIVING) ∷ []) ((Load, Word EMPTY) ∷ []) word → ⊥
 finds_no_waker (sender_first _ saw_so _) = cc
 finds_no_waker (receiver_first _ _ (sender_first _ saw_so _)) = cc
 
-skips_the_last : Goes 3 ((Add, Word 3) ∷ []) ((Load, Word 3) ∷ []) 3 → ⊥
+skips_the_last : Goes EMPTY ((Add, Word EMPTY) ∷ []) ((Load, Word EMPTY) ∷ []) EMPTY → ⊥
 skips_the_last (sender_first _ _ (receiver_first _ saw_so _)) = cc
 skips_the_last (receiver_first _ _ (sender_first _ _ goes)) = elim goes [ ]
 
-skips_a_swap : {word : ℕ} → Goes 3 ((Add, Word 3) ∷ []) waits word → ⊥
+skips_a_swap : {word : ℕ} → Goes EMPTY ((Add, Word EMPTY) ∷ []) waits word → ⊥
 skips_a_swap (sender_first _ _ (receiver_first _ saw_so _)) = cc
 skips_a_swap (receiver_first _ _ (sender_first _ _ (receiver_first _ saw_so _))) = cc
 skips_a_swap (receiver_first _ _ (receiver_first _ _ (sender_first _ saw_so _))) = cc
 
-skips_a_stop : {word : ℕ} → Goes 3 (sent_over 3) (waits ++ (Load, Word 4) ∷ []) word → ⊥
+skips_a_stop : {word : ℕ} → Goes EMPTY (sent_over EMPTY) (waits ++ (Load, Word MESSAGE) ∷ []) word → ⊥
 skips_a_stop (sender_first _ saw_so _) = cc
 skips_a_stop (receiver_first _ _ (sender_first _ saw_so _)) = cc
 skips_a_stop (receiver_first _ _ (receiver_first _ _ (receiver_first _ saw_so _))) = cc

@@ -2,6 +2,7 @@
 use Rattle.std.proofs.Common.{◌≡◌, ℕ, List, [], ◌∷◌, ◌++◌, refl}
 use Rattle.oneshot_machine.specs.declared.machine.Seen.{Seen}
 use Rattle.oneshot_machine.specs.declared.states.Op.{Op}
+use Rattle.oneshot_machine.specs.declared.states.TheConstants.{EMPTY}
 use Rattle.oneshot_machine.specs.Noted.{Noted, saw}
 use Rattle.oneshot_machine.specs.Orders.{InOrder, none_made, by_sender, by_receiver}
 use Rattle.oneshot_machine.specs.States.{word_after}
@@ -27,7 +28,7 @@ receiver_more op ends = receiver_first op refl ends
 receiver_more op (sender_first before saw_so rest) = sender_first before saw_so (receiver_more op rest)
 receiver_more op (receiver_first before saw_so rest) = receiver_first before saw_so (receiver_more op rest)
 
-pub ahead : {xs ys : List Noted} {word : ℕ} → InOrder xs ys word → Goes 3 xs ys word
+pub ahead : {xs ys : List Noted} {word : ℕ} → InOrder xs ys word → Goes EMPTY xs ys word
 ahead none_made = ends
 ahead (by_sender op order) = sender_more op (ahead order)
 ahead (by_receiver op order) = receiver_more op (ahead order)

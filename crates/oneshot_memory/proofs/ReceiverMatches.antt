@@ -3,6 +3,7 @@ use Rattle.std.proofs.Common.{◌≡◌, ℕ, Bool, true, false, not, ◌&&◌, 
 use Rattle.std.specs.Prelude.{is_some, if◌then◌else◌}
 use Rattle.oneshot_machine.specs.declared.states.Op.{Op}
 use Rattle.oneshot_machine.specs.declared.states.Op.TheVariants.{Load, Store, Swap, Exchange, Add, Xor}
+use Rattle.oneshot_machine.specs.declared.states.TheConstants.{RECEIVING, UNPARKING, DISCONNECTED, EMPTY}
 use Rattle.oneshot_machine.specs.Logs.{Grows, words, receiver_of, worded}
 use Rattle.oneshot_machine.specs.Noted.{saw}
 use Rattle.oneshot_machine.specs.Phases.{looked, between, blocked, polled, again, storing, stopping, at_once, waited, swapped, by_future, by_poll, ReceiverAt, first, here, waits, claimed, withdrew}
@@ -48,7 +49,7 @@ changes =
       record c { word = word_by_act sent; has_message = sent },
     ))
     ∷ (λ sent c. (lies_in c, record c { word = word_by_act sent; has_message = sent; has_waker = false }))
-    ∷ (λ b c. ((c.word == 0) && lies_in c, record c { word = 1 }))
+    ∷ (λ b c. ((c.word == RECEIVING) && lies_in c, record c { word = UNPARKING }))
     ∷ []
 
 -- the law, computed for each phase
@@ -99,7 +100,7 @@ used_away false finishing idle waker = refl
 slot_after : {W : Type 0} (op : Op) (word : ℕ) (lying : Bool) (waker : Option W)
     → slot_if_own (keeps_waker op word lying) (waker_after op word waker)
     ≡ slot_if_own (keeps_waker op word lying) waker
-slot_after (Swap new) word lying waker = used_away (new == 2) (word == 1) (word == 3) waker
+slot_after (Swap new) word lying waker = used_away (new == DISCONNECTED) (word == UNPARKING) (word == EMPTY) waker
 slot_after Load word lying waker = refl
 slot_after (Store new) word lying waker = refl
 slot_after (Exchange expected new) word lying waker = refl
@@ -232,7 +233,7 @@ module _ {T W : Type 0} where
         }
 
     -- or it lingers
-    pub lingering : word ≡ 0 → lies own_waker waker ≡ true → ReceiverMatches q 1 own own_waker content waker
+    pub lingering : word ≡ RECEIVING → lies own_waker waker ≡ true → ReceiverMatches q 1 own own_waker content waker
     lingering e lying =
         record {
           is_so = changes_to q (memory_of word own own_waker content waker) true

@@ -5,6 +5,7 @@ use Rattle.std.specs.List.{list_all}
 use Rattle.std.proofs.lemmas.Bool.{and_parts}
 use Rattle.oneshot_machine.specs.declared.machine.Seen.TheVariants.{Word}
 use Rattle.oneshot_machine.specs.declared.states.Op.TheVariants.{Load}
+use Rattle.oneshot_machine.specs.declared.states.TheConstants.{MESSAGE}
 use Rattle.oneshot_machine.specs.Noted.{is_same_op}
 use Rattle.oneshot_machine.specs.Phases.{Share, empty, Row, Got, full, looked, here, blocked, waits, storing, swapped, unclosed, found_closed, disconnected, resolved, ReceiverAt, receiver_moves}
 use Rattle.oneshot_machine.specs.Phases.{receiver_next, receiver_at}
@@ -23,7 +24,7 @@ is_full _ = false
 
 abbrev has_it : ReceiverAt → Row ReceiverAt → Bool
 has_it q row =
-    if is_same_op row.0 Load && row.2 == 4 then is_full (receiver_next q Load (Word 4)) && is_filled row.4.0
+    if is_same_op row.0 Load && row.2 == MESSAGE then is_full (receiver_next q Load (Word MESSAGE)) && is_filled row.4.0
     && is_empty row.4.1 else true
 
 each_has_it : (q : ReceiverAt) → list_all (has_it q) (receiver_moves q) ≡ true
@@ -53,21 +54,21 @@ module _ {T W : Type 0} where
   record HasIt (q : ReceiverAt) (m : Held T) (w : Held W) : Type 0 where
     got : Got
     message : T
-    at : receiver_next q Load (Word 4) ≡ full got
+    at : receiver_next q Load (Word MESSAGE) ≡ full got
     holds : m ≡ held message
     no_waker : w ≡ vacant
 
   found_message : (q : ReceiverAt) {m m' : Held T} {w w' : Held W} → ReceiverFinds q Load 4 m w m' w' → HasIt q m' w'
   found_message q (finds {after} row message waker) =
       let wakers =
-      and_parts (is_full (receiver_next q Load (Word 4)) && is_filled after.0) (is_empty after.1)
+      and_parts (is_full (receiver_next q Load (Word MESSAGE)) && is_filled after.0) (is_empty after.1)
       (each_passes (has_it q) (receiver_moves q) (each_has_it q) row) in
-      let parts = and_parts (is_full (receiver_next q Load (Word 4))) (is_filled after.0) wakers.0 in
-      let got = full_is (receiver_next q Load (Word 4)) parts.0 in
+      let parts = and_parts (is_full (receiver_next q Load (Word MESSAGE))) (is_filled after.0) wakers.0 in
+      let got = full_is (receiver_next q Load (Word MESSAGE)) parts.0 in
       let it = message_is parts.1 message in
       record { got = got.0; message = it.0; at = got.1; holds = it.1; no_waker = waker_is wakers.1 waker }
 
-  pub gets : {s t : Plain T W} {found : ℕ} → ReceiverDid s Load found t → found ≡ 4
+  pub gets : {s t : Plain T W} {found : ℕ} → ReceiverDid s Load found t → found ≡ MESSAGE
       → (g : Got) × (x : T) × ReceiverIs t (full g) (held x) vacant
   gets {s} did same =
       let it = found_message (receiver_at s.log) (receiver_told Load 4 (receiver_is s refl) did same) in (

@@ -3,6 +3,7 @@ use Rattle.std.proofs.Common.{◌≡◌, ℕ, Bool, true, false, not, true≢fal
 use Rattle.std.specs.List.{list_all}
 use Rattle.oneshot_machine.specs.declared.states.Op.{Op}
 use Rattle.oneshot_machine.specs.declared.states.Op.TheVariants.{Store, Swap}
+use Rattle.oneshot_machine.specs.declared.states.TheConstants.{RECEIVING, DISCONNECTED, EMPTY}
 use Rattle.oneshot_machine.specs.Noted.{saw, is_same_op}
 use Rattle.oneshot_machine.specs.Phases.{Share, filled, Got, at_once, full, here, looked, waits, blocked, SenderAt, fresh, sender_next, sender_at, ReceiverAt, first, receiver_moves, receiver_next}
 use Rattle.oneshot_machine.specs.Phases.{receiver_at}
@@ -31,7 +32,7 @@ kept e _ = absurd (cc)
 
 -- only a receiver that waits in a call that blocks may swap in 3
 abbrev has_no_stop : ReceiverAt → Bool
-has_no_stop q = list_all (λ row. not (is_same_op (Swap 3) row.0)) (receiver_moves q)
+has_no_stop q = list_all (λ row. not (is_same_op (Swap EMPTY) row.0)) (receiver_moves q)
 
 data StopsWhere : ReceiverAt → Type 0 where
   stops_waiting : StopsWhere (waits blocked)
@@ -43,15 +44,15 @@ where_it_stops (here looked) = stops_nowhere refl
 where_it_stops (full at_once) = stops_nowhere refl
 where_it_stops _ = stops_nowhere refl
 
-pub stops_only : {T W : Type 0} {q : ReceiverAt} {m : Held T} {w : Held W} → ReceiverMay q (Swap 3) m w
+pub stops_only : {T W : Type 0} {q : ReceiverAt} {m : Held T} {w : Held W} → ReceiverMay q (Swap EMPTY) m w
     → q ≡ waits blocked
 stops_only {q} asks = by (where_it_stops q) asks
   where
-    by : {T W : Type 0} {q : ReceiverAt} {m : Held T} {w : Held W} → StopsWhere q → ReceiverMay q (Swap 3) m w
+    by : {T W : Type 0} {q : ReceiverAt} {m : Held T} {w : Held W} → StopsWhere q → ReceiverMay q (Swap EMPTY) m w
         → q ≡ waits blocked
     by stops_waiting asks = refl
     by {q} (stops_nowhere none) (may row _ _) =
-        absurd (true≢false (sym (each_passes (λ row. not (is_same_op (Swap 3) row.0)) (receiver_moves q) none row)))
+        absurd (true≢false (sym (each_passes (λ row. not (is_same_op (Swap EMPTY) row.0)) (receiver_moves q) none row)))
 
 module _ {T W : Type 0} where
   -- the end's phase and slots
@@ -144,17 +145,18 @@ module _ {T W : Type 0} where
   found_waker (finds (tail (tail (tail (tail (tail (tail there)))))) _ _) = elim there [ ]
 
   pub finds_waker : {s t : Plain T W} {m : Held T} {found : ℕ} (op : Op) → SenderIs s fresh m away
-      → SenderDid s op found t → found ≡ 0 → (k : W) × SenderIs t (sender_next fresh op (saw op 0)) m (held k)
+      → SenderDid s op found t → found ≡ RECEIVING
+      → (k : W) × SenderIs t (sender_next fresh op (saw op RECEIVING)) m (held k)
   finds_waker op is did same =
-      let it = found_waker (sender_told op 0 is did same) in
-      (it.1, record { at = sender_went op 0 is did same; message = it.0; waker = it.2 })
+      let it = found_waker (sender_told op RECEIVING is did same) in
+      (it.1, record { at = sender_went op RECEIVING is did same; message = it.0; waker = it.2 })
 
   -- a receiver that has the message may close, and keeps it
-  pub closes : (g : Got) (x : T) → ReceiverMay {W = W} (full g) (Store 2) (held x) vacant
+  pub closes : (g : Got) (x : T) → ReceiverMay {W = W} (full g) (Store DISCONNECTED) (held x) vacant
   closes at_once x = may head (is_held x) is_vacant
   closes _ x = may head (is_held x) is_vacant
 
   pub keeps_message : {g : Got} {found : ℕ} {x : T} {m : Held T} {w : Held W}
-      → ReceiverFinds (full g) (Store 2) found (held x) vacant m w → m ≡ held x
+      → ReceiverFinds (full g) (Store DISCONNECTED) found (held x) vacant m w → m ≡ held x
   keeps_message {g} (finds row turns _) =
       kept (each_passes (λ row. is_filled row.4.0) (receiver_moves (full g)) (stays_full g) row) turns

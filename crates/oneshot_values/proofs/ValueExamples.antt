@@ -11,6 +11,7 @@ use Rattle.oneshot_machine.specs.declared.machine.receiver.ReceiverStart.{Receiv
 use Rattle.oneshot_machine.specs.declared.machine.receiver.ReceiverStart.TheVariants.{TryRecv}
 use Rattle.oneshot_machine.specs.declared.machine.try_recv.TryPos.TheVariants.{TryLoad}
 use Rattle.oneshot_machine.specs.declared.states.Op.TheVariants.{Load, Store, Swap, Add}
+use Rattle.oneshot_machine.specs.declared.states.TheConstants.{DISCONNECTED, EMPTY, MESSAGE}
 use Rattle.oneshot_machine.specs.Called.{as_receiver, ReceiverCalled, not_called, called}
 use Rattle.oneshot_machine.specs.Logs.{Event, words}
 use Rattle.oneshot_machine.specs.Noted.{Noted, op_of}
@@ -32,15 +33,15 @@ use Rattle.oneshot_values.specs.Values.{OnlyTheLastGot}
 use Rattle.oneshot_values.proofs.ValuesRun.{shows_none, receiver_runs, error_runs}
 
 -- the sender sends between the two tries
-tried : Reaches ((Add, Word 3) ∷ []) tried_twice 2
+tried : Reaches ((Add, Word EMPTY) ∷ []) tried_twice DISCONNECTED
 tried =
-    receiver_makes (Store 2)
+    receiver_makes (Store DISCONNECTED)
     (receiver_makes Load (sender_makes Add (receiver_makes Load nothing_made (has_row head)) (has_row head))
     (has_row (tail head))) (has_row head)
 
-refused : Reaches ((Add, Word 2) ∷ []) ((Swap 2, Word 3) ∷ []) 3
+refused : Reaches ((Add, Word DISCONNECTED) ∷ []) ((Swap DISCONNECTED, Word EMPTY) ∷ []) EMPTY
 refused =
-    sender_makes Add (receiver_makes (Swap 2) nothing_made (has_row (tail (tail (tail head)))))
+    sender_makes Add (receiver_makes (Swap DISCONNECTED) nothing_made (has_row (tail (tail (tail head)))))
     (has_row (tail (tail head)))
 
 pub worked_values : {T : Type 0} (m : T) → WorkedValues m
@@ -48,10 +49,10 @@ worked_values {T} m =
     let calls = (worked_calls {T = T} {W = Waking}).tries in
     record {
       tried = receiver_runs T as_receiver (Some m) tried_twice
-          ((TryRecv, R.Empty) ∷ (TryRecv, R.Message) ∷ [], calls) ((Add, Word 3) ∷ [], 2, tried) refl;
+          ((TryRecv, R.Empty) ∷ (TryRecv, R.Message) ∷ [], calls) ((Add, Word EMPTY) ∷ [], DISCONNECTED, tried) refl;
       got_it = refl;
       last_got = ((TryRecv, R.Empty) ∷ [], calls, refl);
-      refused = error_runs m ((Add, Word 2) ∷ []) ((Swap 2, Word 3) ∷ [], 3, refused);
+      refused = error_runs m ((Add, Word DISCONNECTED) ∷ []) ((Swap DISCONNECTED, Word EMPTY) ∷ [], EMPTY, refused);
     }
 
 -- the last call of a receiver, and those before it
@@ -93,7 +94,7 @@ no_operation (last x is leads) ys e = none_of_some ys _ _ (e ∙ ap (λ ns. ys +
 no_operation (more next x xs is leads rest) ys e = none_of_some ys _ _ (e ∙ ap (λ ns. ys ++ ns) (begins x xs is))
 
 takes_nothing : {T : Type 0} {run : List (Event T Waking)} → Run receiver_step receiver_row (Try TryLoad) run R.Message
-    → (before : List Noted) → (Load, Word 3) ∷ [] ≡ before ++ words run → ⊥
+    → (before : List Noted) → (Load, Word EMPTY) ∷ [] ≡ before ++ words run → ⊥
 takes_nothing made [] e = tries_in_vain made e
 takes_nothing made (y ∷ ys) e = no_operation made ys (cc e)
 
@@ -109,7 +110,7 @@ got_before {T} so =
         → has_found before ≡ true
     begins_with_it [] own few e = absurd (let many : length own ≡ 4 = ap length e in omega (arith, few, many))
     begins_with_it (y ∷ ys) own few e =
-        let first : y ≡ (Load, Word 4) = cc e in ap (λ y. is_same_seen y.1 (Word 4) || has_found ys) first
+        let first : y ≡ (Load, Word MESSAGE) = cc e in ap (λ y. is_same_seen y.1 (Word MESSAGE) || has_found ys) first
 
 pub wrong_values : {T : Type 0} (m : T) → WrongValues m
 wrong_values {T} m =
@@ -121,7 +122,7 @@ wrong_values {T} m =
       took_unfound = λ so. let is : 0 ≡ 1 = so.gets [] not_called in cc is;
       got_two = λ e. cc e;
       got_before = got_before;
-      found_nothing = λ so. let end : IsLast T so.0 (TryRecv, R.Message) ((Load, Word 3) ∷ []) =
+      found_nothing = λ so. let end : IsLast T so.0 (TryRecv, R.Message) ((Load, Word EMPTY) ∷ []) =
           last_call so.0 (TryRecv, R.Message) so.1 refl in takes_nothing end.made end.before end.leaves;
       looked = λ so. let is : false ≡ true = sender_is so.order in cc is;
     }

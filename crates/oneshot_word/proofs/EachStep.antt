@@ -6,6 +6,7 @@ use Rattle.oneshot_word.proofs.Names.{Word, ◌++◌, get_or, set, sym, ◌∙�
 use Rattle.oneshot_word.proofs.Names.{sender_next, sender_moves, first, receiver_at, receiver_owns, receiver_next, receiver_moves, Held, away, SenderMay, ReceiverMay, Finds, finds, phase_from-snoc}
 use Rattle.oneshot_word.proofs.Names.{AnyWaker, Slot, Message, View, IsPut, IsClaimed, Home, message_home, waker_home, Lies, IsGiven, IsTaken, Tied, runs, view, any, unsaid, with_waker, message_in}
 use Rattle.oneshot_word.proofs.Names.{waker_in, Front, waker_first, message_first, SeatOf, GivesOnce, HoldsTaken, HoldsClaimed, gave, took, SenderSeat, ReceiverSeat, SenderStepped, ReceiverStepped}
+use Rattle.oneshot_word.proofs.Names.{MESSAGE}
 use Rattle.oneshot_word.specs.declared.rule.Role.TheVariants.{Sender, Receiver}
 use Rattle.oneshot_word.proofs.SeatShows.{Sits, sender_sits, receiver_sits, sits, knows}
 use Rattle.oneshot_word.proofs.KeptRows.{stepped}
@@ -161,7 +162,7 @@ module _ {T H K P : Type 0} (keeps : P → T → Type 0) (q : P) where
                   handed = λ i. gave w (sym (reads has).1 i) put;
                   gets = λ k from to. gets_put w' put k from (fits_so has (sym (reads has).1 ∙ to));
                   stays = stays_taken turns seat.passed;
-                  takes = takes_as_found (is_same_seen (saw op found) (Word 4)) turns
+                  takes = takes_as_found (is_same_seen (saw op found) (Word MESSAGE)) turns
                       (finds_it_so (receiver_at me.0.log) op found row) seat.passed;
                   seat = as_seat {owns = λ ys. receiver_owns (receiver_at ys)} {Passed = HoldsTaken} {Handed = unsaid}
                       refl

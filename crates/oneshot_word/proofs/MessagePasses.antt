@@ -7,6 +7,7 @@ use Rattle.oneshot_word.proofs.Names.{sym, ap, ◌∙◌, subst, not, ◌||◌, 
 use Rattle.oneshot_word.proofs.Names.{sender_owns, ReceiverAt, receiver_moves, Held, away, vacant, held, SenderMay, may, Turns, stays_away, stays_vacant, stays_held, gives_room, gives_thing}
 use Rattle.oneshot_word.proofs.Names.{gets_room, gets_thing, AnyWaker, Slot, Message, Home, message_home, Lies, lies_out, lies_bare, lies_filled, IsGiven, IsTaken, took_none, took_it, Carried, Front}
 use Rattle.oneshot_word.proofs.Names.{slot_vacant, slot_held, not_carried, carried, SeatOf, seat_of, GivesOnce, has_given, gave_none, HoldsTaken, holds_no_slot, holds_none, holds_it, gave, took}
+use Rattle.oneshot_word.proofs.Names.{MESSAGE}
 
 -- a message that keeps the promise, and that the sender gives if it gives up its slot
 abbrev pub Offers : {T P : Type 0} → (P → T → Type 0) → P → Held T → T → Type 0
@@ -72,18 +73,18 @@ is_kept_slot _ _ = true
 abbrev keeps_slot : Row ReceiverAt → Bool
 keeps_slot (op, before, word, next, after) = is_kept_slot before.0 after.0
 
--- it gets a message exactly by an operation that finds 4, and may find 4 again once it has one
+-- it gets a message exactly by an operation that finds MESSAGE, and may find it again once it has one
 abbrev pub is_found_so : Share → Share → Bool → Bool
 is_found_so none filled found = found
 is_found_so filled filled found = true
 is_found_so _ _ found = not found
 
 abbrev finds_so : Row ReceiverAt → Bool
-finds_so (op, before, word, next, after) = is_found_so before.0 after.0 (is_same_seen (saw op word) (Word 4))
+finds_so (op, before, word, next, after) = is_found_so before.0 after.0 (is_same_seen (saw op word) (Word MESSAGE))
 
 pub finds_it_so : (q : ReceiverAt) {next : ReceiverAt} (op : Op) {before after : Slots} (word : ℕ)
     → In (op, before, word, next, after) (receiver_moves q)
-    → is_found_so before.0 after.0 (is_same_seen (saw op word) (Word 4)) ≡ true
+    → is_found_so before.0 after.0 (is_same_seen (saw op word) (Word MESSAGE)) ≡ true
 finds_it_so q op word row = in_each_receiver_row (λ q. finds_so) refl q row
 
 -- the receiver never gives up the message's slot

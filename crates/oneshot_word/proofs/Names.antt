@@ -22,6 +22,7 @@ pub use Rattle.oneshot_machine.specs.TableRows.{is_same_seen}
 pub use Rattle.oneshot_machine.specs.declared.machine.End.{End}
 pub use Rattle.oneshot_machine.specs.declared.machine.Seen.{Seen}
 pub use Rattle.oneshot_machine.specs.declared.machine.Seen.TheVariants.{Word, Done}
+pub use Rattle.oneshot_machine.specs.declared.states.TheConstants.{RECEIVING, UNPARKING, DISCONNECTED, EMPTY, MESSAGE}
 pub use Rattle.oneshot_machine.specs.declared.states.Op.{Op}
 pub use Rattle.oneshot_machine.specs.declared.states.Op.TheVariants.{Add, Load, Store, Swap, Exchange, Xor}
 pub use Rattle.oneshot_word.specs.EndLogs.{FoundZero, MadeLast, MadeLate, stores_waker, is_overdue, is_gone, wrote_since, send_found, drop_found, sent_to_it, sent_to_overdue, dropped_before_it}

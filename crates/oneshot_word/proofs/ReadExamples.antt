@@ -2,7 +2,7 @@
 use Rattle.std.proofs.Common.{◌≡◌, ℕ, List, [], ◌∷◌, Option, None, refl}
 use Rattle.oneshot_word.proofs.Names.{◌⊎◌, inl, inr, sym, ap, subst, Load, Add, Noted, Reaches, nothing_made, sender_makes, receiver_makes, has_row, head, tail, orders_that_are_not, Role, Maker}
 use Rattle.oneshot_word.proofs.Names.{Dealer, View, Ordered, maker_before, dealer_before, in_order, both_in, both_out, one_out, alone, views, found, ReadsThatAre, ReadsThatAreNot, Home, AnyWaker}
-use Rattle.oneshot_word.proofs.Names.{both_views, view}
+use Rattle.oneshot_word.proofs.Names.{both_views, view, MESSAGE, DISCONNECTED, EMPTY}
 use Rattle.oneshot_machine.proofs.InOrders.{in_order as reached_in_order}
 use Rattle.oneshot_word.specs.declared.rule.Role.TheVariants.{Sender, Receiver}
 use Rattle.oneshot_word.specs.EndLogs.{sent as sent_alone}
@@ -13,7 +13,7 @@ use Rattle.oneshot_word.specs.SeatExamples.{keeps}
 use Rattle.oneshot_word.proofs.RuleExamples.{states_that_are_not}
 use Rattle.oneshot_word.proofs.RuleReceives.{messages_that_pass}
 
-sends : Reaches sent [] 4
+sends : Reaches sent [] MESSAGE
 sends = sender_makes Add nothing_made (has_row head)
 
 pub reads_that_are : ReadsThatAre
@@ -75,7 +75,7 @@ role_is {v} role are =
     (ap (λ (v : View ℕ ℕ ℕ ℕ). v.role) same)
 
 first_word : {words : List ℕ} {seats : List (View ℕ ℕ ℕ ℕ)} {v : View ℕ ℕ ℕ ℕ} {homes : List (Home ℕ ℕ ℕ)}
-    → Ruled {P = ℕ} 7 words homes seats → seats ≡ v ∷ [] → words ≡ 3 ∷ []
+    → Ruled {P = ℕ} 7 words homes seats → seats ≡ v ∷ [] → words ≡ EMPTY ∷ []
 first_word maker_alone are = refl
 first_word dealer_alone are = refl
 first_word (two_ends xs ys owned) are = absurd (cc are)
@@ -87,7 +87,7 @@ first_slots dealer_alone are = inr (role_is Dealer are, refl)
 first_slots (two_ends xs ys owned) are = absurd (cc are)
 
 first_order : {words : List ℕ} {seats : List (View ℕ ℕ ℕ ℕ)} {v : View ℕ ℕ ℕ ℕ} → Ordered {P = ℕ} 7 words seats
-    → seats ≡ v ∷ [] → (words ≡ 3 ∷ []) × ((v.role ≡ Maker) ⊎ (v.role ≡ Dealer))
+    → seats ≡ v ∷ [] → (words ≡ EMPTY ∷ []) × ((v.role ≡ Maker) ⊎ (v.role ≡ Dealer))
 first_order maker_before are = (refl, inl (role_is Maker are))
 first_order dealer_before are = (refl, inr (role_is Dealer are))
 first_order (in_order xs ys order) are = absurd (cc are)
@@ -111,14 +111,14 @@ no_sender_alone (inr is) = cc is
 pub reads_that_are_not : ReadsThatAreNot
 reads_that_are_not =
     record {
-      new_word = λ ruled. let is : 2 ∷ [] ≡ 3 ∷ [] = first_word ruled refl in cc is;
+      new_word = λ ruled. let is : DISCONNECTED ∷ [] ≡ EMPTY ∷ [] = first_word ruled refl in cc is;
       new_slots = λ ruled. not_new (first_slots ruled refl);
       dealt_slots = λ ruled. not_dealt (first_slots ruled refl);
       no_ends = λ ruled. elim ruled [ ];
       one_end = λ ruled. not_a_sender (first_slots ruled refl);
       waits_at_3 = λ ruled. states_that_are_not.waits_at_3 (has_owners ruled refl refl refl);
       sent_and_is_bare = λ ruled. states_that_are_not.message_lies_with_nobody (has_owners ruled refl refl refl);
-      new_order = λ ordered. let is : 2 ∷ [] ≡ 3 ∷ [] = (first_order ordered refl).0 in cc is;
+      new_order = λ ordered. let is : DISCONNECTED ∷ [] ≡ EMPTY ∷ [] = (first_order ordered refl).0 in cc is;
       order_of_one = λ ordered. no_sender_alone (first_order ordered refl).1;
       finds_what_nobody_left =
           λ ordered. orders_that_are_not.finds_what_nobody_left (reached_in_order (has_order ordered refl refl));

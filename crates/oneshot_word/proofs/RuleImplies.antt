@@ -2,30 +2,30 @@
 use Rattle.std.specs.Prelude.{◌≡◌, ℕ, Bool, true, false, List, [], Option, Some, None}
 use Rattle.oneshot_word.proofs.Names.{Noted, By, sending, dropping, SenderAt, fresh, owes, finished, late, overtaken, swapped, found_closed, closed_itself, ReceiverAt, first, here, claimed, withdrew}
 use Rattle.oneshot_word.proofs.Names.{overdue, full, unclosed, disconnected, resolved, gone, swapped_in, word_of, Message, FoundZero, MadeLast, MadeLate, stores_waker, is_overdue, is_gone}
-use Rattle.oneshot_word.proofs.Names.{wrote_since, Home, message_home, waker_home, Lies, AnyWaker, with_waker}
+use Rattle.oneshot_word.proofs.Names.{wrote_since, Home, message_home, waker_home, Lies, AnyWaker, with_waker, RECEIVING, UNPARKING, DISCONNECTED, EMPTY, MESSAGE}
 use Rattle.oneshot_machine.specs.Phases.{waits, ended}
 
 -- the word that the sender's final operation leaves, unless it is an add or a flip that found the receiver
 -- gone
 abbrev pub final_word : By → ℕ
-final_word sending = 4
-final_word dropping = 2
+final_word sending = MESSAGE
+final_word dropping = DISCONNECTED
 
 -- The word while the ends are in these phases, or none if they never are.
 abbrev pub word_between : SenderAt → ReceiverAt → Option ℕ
 -- the sender has performed no operation
-word_between fresh first = Some 3
-word_between fresh (here open_at) = Some 3
-word_between fresh (waits waiting) = Some 0
-word_between fresh withdrew = Some 3
-word_between fresh gone = Some 2
--- it found 0, and its final swap is to come
-word_between (owes by) (waits waiting) = Some 1
-word_between (owes by) claimed = Some 1
-word_between (owes by) overdue = Some 3
-word_between (owes by) gone = Some 2
--- its last operation found 2
-word_between (late by) gone = Some 3
+word_between fresh first = Some EMPTY
+word_between fresh (here open_at) = Some EMPTY
+word_between fresh (waits waiting) = Some RECEIVING
+word_between fresh withdrew = Some EMPTY
+word_between fresh gone = Some DISCONNECTED
+-- it found RECEIVING, and its final swap is to come
+word_between (owes by) (waits waiting) = Some UNPARKING
+word_between (owes by) claimed = Some UNPARKING
+word_between (owes by) overdue = Some EMPTY
+word_between (owes by) gone = Some DISCONNECTED
+-- its last operation found DISCONNECTED
+word_between (late by) gone = Some EMPTY
 word_between (overtaken by) gone = Some (final_word by)
 -- it has performed its last operation, and the receiver has performed none since
 word_between (finished by) first = Some (final_word by)
@@ -37,11 +37,11 @@ word_between (finished by) overdue = Some (final_word by)
 -- the receiver has performed one since
 word_between (finished sending) (full got) = Some (word_of got)
 word_between (finished dropping) (unclosed swapping) = Some (swapped_in swapping)
-word_between (finished dropping) (disconnected found_closed) = Some 2
-word_between (finished dropping) (resolved found_closed) = Some 2
-word_between (finished by) (disconnected closed_itself) = Some 2
-word_between (finished by) (resolved closed_itself) = Some 2
-word_between (finished by) ended = Some 2
+word_between (finished dropping) (disconnected found_closed) = Some DISCONNECTED
+word_between (finished dropping) (resolved found_closed) = Some DISCONNECTED
+word_between (finished by) (disconnected closed_itself) = Some DISCONNECTED
+word_between (finished by) (resolved closed_itself) = Some DISCONNECTED
+word_between (finished by) ended = Some DISCONNECTED
 -- never
 word_between _ _ = None
 
@@ -83,7 +83,7 @@ pub data SenderSays : List Noted → SenderAt → Type 0 where
   says_none : SenderSays [] fresh
   says_owes : {xs : List Noted} (by : By) → FoundZero by xs → SenderSays xs (owes by)
   says_last : {xs : List Noted} (by : By) → MadeLast by xs → SenderSays xs (finished by)
-  says_late : {xs : List Noted} (by : By) → MadeLate by 3 xs → SenderSays xs (late by)
+  says_late : {xs : List Noted} (by : By) → MadeLate by EMPTY xs → SenderSays xs (late by)
   says_overtaken : {xs : List Noted} (by : By) → MadeLate by (final_word by) xs → SenderSays xs (overtaken by)
 
 pub record ReceiverSays (ys : List Noted) (q : ReceiverAt) : Type 0 where

@@ -5,7 +5,7 @@ use mathlib.Core.Option as maybe
 use Rattle.oneshot_word.proofs.Names.{sym, ap, ◌∙◌, subst, Load, Add, Noted, has_made, nothing_made, sender_makes, receiver_makes, has_row, head, tail, View, both_views, ReceivedIsSent}
 use Rattle.oneshot_word.proofs.Names.{MessagesThatPass, MessagesThatDoNot, Home, has_message, lies_out, lies_bare, lies_filled, IsTaken, took_none, took_it, Tied, opened, dealt, runs, view, Swap}
 use Rattle.oneshot_word.proofs.Names.{Word, Reaches, AnyWaker, Share, Held, away, held, waker_of, with_waker, bare, has_waker, Lies, IsPut, IsClaimed, claimed_none, claimed_it, WokenIsPut}
-use Rattle.oneshot_word.proofs.Names.{WakersThatPass, WakersThatDoNot}
+use Rattle.oneshot_word.proofs.Names.{WakersThatPass, WakersThatDoNot, RECEIVING, EMPTY, MESSAGE}
 use Rattle.oneshot_word.specs.declared.any_waker.AnyWaker.TheVariants as R
 use Rattle.oneshot_word.specs.Examples.{waits}
 use Rattle.oneshot_word.proofs.SlotReads.{reads_back}
@@ -169,11 +169,11 @@ module _ {T P : Type 0} (H K : Type 0) (keeps : P → T → Type 0) where
         lies_and_none_gave = λ m tied. let is = lies_given tied refl refl in cc is;
       }
 
-  looks : Reaches [] ((Load, Word 3) ∷ []) 3
+  looks : Reaches [] ((Load, Word EMPTY) ∷ []) EMPTY
   looks = receiver_makes Load nothing_made (has_row head)
 
-  begins_to_wait : Reaches [] waits 0
-  begins_to_wait = receiver_makes (Swap 0) looks (has_row (tail (tail (tail head))))
+  begins_to_wait : Reaches [] waits RECEIVING
+  begins_to_wait = receiver_makes (Swap RECEIVING) looks (has_row (tail (tail (tail head))))
 
   pub wakers_that_pass : WakersThatPass H K keeps
   wakers_that_pass =
@@ -184,7 +184,7 @@ module _ {T P : Type 0} (H K : Type 0) (keeps : P → T → Type 0) where
             (claimed_it k refl refl);
         was_used = λ q m k kept.
             runs _ _
-            (sender_makes (Swap 4) (sender_makes Add begins_to_wait (has_row (tail head))) (has_row head))
+            (sender_makes (Swap MESSAGE) (sender_makes Add begins_to_wait (has_row (tail head))) (has_row head))
             (lies_filled m (kept, refl)) lies_bare took_none (claimed_it k refl refl);
       }
 

@@ -2,7 +2,8 @@
 use Rattle.std.proofs.Common.{◌≡◌, ℕ, Bool, true, false, [], ◌∷◌, Option, Some, refl, if◌then◌else◌}
 use Rattle.oneshot_word.proofs.Names.{ap, subst, TableId, Word, Load, Swap, Add, Reaches, nothing_made, sender_makes, receiver_makes, has_row, Held, vacant, held, head, tail, AnyWaker, Empty, Message}
 use Rattle.oneshot_word.proofs.Names.{Kept, Carries, MessagePart, WakerPart, received, SlotsAsSeen, SeatsThatAre, SeatsThatAreNot, Front, slot_vacant, slot_held, MessageSlot, WakerSlot, message_of}
-use Rattle.oneshot_word.proofs.Names.{not_carried, carried, message_first, waker_first, SeatOf, seat_of, has_given, gave_none, holds_no_slot, holds_it, claims_no_slot, claims_it}
+use Rattle.oneshot_word.proofs.Names.{not_carried, carried, message_first, waker_first, SeatOf, seat_of, has_given, gave_none, holds_no_slot, holds_it, claims_no_slot, claims_it, RECEIVING, UNPARKING}
+use Rattle.oneshot_word.proofs.Names.{EMPTY, MESSAGE}
 use Rattle.oneshot_word.specs.declared.any_waker.AnyWaker.TheVariants as R
 use Rattle.oneshot_word.specs.declared.rule.Role.TheVariants.{Sender, Receiver}
 use Rattle.oneshot_word.specs.SeatExamples.{claims}
@@ -27,17 +28,18 @@ slots_as_seen =
     }
 
 -- orders with these logs
-looks : Reaches [] ((Load, Word 3) ∷ []) 3
+looks : Reaches [] ((Load, Word EMPTY) ∷ []) EMPTY
 looks = receiver_makes Load nothing_made (has_row head)
 
-sends : Reaches ((Add, Word 3) ∷ []) [] 4
+sends : Reaches ((Add, Word EMPTY) ∷ []) [] MESSAGE
 sends = sender_makes Add nothing_made (has_row head)
 
-receives : Reaches ((Add, Word 3) ∷ []) received 4
+receives : Reaches ((Add, Word EMPTY) ∷ []) received MESSAGE
 receives = receiver_makes Load sends (has_row (tail head))
 
-finds : Reaches claims ((Load, Word 3) ∷ (Swap 0, Word 3) ∷ []) 1
-finds = sender_makes Add (receiver_makes (Swap 0) looks (has_row (tail (tail (tail head))))) (has_row (tail head))
+finds : Reaches claims ((Load, Word EMPTY) ∷ (Swap RECEIVING, Word EMPTY) ∷ []) UNPARKING
+finds =
+    sender_makes Add (receiver_makes (Swap RECEIVING) looks (has_row (tail (tail (tail head))))) (has_row (tail head))
 
 pub seats_that_are : SeatsThatAre
 seats_that_are =

@@ -2,15 +2,15 @@
 use Rattle.std.proofs.Common.{◌≡◌, ℕ, List, [], ◌∷◌, Option, None}
 use mathlib.Core.Option as maybe
 use Rattle.oneshot_word.proofs.Names.{zero, suc, sym, ap, subst, some-injective, some-ne-none, get_elem?, Noted, Reaches, sender_at, receiver_at, Role, Maker, Dealer, Message, View, Home, out, bare}
-use Rattle.oneshot_word.proofs.Names.{message_home, waker_home, Lies, IsGiven, IsTaken, Tied, opened, dealt, runs, view, AnyWaker, IsPut, IsClaimed, with_waker}
+use Rattle.oneshot_word.proofs.Names.{message_home, waker_home, Lies, IsGiven, IsTaken, Tied, opened, dealt, runs, view, AnyWaker, IsPut, IsClaimed, with_waker, EMPTY}
 use Rattle.oneshot_word.specs.declared.rule.Role.TheVariants.{Sender, Receiver}
 
 module _ {T H K P : Type 0} (keeps : P → T → Type 0) where
   -- a seat of the table, with the role, the log, the passed message and the passed waker of its view
   pub data Sits (q : P) : List ℕ → List (Home T H K) → List (View T H K P) → ℕ → Role → List Noted → Option T
       → Option (AnyWaker H K) → Type 0 where
-    maker_sits : Sits q (3 ∷ []) (bare ∷ bare ∷ []) (view q Maker [] None None ∷ []) 0 Maker [] None None
-    dealer_sits : Sits q (3 ∷ []) (out ∷ bare ∷ []) (view q Dealer [] None None ∷ []) 0 Dealer [] None None
+    maker_sits : Sits q (EMPTY ∷ []) (bare ∷ bare ∷ []) (view q Maker [] None None ∷ []) 0 Maker [] None None
+    dealer_sits : Sits q (EMPTY ∷ []) (out ∷ bare ∷ []) (view q Dealer [] None None ∷ []) 0 Dealer [] None None
     sender_sits : {w : ℕ} {h k : Home T H K} {xs : List Noted} {given : Option T} {woke : Option (AnyWaker H K)}
         (ys : List Noted) (taken : Option T) (put : Option (AnyWaker H K))
         → Reaches xs ys w
@@ -33,10 +33,10 @@ module _ {T H K P : Type 0} {keeps : P → T → Type 0} where
       {passed : Option T} {handed : Option (AnyWaker H K)} → Tied keeps q ws hs vs → (id : ℕ)
       → get_elem? vs id ≡ maybe.some (view q r xs passed handed) → Sits keeps q ws hs vs id r xs passed handed
   sits {q} opened zero at =
-      subst (λ (v : View T H K P). Sits {T = T} {H = H} {K = K} keeps q (3 ∷ []) (bare ∷ bare ∷ [])
+      subst (λ (v : View T H K P). Sits {T = T} {H = H} {K = K} keeps q (EMPTY ∷ []) (bare ∷ bare ∷ [])
       (view q Maker [] None None ∷ []) 0 v.role v.log v.passed v.handed) (some-injective _ _ at) maker_sits
   sits {q} dealt zero at =
-      subst (λ (v : View T H K P). Sits {T = T} {H = H} {K = K} keeps q (3 ∷ []) (out ∷ bare ∷ [])
+      subst (λ (v : View T H K P). Sits {T = T} {H = H} {K = K} keeps q (EMPTY ∷ []) (out ∷ bare ∷ [])
       (view q Dealer [] None None ∷ []) 0 v.role v.log v.passed v.handed) (some-injective _ _ at) dealer_sits
   sits {q} (runs {w} {h} {k} xs ys {given} {taken} {put} {woke} order lies lies' same claimed) zero at =
       subst (λ (v : View T H K P). Sits {T = T} {H = H} {K = K} keeps q (w ∷ []) (h ∷ k ∷ [])

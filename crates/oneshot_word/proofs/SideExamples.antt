@@ -1,7 +1,7 @@
 -- The examples of sides: each by its row of the table, and what the counterexamples lack.
 use Rattle.std.proofs.Common.{◌≡◌, ℕ, List, [], Some, None, refl}
 use Rattle.oneshot_word.proofs.Names.{get_or, ap, TableId, Seen, Done, Word, Add, Noted, no_slot, room, has, slots_that_are, slots_that_are_not, sent_at_once, Held, held, SidesThatAre}
-use Rattle.oneshot_word.proofs.Names.{SidesThatAreNot}
+use Rattle.oneshot_word.proofs.Names.{SidesThatAreNot, RECEIVING, EMPTY}
 use Rattle.oneshot_word.specs.SeatExamples.{claims, looked}
 
 -- a slot holds one thing
@@ -118,7 +118,7 @@ sides_that_are_not =
       becomes_about_another = λ did. let is : 8 ≡ 7 = did.about in cc is;
       moves_to_another = λ did. let is : 6 ≡ 5 = ap block did.table in cc is;
       is_not_logged = λ did. let is : [] ≡ sent_at_once = did.list in cc is;
-      logs_another_word = λ did. let is : Word 0 ≡ Word 3 = ap first_seen did.list in cc is;
+      logs_another_word = λ did. let is : Word RECEIVING ≡ Word EMPTY = ap first_seen did.list in cc is;
       keeps_its_message = λ did. slots_that_are_not.sends_and_keeps did.finds;
       gives_none = λ did. let is : None ≡ Some 7 = did.passed in cc is;
       gives_another = λ did. let is : Some 8 ≡ Some 7 = did.passed in cc is;

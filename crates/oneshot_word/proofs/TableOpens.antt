@@ -2,7 +2,7 @@
 use Rattle.std.proofs.Common.{◌≡◌, ℕ, List, [], ◌∷◌, None, refl}
 use Rattle.oneshot_word.proofs.Names.{◌++◌, get_or, set, sym, subst, Me, Act, takes, Valid, Allows, Splits, homes_after, carried_after, nothing_made, Maker, Dealer, Slot, Empty, View, Home, lies_out}
 use Rattle.oneshot_word.proofs.Names.{lies_bare, took_none, claimed_none, Tied, dealt, runs, view, slot_vacant, carried, not_carried, seat_of, gave_none, holds_no_slot, claims_no_slot, SenderSeat}
-use Rattle.oneshot_word.proofs.Names.{ReceiverSeat}
+use Rattle.oneshot_word.proofs.Names.{ReceiverSeat, EMPTY}
 use Rattle.oneshot_word.specs.declared.rule.Role.TheVariants.{Sender, Receiver}
 use Rattle.oneshot_word.proofs.SeatShows.{Sits, maker_sits, dealer_sits, sits}
 use Rattle.oneshot_word.proofs.EachStep.{Holds}
@@ -48,7 +48,7 @@ module _ {T H K P : Type 0} (keeps : P → T → Type 0) (q : P) where
         has = seat_of (carried slot_vacant) not_carried;
         passed = gave_none;
         handed = claims_no_slot;
-        ordered = ([], 3, nothing_made);
+        ordered = ([], EMPTY, nothing_made);
       }
 
   pub receiver_seated : ReceiverSeat {T = T} {H = H} {K = K} keeps (view q Receiver [] None None, [])
@@ -58,5 +58,5 @@ module _ {T H K P : Type 0} (keeps : P → T → Type 0) (q : P) where
         has = seat_of not_carried not_carried;
         passed = holds_no_slot;
         handed = tt;
-        ordered = ([], 3, nothing_made);
+        ordered = ([], EMPTY, nothing_made);
       }

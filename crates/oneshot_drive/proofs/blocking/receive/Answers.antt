@@ -1,5 +1,5 @@
 -- Proofs of the goals that `receive` leaves.
-use Rattle.oneshot_drive.proofs.Names.{rules, refl, sym, ◌∙◌, Store, receiver_of, disconnected, closed_itself, filled, empty, StandsWith, by_ref, is_in}
+use Rattle.oneshot_drive.proofs.Names.{rules, refl, sym, ◌∙◌, Store, receiver_of, disconnected, closed_itself, filled, empty, StandsWith, by_ref, is_in, DISCONNECTED}
 use Rattle.oneshot_drive.proofs.AfterOperations.{asks, took_message}
 use Rattle.oneshot_drive.proofs.RestLoads.{rests_over}
 use Rattle.oneshot_drive.proofs.Receives.{full_asks, ended_full, full_ran, full_leaves, shut, shut_ran, over_leaves, out_rests, out_leaves, hands, out_hands}
@@ -59,7 +59,8 @@ returns-in-Closed g c =
     }
 
 pub store-requires-in-Unclosed : goal.store-requires-in-Unclosed
-store-requires-in-Unclosed g c = (let ends = rw c.in-Unclosed.is at c.find.ensures.ends in asks (Store 2) ends.1 refl)
+store-requires-in-Unclosed g c =
+    (let ends = rw c.in-Unclosed.is at c.find.ensures.ends in asks (Store DISCONNECTED) ends.1 refl)
 
 pub returns-in-Unclosed : goal.returns-in-Unclosed
 returns-in-Unclosed g c =

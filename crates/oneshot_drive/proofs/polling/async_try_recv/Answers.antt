@@ -1,5 +1,5 @@
 -- Proofs of the goals that `async_try_recv` leaves.
-use Rattle.oneshot_drive.proofs.Names.{rules, Ok, refl, StandsIn, LeavesTried, is_in, async_try_recv_few}
+use Rattle.oneshot_drive.proofs.Names.{rules, Ok, refl, StandsIn, LeavesTried, is_in, async_try_recv_few, MESSAGE}
 use Rattle.oneshot_drive.proofs.AfterOperations.{Came, took_message}
 use Rattle.oneshot_drive.proofs.RestLoads.{never, closed_finds}
 use Rattle.oneshot_drive.proofs.Receives.{full_asks, closed_over}
@@ -43,7 +43,7 @@ returns-in-4 g c =
       run = run;
       rests = tried_rests ends;
       leaves = tried_leaves ends;
-      stays = λ is_closed. never 4 refl c.in-4.is is_closed c.load.ensures.finds;
+      stays = λ is_closed. never MESSAGE refl c.in-4.is is_closed c.load.ensures.finds;
       bounded = async_try_recv_few run;
       registered = search rules;
       wakers = words_alone c.load.result c.store.result c.take_message.result c.load.ensures.log c.store.ensures.log

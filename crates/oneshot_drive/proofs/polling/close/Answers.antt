@@ -1,5 +1,5 @@
 -- Proofs of the goals that `close` leaves.
-use Rattle.oneshot_drive.proofs.Names.{rules, refl, ◌∙◌, [], ◌∷◌, did, AsyncDrop, AsyncSwap, is_in, is_room}
+use Rattle.oneshot_drive.proofs.Names.{rules, refl, ◌∙◌, [], ◌∷◌, did, AsyncDrop, AsyncSwap, is_in, is_room, DISCONNECTED, MESSAGE}
 use Rattle.oneshot_machine.specs.declared.machine.Step.TheVariants as Steps
 use Rattle.oneshot_drive.proofs.LastSwap.{swapped_full, swapped_over, swapped_open, swapped_none, row_at, dropped_message, dropped_open, dropped_last}
 use Rattle.oneshot_drive.specs.BetweenCalls.{HasLeft}
@@ -20,12 +20,12 @@ free-requires-in-2-clause-waker g c = is_room (swapped_over c.swap.ensures.finds
 
 pub returns-in-4-clause-run : goal.returns-in-4-clause-run
 returns-in-4-clause-run g c =
-    dropped_message (AsyncDrop AsyncSwap) refl c.swap.result (row_at (AsyncDrop AsyncSwap) 4 refl c.in-4.is)
+    dropped_message (AsyncDrop AsyncSwap) refl c.swap.result (row_at (AsyncDrop AsyncSwap) MESSAGE refl c.in-4.is)
     c.swap.ensures.log c.drop_message.ensures.log c.free.ensures.log
 
 pub returns-in-2-clause-run : goal.returns-in-2-clause-run
 returns-in-2-clause-run g c =
-    dropped_last (AsyncDrop AsyncSwap) refl c.swap.result (row_at (AsyncDrop AsyncSwap) 2 refl c.in-2.is)
+    dropped_last (AsyncDrop AsyncSwap) refl c.swap.result (row_at (AsyncDrop AsyncSwap) DISCONNECTED refl c.in-2.is)
     c.swap.ensures.log c.free-in-2.ensures.log
 
 pub returns-in-1-clause-run : goal.returns-in-1-clause-run

@@ -1,6 +1,6 @@
 -- Proofs of the goals that `leave_again` leaves.
 use Rattle.oneshot_drive.proofs.Names.{◌≡◌, ℕ, Some, rules, refl, subst, Exchange, Future, AgainCopy, AgainExchange, Path, Found, poll_end, EndsPoll, receiver_of, receiver_row, receiver_moves, waits}
-use Rattle.oneshot_drive.proofs.Names.{again, landings, leaves_its_copy, leaves_claimed, is_in}
+use Rattle.oneshot_drive.proofs.Names.{again, landings, leaves_its_copy, leaves_claimed, is_in, RECEIVING, DISCONNECTED, EMPTY, MESSAGE}
 use Rattle.oneshot_machine.specs.declared.machine.Seen.TheVariants.{Word}
 use Rattle.oneshot_drive.specs.declared.found.Found.TheVariants as F
 use Rattle.oneshot_drive.specs.Polls.{WritesItsCopy}
@@ -26,13 +26,13 @@ returns-in_default g c =
 
 pub exchange-requires : goal.exchange-requires
 exchange-requires g c =
-    asks (Exchange 0 3) (copied_on c.copy.result c.requires.open c.copy.ensures.log c.copy.ensures.message
+    asks (Exchange RECEIVING EMPTY) (copied_on c.copy.result c.requires.open c.copy.ensures.log c.copy.ensures.message
     c.copy.ensures.waker) refl
 
 -- where the exchange leads
 backed : (g : given.Over) (c : After-exchange g)
     → Lands receiver_of c.exchange.result (g.G.ReceiverGround.state c.exchange.new.self)
-    (landings (Exchange 0 3) (receiver_moves (waits again)))
+    (landings (Exchange RECEIVING EMPTY) (receiver_moves (waits again)))
 backed g c =
     again_backed c.copy.result c.exchange.result c.requires.open c.copy.ensures.log c.copy.ensures.message
     c.copy.ensures.waker c.exchange.ensures.finds c.exchange.ensures.log
@@ -89,12 +89,12 @@ returns-in-0 g c =
 pub returns-in-4 : goal.returns-in-4
 returns-in-4 g c =
     let c' = (goal.at.returns-in-4 g c).After-exchange in
-    ended g c' 4 F.Message refl c.in-4.is (λ e. cc) (backed_full (backed g c') c.in-4.is)
+    ended g c' MESSAGE F.Message refl c.in-4.is (λ e. cc) (backed_full (backed g c') c.in-4.is)
 
 pub returns-in-2 : goal.returns-in-2
 returns-in-2 g c =
     let c' = (goal.at.returns-in-2 g c).After-exchange in
-    ended g c' 2 F.Closed refl c.in-2.is (λ e. cc) (backed_none (backed g c') c.in-2.is)
+    ended g c' DISCONNECTED F.Closed refl c.in-2.is (λ e. cc) (backed_none (backed g c') c.in-2.is)
 
 pub returns-in-1 : goal.returns-in-1
 returns-in-1 g c =

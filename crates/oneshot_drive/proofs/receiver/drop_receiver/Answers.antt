@@ -1,5 +1,5 @@
 -- Proofs of the goals that `drop_receiver` leaves.
-use Rattle.oneshot_drive.proofs.Names.{rules, refl, ◌∙◌, [], ◌∷◌, did, DropSwap, is_in, is_room}
+use Rattle.oneshot_drive.proofs.Names.{rules, refl, ◌∙◌, [], ◌∷◌, did, DropSwap, is_in, is_room, DISCONNECTED, EMPTY, MESSAGE}
 use Rattle.oneshot_machine.specs.declared.machine.Step.TheVariants as Steps
 use Rattle.oneshot_machine.specs.declared.machine.receiver.ReceiverPos.TheVariants.{Drop}
 use Rattle.oneshot_drive.proofs.RestLoads.{swap_asks}
@@ -25,16 +25,18 @@ free-requires-in-2-clause-waker g c = is_room (swapped_over c.swap.ensures.finds
 
 pub returns-in-4-clause-run : goal.returns-in-4-clause-run
 returns-in-4-clause-run g c =
-    dropped_message (Drop DropSwap) refl c.swap.result (row_at (Drop DropSwap) 4 refl c.in-4.is) c.swap.ensures.log
+    dropped_message (Drop DropSwap) refl c.swap.result
+    (row_at (Drop DropSwap) MESSAGE refl c.in-4.is) c.swap.ensures.log
     c.drop_message.ensures.log c.free.ensures.log
 
 pub returns-in-3-clause-run : goal.returns-in-3-clause-run
 returns-in-3-clause-run g c =
-    dropped_open (Drop DropSwap) refl c.swap.result (row_at (Drop DropSwap) 3 refl c.in-3.is) c.swap.ensures.log
+    dropped_open (Drop DropSwap) refl c.swap.result (row_at (Drop DropSwap) EMPTY refl c.in-3.is) c.swap.ensures.log
 
 pub returns-in-2-clause-run : goal.returns-in-2-clause-run
 returns-in-2-clause-run g c =
-    dropped_last (Drop DropSwap) refl c.swap.result (row_at (Drop DropSwap) 2 refl c.in-2.is) c.swap.ensures.log
+    dropped_last (Drop DropSwap) refl c.swap.result
+    (row_at (Drop DropSwap) DISCONNECTED refl c.in-2.is) c.swap.ensures.log
     c.free-in-2.ensures.log
 
 pub returns-in-4-clause-left : goal.returns-in-4-clause-left

@@ -1,5 +1,5 @@
 -- Proofs of the goals that `try_recv` leaves.
-use Rattle.oneshot_drive.proofs.Names.{rules, refl, Store, is_in, try_recv_few}
+use Rattle.oneshot_drive.proofs.Names.{rules, refl, Store, is_in, try_recv_few, DISCONNECTED, EMPTY, MESSAGE}
 use Rattle.oneshot_drive.proofs.AfterOperations.{Came, asks, took_message}
 use Rattle.oneshot_drive.proofs.RestLoads.{Looked, load_asks, loaded, loaded_full, loaded_open, loaded_closed, loaded_none, closed, rests_over, rests_here, took_leaves, open_leaves, closed_leaves}
 use Rattle.oneshot_drive.proofs.RestLoads.{took_ran, empty_ran, gone_ran, never}
@@ -16,7 +16,7 @@ looked g c = loaded c.load.result c.requires c.load.ensures.finds c.load.ensures
 
 pub store-requires : goal.store-requires
 store-requires g c =
-    asks (Store 2) (loaded_full (looked g (goal.at.store-requires g c).After-load) c.in-4.is) refl
+    asks (Store DISCONNECTED) (loaded_full (looked g (goal.at.store-requires g c).After-load) c.in-4.is) refl
 
 pub take_message-requires : goal.take_message-requires
 take_message-requires g c =
@@ -35,7 +35,7 @@ returns-in-4 g c =
       run = run;
       rests = rests_over over;
       leaves = took_leaves c.take_message.result over;
-      stays = λ is_closed. never 4 refl c.in-4.is is_closed c.load.ensures.finds;
+      stays = λ is_closed. never MESSAGE refl c.in-4.is is_closed c.load.ensures.finds;
       bounded = try_recv_few run;
       given = g.G.ReceiverGround.gives_on _ _ _ kept c.take_message.ensures.given;
       had = c.take_message.ensures.had;
@@ -50,7 +50,7 @@ returns-in-3 g c =
       run = run;
       rests = rests_here here;
       leaves = open_leaves here;
-      stays = λ is_closed. never 3 refl c.in-3.is is_closed c.load.ensures.finds;
+      stays = λ is_closed. never EMPTY refl c.in-3.is is_closed c.load.ensures.finds;
       bounded = try_recv_few run;
       given = search rules;
       had = search rules;

@@ -1,5 +1,5 @@
 -- Proofs of the goals that `find` leaves.
-use Rattle.oneshot_drive.proofs.Names.{rules, refl, at_once, returned}
+use Rattle.oneshot_drive.proofs.Names.{rules, refl, at_once, returned, EMPTY, MESSAGE}
 use Rattle.oneshot_drive.proofs.RestLoads.{load_asks, loaded, loaded_full, loaded_open, loaded_closed, loaded_none, never}
 use Rattle.oneshot_drive.proofs.StoredWaker.{full_at_once, found_none, over_at_once, ready_waker}
 use Rattle.oneshot_drive.proofs.waiting.find.Goals as goal
@@ -13,7 +13,7 @@ returns-in-4 g c =
     record {
       path = λ way. full_at_once way c.load.result c.in-4.is c.load.ensures.log;
       ends = (at_once, refl, full);
-      stays = λ is_closed. never 4 refl c.in-4.is is_closed c.load.ensures.finds;
+      stays = λ is_closed. never MESSAGE refl c.in-4.is is_closed c.load.ensures.finds;
       hand = returned c.args.hand.now;
       has = g.G.ReceiverGround.has_on _ _ _ c.load.ensures.keeps c.requires.has;
       keeps = c.load.ensures.keeps;
@@ -32,7 +32,7 @@ returns-in-3-clause-path g c way =
     found_none way c.load.result c.in-3.is c.load.ensures.log (c.store_and_wait.ensures.path way)
 
 pub returns-in-3-clause-stays : goal.returns-in-3-clause-stays
-returns-in-3-clause-stays g c is_closed = never 3 refl c.in-3.is is_closed c.load.ensures.finds
+returns-in-3-clause-stays g c is_closed = never EMPTY refl c.in-3.is is_closed c.load.ensures.finds
 
 pub returns-in-3-clause-keeps : goal.returns-in-3-clause-keeps
 returns-in-3-clause-keeps g c =

@@ -1,11 +1,11 @@
 -- Proofs of the goals that `stop` leaves.
-use Rattle.oneshot_drive.proofs.Names.{rules, refl, sym, subst, Swap, is_in}
+use Rattle.oneshot_drive.proofs.Names.{rules, refl, sym, subst, Swap, is_in, DISCONNECTED, EMPTY, MESSAGE}
 use Rattle.oneshot_drive.proofs.AfterOperations.{asks}
 use Rattle.oneshot_drive.proofs.Waits.{stopped, stopped_open, stopped_full, stopped_over, stopped_late, stopped_none, withdrew_nothing, stops_to, nothing_path, late_path}
 use Rattle.oneshot_drive.proofs.waiting.stop.Goals as goal
 
 pub swap-requires : goal.swap-requires
-swap-requires g c = asks (Swap 3) c.requires.waits refl
+swap-requires g c = asks (Swap EMPTY) c.requires.waits refl
 
 pub withdraw-requires : goal.withdraw-requires
 withdraw-requires g c =
@@ -25,14 +25,14 @@ pub returns-in-0-clause-hand : goal.returns-in-0-clause-hand
 returns-in-0-clause-hand g c = (c.withdraw.result, refl)
 
 pub returns-in-4-clause-path : goal.returns-in-4-clause-path
-returns-in-4-clause-path g c = stops_to _ c.swap.result 4 refl c.in-4.is c.swap.ensures.log
+returns-in-4-clause-path g c = stops_to _ c.swap.result MESSAGE refl c.in-4.is c.swap.ensures.log
 
 pub returns-in-4-clause-ends : goal.returns-in-4-clause-ends
 returns-in-4-clause-ends g c =
     stopped_full (stopped c.swap.result c.requires.waits c.swap.ensures.finds c.swap.ensures.log) c.in-4.is
 
 pub returns-in-2-clause-path : goal.returns-in-2-clause-path
-returns-in-2-clause-path g c = stops_to _ c.swap.result 2 refl c.in-2.is c.swap.ensures.log
+returns-in-2-clause-path g c = stops_to _ c.swap.result DISCONNECTED refl c.in-2.is c.swap.ensures.log
 
 pub returns-in-2-clause-ends : goal.returns-in-2-clause-ends
 returns-in-2-clause-ends g c =

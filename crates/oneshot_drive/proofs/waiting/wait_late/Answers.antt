@@ -1,5 +1,5 @@
 -- Proofs of the goals that `wait_late` leaves.
-use Rattle.oneshot_drive.proofs.Names.{◌≡◌, ℕ, true, refl, rules, Found, Timed, LatePark, Path, ref_end, EndsAt}
+use Rattle.oneshot_drive.proofs.Names.{◌≡◌, ℕ, true, refl, rules, Found, Timed, LatePark, Path, ref_end, EndsAt, EMPTY}
 use Rattle.oneshot_drive.proofs.Stretches.{begun}
 use Rattle.oneshot_drive.proofs.Waits.{may_park_late, parked_asks, woke, Decides, by_message, by_end, ended_at, ended_again, ended_none, late_decided, late_to}
 use Rattle.oneshot_drive.proofs.waiting.wait_late.Given as given
@@ -57,7 +57,8 @@ loop-preserved g c =
     record {
       can_next = tt;
       is_finite = tt;
-      path = late_to _ c.load.result 3 refl c.in-3.is c.loop.invariant.path c.park.ensures.log.0 c.park.ensures.log.1
+      path =
+          late_to _ c.load.result EMPTY refl c.in-3.is c.loop.invariant.path c.park.ensures.log.0 c.park.ensures.log.1
           c.load.ensures.log;
       overdue = again;
       keeps = on _ _ _ c.loop.invariant.keeps (on _ _ _ c.park.ensures.keeps c.load.ensures.keeps);

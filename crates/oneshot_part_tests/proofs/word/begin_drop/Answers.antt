@@ -1,6 +1,7 @@
 -- Proofs of the goals that `begin_drop` leaves.
 use Rattle.std.proofs.Common.{rules}
 use Rattle.oneshot_machine.specs.declared.states.Op.TheVariants.{Swap, Xor}
+use Rattle.oneshot_machine.specs.declared.states.TheConstants.{DISCONNECTED}
 use Rattle.oneshot_machine.specs.Slots.{vacant, is_away, is_vacant, head, tail, may}
 use Rattle.oneshot_part_tests.proofs.Shown.{sender_can, sender_changed, begins_fresh, finds_waker}
 use Rattle.oneshot_part_tests.proofs.word.begin_drop.Goals as goal
@@ -20,5 +21,5 @@ pub returns : goal.returns
 returns g c =
     let is = begins_fresh c.args.sender.now c.requires.0 c.requires.1 c.peek.ensures.slots in
     let it = finds_waker Xor is c.flip-found.ensures (search rules) in
-    sender_can (Swap 2) (sender_changed _ c.take_waker.new.self vacant it.1 c.take_waker.ensures.rest)
+    sender_can (Swap DISCONNECTED) (sender_changed _ c.take_waker.new.self vacant it.1 c.take_waker.ensures.rest)
     (may head is_vacant is_vacant)

@@ -1,6 +1,7 @@
 -- Proofs of the goals that `begin_send` leaves.
 use Rattle.std.proofs.Common.{rules, ◌≡◌, ap, ◌∙◌}
 use Rattle.oneshot_machine.specs.declared.states.Op.TheVariants.{Swap, Add}
+use Rattle.oneshot_machine.specs.declared.states.TheConstants.{MESSAGE}
 use Rattle.oneshot_machine.specs.Phases.{fresh, sender_at}
 use Rattle.oneshot_machine.specs.Slots.{away, vacant, held, is_away, is_vacant, is_held, head, may, SenderOwns}
 use Rattle.oneshot_part_tests.proofs.Shown.{Plain, SenderIs, sender_can, sender_changed, begins_fresh, finds_waker}
@@ -32,5 +33,5 @@ returns g c =
     let is = writes c.args.sender.now c.write_message.new.self c.args.message c.requires.0 c.write_message.ensures
     c.peek.ensures.slots in
     let it = finds_waker Add is c.add-found.ensures (search rules) in
-    sender_can (Swap 4) (sender_changed _ c.take_waker.new.self vacant it.1 c.take_waker.ensures.rest)
+    sender_can (Swap MESSAGE) (sender_changed _ c.take_waker.new.self vacant it.1 c.take_waker.ensures.rest)
     (may head (is_held c.args.message) is_vacant)

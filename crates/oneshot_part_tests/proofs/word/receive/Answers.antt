@@ -1,6 +1,7 @@
 -- Proofs of the goals that `receive` leaves.
 use Rattle.std.proofs.Common.{rules}
 use Rattle.oneshot_machine.specs.declared.states.Op.TheVariants.{Store}
+use Rattle.oneshot_machine.specs.declared.states.TheConstants.{DISCONNECTED, MESSAGE}
 use Rattle.oneshot_part_tests.proofs.Shown.{receiver_can, receiver_told, closes, keeps_message}
 use Rattle.oneshot_part_tests.proofs.LoadedMessage.{gets}
 use Rattle.oneshot_part_tests.proofs.word.receive.Goals as goal
@@ -11,9 +12,9 @@ load-found-requires g c = c.requires
 pub store-found-requires : goal.store-found-requires
 store-found-requires g c =
     let it = gets c.load-found.ensures (search rules) in
-    receiver_can (Store 2) it.2 (closes it.0 it.1)
+    receiver_can (Store DISCONNECTED) it.2 (closes it.0 it.1)
 
 pub take_message-requires : goal.take_message-requires
 take_message-requires g c =
     let it = gets c.load-found.ensures (search rules) in
-    (it.1, keeps_message (receiver_told (Store 2) 4 it.2 c.store-found.ensures (search rules)))
+    (it.1, keeps_message (receiver_told (Store DISCONNECTED) MESSAGE it.2 c.store-found.ensures (search rules)))

@@ -1,6 +1,7 @@
 -- Proofs of the goals that `stop` leaves.
 use Rattle.std.proofs.Common.{rules, ◌≡◌, ℕ, refl}
 use Rattle.oneshot_machine.specs.declared.states.Op.TheVariants.{Load, Swap}
+use Rattle.oneshot_machine.specs.declared.states.TheConstants.{RECEIVING, EMPTY}
 use Rattle.oneshot_machine.specs.Phases.{blocked, waits, here, between, receiver_at}
 use Rattle.oneshot_machine.specs.Slots.{Held, away, vacant, held, is_away, is_vacant, stays_away, stays_vacant, gets_thing, head, tail, may, finds, ReceiverFinds}
 use Rattle.oneshot_word.specs.Side.{ReceiverDid}
@@ -8,7 +9,7 @@ use Rattle.oneshot_part_tests.proofs.Shown.{Plain, stops_only, ReceiverIs, recei
 use Rattle.oneshot_part_tests.proofs.word.stop.Goals as goal
 
 module _ {T W : Type 0} where
-  found_waiting : {m m' : Held T} {w w' : Held W} → ReceiverFinds (waits blocked) (Swap 3) 0 m w m' w'
+  found_waiting : {m m' : Held T} {w w' : Held W} → ReceiverFinds (waits blocked) (Swap EMPTY) RECEIVING m w m' w'
       → (k : W) × (m' ≡ away) × (w' ≡ held k)
   found_waiting (finds (tail (tail (tail (tail head)))) stays_away (gets_thing k)) = (k, refl, refl)
   found_waiting (finds (tail (tail (tail (tail (tail (tail (tail (tail there)))))))) _ _) = elim there [ ]
@@ -17,14 +18,16 @@ module _ {T W : Type 0} where
   found_none (finds head stays_away stays_vacant) = refl
   found_none (finds (tail (tail (tail (tail (tail (tail there)))))) _ _) = elim there [ ]
 
-  stops : {s t : Plain T W} {found : ℕ} → receiver_at s.log ≡ waits blocked → ReceiverDid s (Swap 3) found t
-      → found ≡ 0 → (k : W) × ReceiverIs t (here between) away (held k)
+  stops : {s t : Plain T W} {found : ℕ} → receiver_at s.log ≡ waits blocked → ReceiverDid s (Swap EMPTY) found t
+      → found ≡ RECEIVING → (k : W) × ReceiverIs t (here between) away (held k)
   stops {s} at did same =
-      let it = found_waiting (receiver_told (Swap 3) 0 (receiver_is s at) did same) in
-      (it.0, record { at = receiver_went (Swap 3) 0 (receiver_is s at) did same; message = it.1; waker = it.2 })
+      let it = found_waiting (receiver_told (Swap EMPTY) RECEIVING (receiver_is s at) did same) in (
+        it.0,
+        record { at = receiver_went (Swap EMPTY) RECEIVING (receiver_is s at) did same; message = it.1; waker = it.2 },
+      )
 
-  takes : {s t u : Plain T W} {found : ℕ} → receiver_at s.log ≡ waits blocked → ReceiverDid s (Swap 3) found t
-      → found ≡ 0 → u ≡ record t { waker = vacant } → ReceiverIs u (here between) away vacant
+  takes : {s t u : Plain T W} {found : ℕ} → receiver_at s.log ≡ waits blocked → ReceiverDid s (Swap EMPTY) found t
+      → found ≡ RECEIVING → u ≡ record t { waker = vacant } → ReceiverIs u (here between) away vacant
   takes {t} {u} at did same e = receiver_changed t u vacant (stops at did same).1 e
 
 pub take_waker-waker-requires : goal.take_waker-waker-requires

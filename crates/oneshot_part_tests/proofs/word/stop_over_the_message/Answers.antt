@@ -1,6 +1,7 @@
 -- Proofs of the goals that `stop_over_the_message` leaves.
 use Rattle.std.proofs.Common.{rules, ◌≡◌, ℕ, refl}
 use Rattle.oneshot_machine.specs.declared.states.Op.TheVariants.{Store, Swap}
+use Rattle.oneshot_machine.specs.declared.states.TheConstants.{DISCONNECTED, EMPTY, MESSAGE}
 use Rattle.oneshot_machine.specs.Phases.{blocked, waits, stopping, swapped, full, receiver_at}
 use Rattle.oneshot_machine.specs.Slots.{Held, vacant, held, gets_thing, gets_room, head, tail, finds, ReceiverFinds}
 use Rattle.oneshot_word.specs.Side.{ReceiverDid}
@@ -8,23 +9,25 @@ use Rattle.oneshot_part_tests.proofs.Shown.{Plain, stops_only, ReceiverIs, recei
 use Rattle.oneshot_part_tests.proofs.word.stop_over_the_message.Goals as goal
 
 module _ {T W : Type 0} where
-  found_message : {m m' : Held T} {w w' : Held W} → ReceiverFinds (waits blocked) (Swap 3) 4 m w m' w'
+  found_message : {m m' : Held T} {w w' : Held W} → ReceiverFinds (waits blocked) (Swap EMPTY) MESSAGE m w m' w'
       → (x : T) × (m' ≡ held x) × (w' ≡ vacant)
   found_message (finds (tail (tail (tail (tail (tail (tail head)))))) (gets_thing x) gets_room) = (x, refl, refl)
   found_message (finds (tail (tail (tail (tail (tail (tail (tail (tail there)))))))) _ _) = elim there [ ]
 
-  stops : {s t : Plain T W} {found : ℕ} → receiver_at s.log ≡ waits blocked → ReceiverDid s (Swap 3) found t
-      → found ≡ 4 → (x : T) × ReceiverIs t (full (swapped stopping)) (held x) vacant
+  stops : {s t : Plain T W} {found : ℕ} → receiver_at s.log ≡ waits blocked → ReceiverDid s (Swap EMPTY) found t
+      → found ≡ MESSAGE → (x : T) × ReceiverIs t (full (swapped stopping)) (held x) vacant
   stops {s} at did same =
-      let it = found_message (receiver_told (Swap 3) 4 (receiver_is s at) did same) in
-      (it.0, record { at = receiver_went (Swap 3) 4 (receiver_is s at) did same; message = it.1; waker = it.2 })
+      let it = found_message (receiver_told (Swap EMPTY) MESSAGE (receiver_is s at) did same) in (
+        it.0,
+        record { at = receiver_went (Swap EMPTY) MESSAGE (receiver_is s at) did same; message = it.1; waker = it.2 },
+      )
 
 pub store-found-requires : goal.store-found-requires
 store-found-requires g c =
     let it = stops (stops_only c.requires) c.swap-found.ensures (search rules) in
-    receiver_can (Store 2) it.1 (closes (swapped stopping) it.0)
+    receiver_can (Store DISCONNECTED) it.1 (closes (swapped stopping) it.0)
 
 pub take_message-requires : goal.take_message-requires
 take_message-requires g c =
     let it = stops (stops_only c.requires) c.swap-found.ensures (search rules) in
-    (it.0, keeps_message (receiver_told (Store 2) 3 it.1 c.store-found.ensures (search rules)))
+    (it.0, keeps_message (receiver_told (Store DISCONNECTED) EMPTY it.1 c.store-found.ensures (search rules)))

@@ -1,6 +1,7 @@
 -- Proofs of the goals that `stop_too_late` leaves.
 use Rattle.std.proofs.Common.{rules, ◌≡◌, ℕ, refl}
 use Rattle.oneshot_machine.specs.declared.states.Op.TheVariants.{Load, Swap}
+use Rattle.oneshot_machine.specs.declared.states.TheConstants.{UNPARKING, EMPTY}
 use Rattle.oneshot_machine.specs.Phases.{blocked, waits, overdue, receiver_at}
 use Rattle.oneshot_machine.specs.Slots.{Held, away, is_away, stays_away, head, tail, may, finds, ReceiverFinds}
 use Rattle.oneshot_word.specs.Side.{ReceiverDid}
@@ -8,7 +9,7 @@ use Rattle.oneshot_part_tests.proofs.Shown.{Plain, stops_only, ReceiverIs, recei
 use Rattle.oneshot_part_tests.proofs.word.stop_too_late.Goals as goal
 
 module _ {T W : Type 0} where
-  found_claimed : {m m' : Held T} {w w' : Held W} → ReceiverFinds (waits blocked) (Swap 3) 1 m w m' w'
+  found_claimed : {m m' : Held T} {w w' : Held W} → ReceiverFinds (waits blocked) (Swap EMPTY) UNPARKING m w m' w'
       → (m' ≡ away) × (w' ≡ away)
   found_claimed (finds (tail (tail (tail (tail (tail head))))) stays_away stays_away) = (refl, refl)
   found_claimed (finds (tail (tail (tail (tail (tail (tail (tail (tail there)))))))) _ _) = elim there [ ]
@@ -17,13 +18,13 @@ module _ {T W : Type 0} where
   found_nothing (finds head stays_away stays_away) = (refl, refl)
   found_nothing (finds (tail (tail (tail there))) _ _) = elim there [ ]
 
-  stops : {s t : Plain T W} {found : ℕ} → receiver_at s.log ≡ waits blocked → ReceiverDid s (Swap 3) found t
-      → found ≡ 1 → ReceiverIs t overdue away away
+  stops : {s t : Plain T W} {found : ℕ} → receiver_at s.log ≡ waits blocked → ReceiverDid s (Swap EMPTY) found t
+      → found ≡ UNPARKING → ReceiverIs t overdue away away
   stops {s} at did same =
-      let it = found_claimed (receiver_told (Swap 3) 1 (receiver_is s at) did same) in
-      record { at = receiver_went (Swap 3) 1 (receiver_is s at) did same; message = it.0; waker = it.1 }
+      let it = found_claimed (receiver_told (Swap EMPTY) UNPARKING (receiver_is s at) did same) in
+      record { at = receiver_went (Swap EMPTY) UNPARKING (receiver_is s at) did same; message = it.0; waker = it.1 }
 
-  waits_on : {s t : Plain T W} {found : ℕ} → ReceiverIs s overdue away away → ReceiverDid s Load found t → found ≡ 3
+  waits_on : {s t : Plain T W} {found : ℕ} → ReceiverIs s overdue away away → ReceiverDid s Load found t → found ≡ EMPTY
       → ReceiverIs t overdue away away
   waits_on is did same =
       let none = found_nothing (receiver_told Load 3 is did same) in
