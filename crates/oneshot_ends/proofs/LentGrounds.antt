@@ -1,7 +1,6 @@
 -- A ground that was lent has the phase and the slots of the receiver's own ground, and keeps what that keeps.
 use Rattle.std.proofs.Common.{◌≡◌, ℕ, List, Option, refl, sym, ◌∙◌, subst}
 use Rattle.atomic_table.specs.Seated.{TableId}
-use Rattle.futures.specs.Task.{Keeps}
 use Rattle.futures.specs.declared.task.context.Context.{Context}
 use Rattle.oneshot_machine.specs.Logs.{receiver_of}
 use Rattle.oneshot_machine.specs.Phases.{ReceiverAt, Share}
@@ -12,8 +11,8 @@ use Rattle.oneshot_word.specs.declared.any_waker.AnyWaker.{AnyWaker}
 use Rattle.oneshot_word.specs.Side.{Side}
 use Rattle.oneshot_ends.specs.declared.token.WakingHalf.{WakingHalf}
 use Rattle.oneshot_ends.specs.Grounds.{state_of, lent}
-use Rattle.oneshot_ends.specs.OwnWakers.{WaitsByNoThread, WaitsByHalvesOf}
-use Rattle.oneshot_ends.specs.Taken.{KeepsTaken}
+use Rattle.oneshot_ends.specs.Keeps.{KeepsOwn, KeepsLent, KeepsPolled}
+use Rattle.oneshot_ends.specs.Spins.{Waiting}
 
 -- one ground stands as another does if both have the same phase and the same shares of the slots
 pub stands_again : {Phases : ReceiverAt → Type 0} {T W V : Type 0} {s : GroundState T W} {t : GroundState T V}
@@ -45,21 +44,24 @@ pub hand_lent : {T W V P : Type 0} {own s : Side T W P} (hand : Option V) → s 
     → IsReady hand (receiver_of (state_of own).log) → IsReady hand (receiver_of (state_of s).log)
 hand_lent hand is ready = subst (λ s. IsReady hand (receiver_of (state_of s).log)) (sym is) ready
 
--- what an operation of the receiver's own ground keeps
-abbrev pub KeepsOwn : {T K P : Type 0} → Side T (AnyWaker WakingHalf K) P → Side T (AnyWaker WakingHalf K) P → Type 0
-KeepsOwn a b =
-    (b.about ≡ a.about) × ((parker : TableId) → WaitsByHalvesOf parker a → WaitsByHalvesOf parker b)
-    × (WaitsByNoThread a → WaitsByNoThread b) × KeepsTaken a.passed b.passed a.log b.log
+-- what an operation of the receiver's own ground keeps, a ground that it is lent to keeps
+module _ {T K P : Type 0} {a b : Side T (AnyWaker WakingHalf K) P} (keeps : KeepsOwn a b) where
+  pub blocking_keeps : {w : Waiting} {p : TableId} → KeepsLent a b w w p p
+  blocking_keeps =
+      record {
+        about = keeps.about;
+        token = λ has. has;
+        parker = refl;
+        halves = keeps.halves _;
+        taken = keeps.taken;
+      }
 
-module _ {T K P : Type 0} (a b : Side T (AnyWaker WakingHalf K) P) (keeps : KeepsOwn a b) where
-  -- so does the ground of a call that blocks
-  pub blocking_keeps : {Token : Type 0} {parker : TableId}
-      → (b.about ≡ a.about) × (Token → Token) × (parker ≡ parker)
-      × (WaitsByHalvesOf parker a → WaitsByHalvesOf parker b) × KeepsTaken a.passed b.passed a.log b.log
-  blocking_keeps = (keeps.0, λ has. has, refl, keeps.1 _, keeps.3)
-
-  -- and that of a poll
-  pub polling_keeps : (cx : Context) {id : ℕ}
-      → Keeps cx cx × (id ≡ id) × (b.about ≡ a.about) × (WaitsByNoThread a → WaitsByNoThread b)
-      × KeepsTaken a.passed b.passed a.log b.log
-  polling_keeps cx = (λ fact h. h, refl, keeps.0, keeps.2, keeps.3)
+  pub polling_keeps : {cx : Context} {id : ℕ} → KeepsPolled a b cx cx id id
+  polling_keeps =
+      record {
+        task = λ fact h. h;
+        source = refl;
+        about = keeps.about;
+        no_thread = keeps.no_thread;
+        taken = keeps.taken;
+      }

@@ -18,10 +18,10 @@ use Rattle.oneshot_word.specs.Side.{Side, ReceiverDid}
 use Rattle.oneshot_ends.specs.declared.token.WakingHalf.{WakingHalf}
 use Rattle.oneshot_ends.specs.Grounds.{left_of, state_of, IsNewReceiver}
 use Rattle.oneshot_ends.specs.OwnWakers.{IsHalfOf, is_waiting, Gave, WaitsBy, IsNoThread, WaitsByHalvesOf}
-use Rattle.oneshot_ends.specs.Taken.{KeepsTaken}
+use Rattle.oneshot_ends.specs.Keeps.{KeepsOwn, KeepsLent}
+use Rattle.oneshot_ends.specs.Spins.{Waiting, HasToken}
 use Rattle.oneshot_ends.specs.Tokens.{ParkingView}
 use Rattle.oneshot_ends.proofs.GrewByRuns.{words_of}
-use Rattle.oneshot_ends.proofs.LentGrounds.{KeepsOwn}
 use Rattle.oneshot_ends.proofs.Taken.{side_keeps, ground_keeps}
 
 abbrev pub is_out : Share → Share → Bool
@@ -109,12 +109,13 @@ pub operated : {T K P : Type 0} (freed : Bool) (s : Side T (AnyWaker WakingHalf 
     {now : Side T (AnyWaker WakingHalf K) P} → left_of freed s ≡ now → freed ≡ false
     → (next : Side T (AnyWaker WakingHalf K) P) {op : Op} {word : ℕ} → ReceiverDid s op word next
     → KeepsOwn now (left_of freed next)
-operated freed s is unfreed next did = (
-  did.about ∙ ap (λ s. s.about) is,
-  λ parker. ground_after freed s is (IsHalfOf parker) next unfreed did,
-  ground_after freed s is IsNoThread next unfreed did,
-  (ground_keeps freed s is did).1,
-)
+operated freed s is unfreed next did =
+    record {
+      about = did.about ∙ ap (λ s. s.about) is;
+      halves = λ parker. ground_after freed s is (IsHalfOf parker) next unfreed did;
+      no_thread = ground_after freed s is IsNoThread next unfreed did;
+      taken = (ground_keeps freed s is did).1;
+    }
 
 no_slot : {W : Type 0} {w : Held W} {k : W} → IsSlot none w → w ≡ held k → ⊥
 no_slot is_away e = cc e
@@ -131,17 +132,16 @@ module _ {T K P : Type 0} where
   )
 
   -- a park leaves all but the token of its own parker
-  pub parked : {Token : Type 0} {parker parker' : TableId} (s : Side T (AnyWaker WakingHalf K) P) → Token
-      → parker' ≡ parker
-      → (s.about ≡ s.about) × Token × (parker' ≡ parker)
-      × (WaitsByHalvesOf parker s → WaitsByHalvesOf parker' s) × KeepsTaken s.passed s.passed s.log s.log
-  parked s token same = (
-    refl,
-    token,
-    same,
-    λ owned. subst (λ parker. WaitsByHalvesOf parker s) (sym same) owned,
-    side_keeps s s refl refl,
-  )
+  pub parked : {before after : Waiting} {parker parker' : TableId} (s : Side T (AnyWaker WakingHalf K) P)
+      → (HasToken before → HasToken after) → parker' ≡ parker → KeepsLent s s before after parker parker'
+  parked s token same =
+      record {
+        about = refl;
+        token = token;
+        parker = same;
+        halves = λ owned. subst (λ parker. WaitsByHalvesOf parker s) (sym same) owned;
+        taken = side_keeps s s refl refl;
+      }
 
   -- a new receiver has given none
   pub own_new : (parker : TableId) (s now : Side T (AnyWaker WakingHalf K) P) → now ≡ s → IsNewReceiver s

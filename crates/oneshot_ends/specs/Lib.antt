@@ -1,5 +1,5 @@
 -- Public contracts cite `Ends`, `Taken` and `Deadlines`. Read beneath them `Grounds`, `Tokens`, `Woken`, `OwnWakers`,
--- `NoLostWakeup`, `Spins`, `Copies` and `Polling`.
+-- `NoLostWakeup`, `Spins`, `Keeps`, `Copies` and `Polling`.
 pub mod Grounds
 pub mod Polling
 pub mod Copies
@@ -15,6 +15,7 @@ pub mod OwnWakers
 pub mod NoLostWakeup
 pub mod OwnExamples
 pub mod Spins
+pub mod Keeps
 -- the definitions of the crates beneath that the contracts of `oneshot_reply` name
 pub use Rattle.oneshot_drive.specs.BetweenCalls
 pub use Rattle.oneshot_machine.specs.Called

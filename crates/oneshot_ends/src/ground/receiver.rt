@@ -87,27 +87,17 @@ impl<T: Drop, P: Promise<T>> SharedReceiver<T, WakingHalf, Waker, P> {
 
 impl<T: Drop, P: Promise<T>> ReceiverGround<T, AnyWaker<WakingHalf, Waker>>
     for SharedReceiver<T, WakingHalf, Waker, P> {
-    ghost use Rattle.std.proofs.Common.{◌∙◌, refl, subst, Some};
-    ghost use Rattle.atomic_table.specs.Seated.{TableId};
+    ghost use Rattle.std.proofs.Common.{subst, Some};
     ghost use Rattle.oneshot_ends.specs.Grounds.{state_of};
-    ghost use Rattle.oneshot_ends.specs.OwnWakers.{WaitsByNoThread, WaitsByHalvesOf};
-    ghost use Rattle.oneshot_ends.specs.Taken.{KeepsTaken, taken_stays, taken_stays_on};
+    ghost use Rattle.oneshot_ends.specs.Keeps.{KeepsOwn, own_stays, own_stays_on};
 
     ghost state = { state_of };
 
-    // The channel stays about the same value, the receiver's wakers stay its own parker's, or no thread's, a
-    // message that was taken is still the one, and the log still shows whether one was taken.
-    ghost keeps = { λ a b. (b.about ≡ a.about) × ((parker : TableId) → WaitsByHalvesOf parker a → WaitsByHalvesOf parker b)
-        × (WaitsByNoThread a → WaitsByNoThread b) × KeepsTaken a.passed b.passed a.log b.log };
+    ghost keeps = { KeepsOwn };
 
-    ghost keeps_same = { λ _. (refl, λ _ owned. owned, λ free. free, taken_stays) };
+    ghost keeps_same = { λ _. own_stays };
 
-    ghost keeps_on = { λ _ _ _ e f. (
-      f.0 ∙ e.0,
-      λ parker owned. f.1 parker (e.1 parker owned),
-      λ free. f.2 (e.2 free),
-      taken_stays_on e.3 f.3,
-    ) };
+    ghost keeps_on = { λ _ _ _ e f. own_stays_on e f };
 
     // No call on the ground alone gives a waker: one lends it with what it waits by.
     ghost has = { λ _ _. ⊥ };
@@ -116,11 +106,11 @@ impl<T: Drop, P: Promise<T>> ReceiverGround<T, AnyWaker<WakingHalf, Waker>>
 
     ghost gives = { λ s message. P.keeps s.about message };
 
-    ghost gives_on = { λ _ _ message e kept. subst (λ q. P.keeps q message) e.0 kept };
+    ghost gives_on = { λ _ _ message e kept. subst (λ q. P.keeps q message) e.about kept };
 
     ghost had = { λ s message. s.passed ≡ Some message };
 
-    ghost had_on = { λ _ _ message e had. e.3.stays message had };
+    ghost had_on = { λ _ _ message e had. e.taken.stays message had };
 
     fn load(&mut self) -> u8 {
         self.side.load()

@@ -4,8 +4,8 @@ ghost use Rattle.std.specs.Prelude.{◌≡◌, ⊤, true, false, [], ◌∷◌, 
 ghost use Rattle.futures.specs.Task.{IsArmed, Hears, Keeps};
 ghost use Rattle.oneshot_machine.specs.Logs.{Grows, copied};
 ghost use Rattle.oneshot_ends.specs.Copies.{HasMade, HasNoneOf};
-ghost use Rattle.oneshot_ends.specs.OwnWakers.{IsNoThread, WaitsByNoThread};
-ghost use Rattle.oneshot_ends.specs.Taken.{KeepsTaken, taken_stays, taken_stays_on};
+ghost use Rattle.oneshot_ends.specs.Keeps.{KeepsPolled, polled_stays, polled_stays_on};
+ghost use Rattle.oneshot_ends.specs.OwnWakers.{IsNoThread};
 ghost use Rattle.oneshot_ends.specs.Polling.{polled_state, token_of};
 
 use super::ChannelReceiver;
@@ -32,29 +32,19 @@ pub(crate) struct Polling<'g, 'c, 'x, G> {
 
 impl<'g, 'c, 'x, T: Drop, P: Promise<T>> ReceiverGround<T, Copied>
     for Polling<'g, 'c, 'x, ChannelReceiver<T, P>> {
-    ghost use Rattle.oneshot_ends.specs.OwnWakers.{WaitsByNoThread};
     ghost use Rattle.oneshot_ends.specs.Polling.{polled_state};
-    ghost use Rattle.std.proofs.Common.{◌∙◌, refl, subst, Some};
+    ghost use Rattle.std.proofs.Common.{subst, Some};
 
     // The state's channel also names what was lent, so that a caller recognizes it.
     ghost state = { λ b.
         polled_state (b.ground.ghost_name ∷ b.cx.ghost_name ∷ b.copies.ghost_name ∷ []) b.ground.now };
 
-    // The channel stays about the same value, what the task has registered stays registered, the future waits
-    // by no thread, and what the receiver took stays so.
-    ghost keeps = { λ a b. Keeps a.cx.now b.cx.now × (a.source.now.id ≡ b.source.now.id)
-        × (b.ground.now.about ≡ a.ground.now.about) × (WaitsByNoThread a.ground.now → WaitsByNoThread b.ground.now)
-        × KeepsTaken a.ground.now.passed b.ground.now.passed a.ground.now.log b.ground.now.log };
+    ghost keeps = { λ a b.
+        KeepsPolled a.ground.now b.ground.now a.cx.now b.cx.now a.source.now.id b.source.now.id };
 
-    ghost keeps_same = { λ a. (λ fact h. h, λ i. a.source.now.id, refl, λ free. free, taken_stays) };
+    ghost keeps_same = { λ _. polled_stays };
 
-    ghost keeps_on = { λ a b c f g. (
-      λ fact h. g.0 fact (f.0 fact h),
-      f.1 ∙ g.1,
-      g.2 ∙ f.2,
-      λ free. g.3 (f.3 free),
-      taken_stays_on f.4 g.4,
-    ) };
+    ghost keeps_on = { λ _ _ _ f g. polled_stays_on f g };
 
     ghost has = { λ _ _. ⊤ };
 
@@ -62,11 +52,11 @@ impl<'g, 'c, 'x, T: Drop, P: Promise<T>> ReceiverGround<T, Copied>
 
     ghost gives = { λ b message. P.keeps b.ground.now.about message };
 
-    ghost gives_on = { λ _ _ message e kept. subst (λ q. P.keeps q message) e.2 kept };
+    ghost gives_on = { λ _ _ message e kept. subst (λ q. P.keeps q message) e.about kept };
 
     ghost had = { λ b message. b.ground.now.passed ≡ Some message };
 
-    ghost had_on = { λ _ _ message e had. e.4.stays message had };
+    ghost had_on = { λ _ _ message e had. e.taken.stays message had };
 
     fn load(&mut self) -> u8 {
         self.ground.load()
@@ -117,7 +107,7 @@ impl<'g, 'c, 'x, T: Drop, P: Promise<T>> TaskGround<T, Copied>
 
     ghost heard = { λ b. IsArmed b.cx.now × Hears b.cx.now b.source.now.id };
 
-    ghost heard_on = { λ a b h k. (k.0 _ h.0, subst (λ id. Hears b.cx.now id) k.1 (k.0 _ h.1)) };
+    ghost heard_on = { λ a b h k. (k.task _ h.0, subst (λ id. Hears b.cx.now id) k.source (k.task _ h.1)) };
 
     /// As in any `TaskGround`. `Some`: the copy in hand has the task's number, and wakes the task if the
     /// context could make a waker. `None`: the copies are unchanged, unless one in hand has that number.
@@ -131,12 +121,8 @@ impl<'g, 'c, 'x, T: Drop, P: Promise<T>> TaskGround<T, Copied>
         ensures message { self.new.ground.now.message ≡ self.old.ground.now.message }
         ensures waker { token_of self.new.ground.now.waker ≡ token_of self.old.ground.now.waker }
         ensures heard { IfSome result (λ _. IsArmed self.new.cx.now × Hears self.new.cx.now self.new.source.now.id) }
-        ensures keeps { Keeps self.old.cx.now self.new.cx.now
-            × (self.old.source.now.id ≡ self.new.source.now.id)
-            × (self.new.ground.now.about ≡ self.old.ground.now.about)
-            × (WaitsByNoThread self.old.ground.now → WaitsByNoThread self.new.ground.now)
-            × KeepsTaken self.old.ground.now.passed self.new.ground.now.passed
-            self.old.ground.now.log self.new.ground.now.log }
+        ensures keeps { KeepsPolled self.old.ground.now self.new.ground.now self.old.cx.now self.new.cx.now
+            self.old.source.now.id self.new.source.now.id }
         ensures made { IfSome result (λ _. HasMade self.old.cx.now self.new.cx.now self.new.copies.now) }
         ensures refused { IfNone result (HasNoneOf self.old.cx.now.turn.task self.old.copies.now
             → self.new.copies.now ≡ self.old.copies.now) }

@@ -68,47 +68,36 @@ impl<'g, 'p, 'r, G, Rt> Blocking<'g, 'p, 'r, G, Rt> {
 impl<'g, 'p, 'r, T: Drop, Rt, P: Promise<T>> ReceiverGround<T, ChannelWaker>
     for Blocking<'g, 'p, 'r, ChannelReceiver<T, P>, Rt> {
     ghost use Rattle.std.specs.Prelude.{[], ◌∷◌, IfSome};
-    ghost use Rattle.std.proofs.Common.{◌∙◌, refl, sym, subst, Some};
-    ghost use Rattle.oneshot_ends.specs.Taken.{KeepsTaken, taken_stays, taken_stays_on};
+    ghost use Rattle.std.proofs.Common.{sym, subst, Some};
     ghost use Rattle.oneshot_ends.specs.Grounds.{lent};
+    ghost use Rattle.oneshot_ends.specs.Keeps.{KeepsLent, lent_stays, lent_stays_on};
     ghost use Rattle.oneshot_ends.specs.OwnWakers.{IsHalfOf, WaitsByHalvesOf};
-    ghost use Rattle.oneshot_ends.specs.Spins.{HasToken};
 
     // The state's channel also names what was lent, so that a caller recognizes it.
     ghost state = { λ b. lent (b.ground.ghost_name ∷ b.parker.ghost_name ∷ []) b.ground.now };
 
-    // The channel stays about the same value, a receive that slept without a deadline has its token, the
-    // receiver's wakers stay those of its parker, and what it took stays so.
-    ghost keeps = { λ a b. (b.ground.now.about ≡ a.ground.now.about) × (
-        HasToken (record { spins = a.spins; slept = a.slept; taken = a.parker.now.taken })
-        → HasToken (record { spins = b.spins; slept = b.slept; taken = b.parker.now.taken }))
-        × (b.parker.now.parker ≡ a.parker.now.parker)
-        × (WaitsByHalvesOf a.parker.now.parker a.ground.now → WaitsByHalvesOf b.parker.now.parker b.ground.now)
-        × KeepsTaken a.ground.now.passed b.ground.now.passed a.ground.now.log b.ground.now.log };
+    ghost keeps = { λ a b. KeepsLent a.ground.now b.ground.now
+        (record { spins = a.spins; slept = a.slept; taken = a.parker.now.taken })
+        (record { spins = b.spins; slept = b.slept; taken = b.parker.now.taken })
+        a.parker.now.parker b.parker.now.parker };
 
-    ghost keeps_same = { λ _. (refl, λ has. has, refl, λ owned. owned, taken_stays) };
+    ghost keeps_same = { λ _. lent_stays };
 
-    ghost keeps_on = { λ _ _ _ e f. (
-      f.0 ∙ e.0,
-      λ has. f.1 (e.1 has),
-      f.2 ∙ e.2,
-      λ owned. f.3 (e.3 owned),
-      taken_stays_on e.4 f.4,
-    ) };
+    ghost keeps_on = { λ _ _ _ e f. lent_stays_on e f };
 
     // Its wakers, with the one beside it, are those of its parker.
     ghost has = { λ b hand. WaitsByHalvesOf b.parker.now.parker b.ground.now × IfSome hand (IsHalfOf b.parker.now.parker) };
 
     ghost has_on = { λ _ _ hand k h.
-        (k.3 h.0, subst (λ parker. IfSome hand (IsHalfOf parker)) (sym k.2) h.1) };
+        (k.halves h.0, subst (λ parker. IfSome hand (IsHalfOf parker)) (sym k.parker) h.1) };
 
     ghost gives = { λ b message. P.keeps b.ground.now.about message };
 
-    ghost gives_on = { λ _ _ message e kept. subst (λ q. P.keeps q message) e.0 kept };
+    ghost gives_on = { λ _ _ message e kept. subst (λ q. P.keeps q message) e.about kept };
 
     ghost had = { λ b message. b.ground.now.passed ≡ Some message };
 
-    ghost had_on = { λ _ _ message e had. e.4.stays message had };
+    ghost had_on = { λ _ _ message e had. e.taken.stays message had };
 
     fn load(&mut self) -> u8 {
         self.ground.load()
@@ -152,12 +141,11 @@ impl<'g, 'p, 'r, T: Drop, Rt, P: Promise<T>> WaitGround<T, ChannelWaker>
 
 impl<'g, 'p, 'r, T: Drop, Rt: Wait + Clock, P: Promise<T>> BlockGround<T, ChannelWaker>
     for Blocking<'g, 'p, 'r, ChannelReceiver<T, P>, Rt> {
-    ghost use Rattle.oneshot_ends.specs.Spins.{MaySpin, Parked, HasToken};
+    ghost use Rattle.oneshot_ends.specs.Spins.{MaySpin, Parked};
     ghost use Rattle.std.specs.Prelude.{[], ◌∷◌};
     ghost use Rattle.oneshot_machine.specs.Logs.{Grows, clocked};
-    ghost use Rattle.oneshot_ends.specs.Taken.{KeepsTaken};
     ghost use Rattle.oneshot_ends.specs.Grounds.{lent};
-    ghost use Rattle.oneshot_ends.specs.OwnWakers.{WaitsByHalvesOf};
+    ghost use Rattle.oneshot_ends.specs.Keeps.{KeepsLent};
 
     ghost parks = { λ timed a b. Parked (MaySpin timed a.spins a.deadline a.reading) timed
         (record { spins = a.spins; slept = a.slept; taken = a.parker.now.taken })
@@ -190,14 +178,10 @@ impl<'g, 'p, 'r, T: Drop, Rt: Wait + Clock, P: Promise<T>> BlockGround<T, Channe
             (clocked result ∷ []) }
         ensures message { self.new.ground.now.message ≡ self.old.ground.now.message }
         ensures waker { self.new.ground.now.waker ≡ self.old.ground.now.waker }
-        ensures keeps { (self.new.ground.now.about ≡ self.old.ground.now.about) × (
-            HasToken (record { spins = self.old.spins; slept = self.old.slept; taken = self.old.parker.now.taken })
-            → HasToken (record { spins = self.new.spins; slept = self.new.slept; taken = self.new.parker.now.taken }))
-            × (self.new.parker.now.parker ≡ self.old.parker.now.parker)
-            × (WaitsByHalvesOf self.old.parker.now.parker self.old.ground.now
-            → WaitsByHalvesOf self.new.parker.now.parker self.new.ground.now)
-            × KeepsTaken self.old.ground.now.passed self.new.ground.now.passed
-            self.old.ground.now.log self.new.ground.now.log }
+        ensures keeps { KeepsLent self.old.ground.now self.new.ground.now
+            (record { spins = self.old.spins; slept = self.old.slept; taken = self.old.parker.now.taken })
+            (record { spins = self.new.spins; slept = self.new.slept; taken = self.new.parker.now.taken })
+            self.old.parker.now.parker self.new.parker.now.parker }
         ensures spins { result ≡ true → self.new.spins ≡ 0 }
     {
         self.reading = self.next.take(self.rt);

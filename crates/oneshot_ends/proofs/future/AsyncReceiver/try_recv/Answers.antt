@@ -14,8 +14,8 @@ invariant_of-self g c = (
   c.async_try_recv.ensures.rests,
   one_answered AsyncTryRecv refl c.self.invariant.1
       (grew_by {own = c.self.inside.ground} refl refl c.async_try_recv.new.g AsyncTryRecv c.async_try_recv.ensures.run),
-  c.async_try_recv.ensures.keeps.2 c.self.invariant.2,
-  c.async_try_recv.ensures.keeps.3.found c.self.invariant.3,
+  c.async_try_recv.ensures.keeps.no_thread c.self.invariant.2,
+  c.async_try_recv.ensures.keeps.taken.found c.self.invariant.3,
 )
 
 pub returns-clause-run : goal.returns-clause-run
@@ -47,7 +47,7 @@ pub returns-clause-bounded : goal.returns-clause-bounded
 returns-clause-bounded g c = async_try_recv_few (returns-clause-run g c)
 
 pub returns-clause-about : goal.returns-clause-about
-returns-clause-about g c = c.async_try_recv.ensures.keeps.0 ∙ future_about c.self.view_is
+returns-clause-about g c = c.async_try_recv.ensures.keeps.about ∙ future_about c.self.view_is
 
 pub returns-clause-kept : goal.returns-clause-kept
 returns-clause-kept g c =
@@ -57,7 +57,7 @@ pub returns-clause-took : goal.returns-clause-took
 returns-clause-took g c =
     tried_takes
     (taken_by {own = c.self.inside.ground} refl (future_steps c.self.view_is) (future_took c.self.view_is)
-    c.async_try_recv.new.g c.async_try_recv.ensures.keeps.3
+    c.async_try_recv.new.g c.async_try_recv.ensures.keeps.taken
     c.self.invariant.3 (polled_so c.self.inside.ground c.self.invariant.0))
     AsyncTryRecv refl c.async_try_recv.result (returns-clause-run g c)
     (returns-clause-stays_closed g c) c.async_try_recv.ensures.had

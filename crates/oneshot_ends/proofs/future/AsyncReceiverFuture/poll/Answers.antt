@@ -18,8 +18,8 @@ invariant_of-self g c = (
   stands_as_told (_ ∷ _ ∷ _ ∷ []) c.poll.new.g.ground.now c.poll.ensures.rests,
   one_answered C.Poll refl c.self.invariant.1
       (grew_by {own = c.self.inside.ground} refl refl c.poll.new.g.ground.now C.Poll c.poll.ensures.run),
-  c.poll.ensures.keeps.3 c.self.invariant.2,
-  c.poll.ensures.keeps.4.found c.self.invariant.3,
+  c.poll.ensures.keeps.no_thread c.self.invariant.2,
+  c.poll.ensures.keeps.taken.found c.self.invariant.3,
 )
 
 pub returns-clause-run : goal.returns-clause-run
@@ -45,7 +45,7 @@ pub returns-clause-bounded : goal.returns-clause-bounded
 returns-clause-bounded g c = poll_few (returns-clause-run g c)
 
 pub returns-clause-about : goal.returns-clause-about
-returns-clause-about g c = c.poll.ensures.keeps.2 ∙ future_about c.self.view_is
+returns-clause-about g c = c.poll.ensures.keeps.about ∙ future_about c.self.view_is
 
 pub returns-clause-value : goal.returns-clause-value
 returns-clause-value g c =
@@ -53,12 +53,12 @@ returns-clause-value g c =
 
 pub returns-clause-same : goal.returns-clause-same
 returns-clause-same g c =
-    pending_about g.P.Promise.keeps c.poll.result (c.poll.ensures.keeps.2 ∙ future_about c.self.view_is)
+    pending_about g.P.Promise.keeps c.poll.result (c.poll.ensures.keeps.about ∙ future_about c.self.view_is)
 
 pub returns-clause-took : goal.returns-clause-took
 returns-clause-took g c =
     poll_takes
     (taken_by {own = c.self.inside.ground} refl (future_steps c.self.view_is) (future_took c.self.view_is)
-    c.poll.new.g.ground.now c.poll.ensures.keeps.4
+    c.poll.new.g.ground.now c.poll.ensures.keeps.taken
     c.self.invariant.3 (polled_so c.self.inside.ground c.self.invariant.0))
     c.poll.result (returns-clause-run g c) (returns-clause-stays_closed g c) c.poll.ensures.had

@@ -29,7 +29,7 @@ invariant_of-self g c = (
       (RecvTimeout c.has_end.result) c.recv_timeout.ensures.run),
   c.recv_timeout.ensures.has.0,
   c.recv_timeout.ensures.has.1,
-  c.recv_timeout.ensures.keeps.4.found (lent_found (ap (λ r. r.now) c.lend-lent.ensures.ground) c.self.invariant.5),
+  c.recv_timeout.ensures.keeps.taken.found (lent_found (ap (λ r. r.now) c.lend-lent.ensures.ground) c.self.invariant.5),
 )
 
 pub returns-clause-run : goal.returns-clause-run
@@ -53,7 +53,7 @@ returns-clause-stays_closed g c closed =
 
 pub returns-clause-about : goal.returns-clause-about
 returns-clause-about g c =
-    c.recv_timeout.ensures.keeps.0 ∙ lent_about (ap (λ r. r.now) c.lend-lent.ensures.ground) (same_about c.self.view_is)
+    c.recv_timeout.ensures.keeps.about ∙ lent_about (ap (λ r. r.now) c.lend-lent.ensures.ground) (same_about c.self.view_is)
 
 pub returns-clause-kept : goal.returns-clause-kept
 returns-clause-kept g c =
@@ -70,7 +70,7 @@ pub returns-clause-took : goal.returns-clause-took
 returns-clause-took g c =
     timed_takes
     (taken_by (ap (λ r. r.now) c.lend-lent.ensures.ground) (same_steps c.self.view_is) (same_took c.self.view_is)
-    c.recv_timeout.new.g.ground.now c.recv_timeout.ensures.keeps.4 c.self.invariant.5
+    c.recv_timeout.new.g.ground.now c.recv_timeout.ensures.keeps.taken c.self.invariant.5
     (rests_so c.self.inside.ground c.self.invariant.0))
     (RecvTimeout (returns-clause-run g c).has_end) refl c.recv_timeout.result (returns-clause-run g c).grew
     (returns-clause-stays_closed g c) c.recv_timeout.ensures.had

@@ -26,7 +26,7 @@ invariant_of-self g c = (
       RecvDeadline c.recv_deadline.ensures.run),
   c.recv_deadline.ensures.has.0,
   c.recv_deadline.ensures.has.1,
-  c.recv_deadline.ensures.keeps.4.found (lent_found (ap (λ r. r.now) c.lend-lent.ensures.ground) c.self.invariant.5),
+  c.recv_deadline.ensures.keeps.taken.found (lent_found (ap (λ r. r.now) c.lend-lent.ensures.ground) c.self.invariant.5),
 )
 
 pub returns-clause-run : goal.returns-clause-run
@@ -51,7 +51,7 @@ returns-clause-stays_open g c = open_too_late (returns-clause-leaves g c)
 
 pub returns-clause-about : goal.returns-clause-about
 returns-clause-about g c =
-    c.recv_deadline.ensures.keeps.0
+    c.recv_deadline.ensures.keeps.about
     ∙ lent_about (ap (λ r. r.now) c.lend-lent.ensures.ground) (same_about c.self.view_is)
 
 pub returns-clause-kept : goal.returns-clause-kept
@@ -69,7 +69,7 @@ pub returns-clause-took : goal.returns-clause-took
 returns-clause-took g c =
     timed_takes
     (taken_by (ap (λ r. r.now) c.lend-lent.ensures.ground) (same_steps c.self.view_is) (same_took c.self.view_is)
-    c.recv_deadline.new.g.ground.now c.recv_deadline.ensures.keeps.4 c.self.invariant.5
+    c.recv_deadline.new.g.ground.now c.recv_deadline.ensures.keeps.taken c.self.invariant.5
     (rests_so c.self.inside.ground c.self.invariant.0))
     RecvDeadline refl c.recv_deadline.result (returns-clause-run g c)
     (returns-clause-stays_closed g c) c.recv_deadline.ensures.had

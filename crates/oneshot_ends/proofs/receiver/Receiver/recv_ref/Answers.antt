@@ -24,7 +24,7 @@ invariant_of-self g c = (
       RecvRef c.recv_ref.ensures.run),
   c.recv_ref.ensures.has.0,
   c.recv_ref.ensures.has.1,
-  c.recv_ref.ensures.keeps.4.found (lent_found (ap (λ r. r.now) c.lend-lent.ensures.ground) c.self.invariant.5),
+  c.recv_ref.ensures.keeps.taken.found (lent_found (ap (λ r. r.now) c.lend-lent.ensures.ground) c.self.invariant.5),
 )
 
 pub returns-clause-run : goal.returns-clause-run
@@ -46,7 +46,7 @@ returns-clause-closes g c = closed_by _ _ (returns-clause-leaves g c)
 
 pub returns-clause-about : goal.returns-clause-about
 returns-clause-about g c =
-    c.recv_ref.ensures.keeps.0 ∙ lent_about (ap (λ r. r.now) c.lend-lent.ensures.ground) (same_about c.self.view_is)
+    c.recv_ref.ensures.keeps.about ∙ lent_about (ap (λ r. r.now) c.lend-lent.ensures.ground) (same_about c.self.view_is)
 
 pub returns-clause-kept : goal.returns-clause-kept
 returns-clause-kept g c =
@@ -63,6 +63,6 @@ pub returns-clause-took : goal.returns-clause-took
 returns-clause-took g c =
     recv_takes
     (taken_by (ap (λ r. r.now) c.lend-lent.ensures.ground) (same_steps c.self.view_is) (same_took c.self.view_is)
-    c.recv_ref.new.g.ground.now c.recv_ref.ensures.keeps.4 c.self.invariant.5
+    c.recv_ref.new.g.ground.now c.recv_ref.ensures.keeps.taken c.self.invariant.5
     (rests_so c.self.inside.ground c.self.invariant.0))
     RecvRef refl c.recv_ref.result (returns-clause-run g c) (returns-clause-stays_closed g c) c.recv_ref.ensures.had

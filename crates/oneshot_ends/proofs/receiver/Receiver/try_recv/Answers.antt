@@ -16,9 +16,9 @@ invariant_of-self g c = (
       c.try_recv.ensures.leaves,
   one_answered TryRecv refl c.self.invariant.2
       (grew_by {own = c.self.inside.ground} refl refl c.try_recv.new.g TryRecv c.try_recv.ensures.run),
-  c.try_recv.ensures.keeps.1 _ c.self.invariant.3,
+  c.try_recv.ensures.keeps.halves _ c.self.invariant.3,
   c.self.invariant.4,
-  c.try_recv.ensures.keeps.3.found c.self.invariant.5,
+  c.try_recv.ensures.keeps.taken.found c.self.invariant.5,
 )
 
 pub returns-clause-run : goal.returns-clause-run
@@ -43,7 +43,7 @@ pub returns-clause-bounded : goal.returns-clause-bounded
 returns-clause-bounded g c = try_recv_few (returns-clause-run g c)
 
 pub returns-clause-about : goal.returns-clause-about
-returns-clause-about g c = c.try_recv.ensures.keeps.0 ∙ same_about c.self.view_is
+returns-clause-about g c = c.try_recv.ensures.keeps.about ∙ same_about c.self.view_is
 
 pub returns-clause-kept : goal.returns-clause-kept
 returns-clause-kept g c =
@@ -53,5 +53,5 @@ pub returns-clause-took : goal.returns-clause-took
 returns-clause-took g c =
     tried_takes
     (taken_by {own = c.self.inside.ground} refl (same_steps c.self.view_is) (same_took c.self.view_is)
-    c.try_recv.new.g c.try_recv.ensures.keeps.3 c.self.invariant.5 (rests_so c.self.inside.ground c.self.invariant.0))
+    c.try_recv.new.g c.try_recv.ensures.keeps.taken c.self.invariant.5 (rests_so c.self.inside.ground c.self.invariant.0))
     TryRecv refl c.try_recv.result (returns-clause-run g c) (returns-clause-stays_closed g c) c.try_recv.ensures.had

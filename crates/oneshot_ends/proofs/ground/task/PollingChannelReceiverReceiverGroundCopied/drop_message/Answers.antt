@@ -9,5 +9,4 @@ returns-clause-log g c =
     told (_ ∷ _ ∷ _ ∷ []) c.args.self.now.ground.now c.drop_message.new.self _ _ refl c.drop_message.ensures.log
 
 pub returns-clause-keeps : goal.returns-clause-keeps
-returns-clause-keeps g c =
-    polling_keeps c.args.self.now.ground.now c.drop_message.new.self c.drop_message.ensures.keeps _
+returns-clause-keeps g c = polling_keeps c.drop_message.ensures.keeps

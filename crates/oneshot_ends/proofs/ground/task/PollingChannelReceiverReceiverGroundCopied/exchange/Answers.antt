@@ -18,4 +18,4 @@ returns-clause-finds g c =
     c.exchange.result c.exchange.ensures.finds
 
 pub returns-clause-keeps : goal.returns-clause-keeps
-returns-clause-keeps g c = polling_keeps c.args.self.now.ground.now c.exchange.new.self c.exchange.ensures.keeps _
+returns-clause-keeps g c = polling_keeps c.exchange.ensures.keeps

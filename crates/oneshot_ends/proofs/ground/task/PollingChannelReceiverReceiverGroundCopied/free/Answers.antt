@@ -8,4 +8,4 @@ pub returns-clause-log : goal.returns-clause-log
 returns-clause-log g c = told (_ ∷ _ ∷ _ ∷ []) c.args.self.now.ground.now c.free.new.self _ _ refl c.free.ensures.log
 
 pub returns-clause-keeps : goal.returns-clause-keeps
-returns-clause-keeps g c = polling_keeps c.args.self.now.ground.now c.free.new.self c.free.ensures.keeps _
+returns-clause-keeps g c = polling_keeps c.free.ensures.keeps

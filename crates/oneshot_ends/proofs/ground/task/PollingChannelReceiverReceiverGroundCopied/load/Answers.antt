@@ -16,4 +16,4 @@ returns-clause-finds g c =
     token_found [] c.args.self.now.ground.now c.load.new.self Load c.load.result c.load.ensures.finds
 
 pub returns-clause-keeps : goal.returns-clause-keeps
-returns-clause-keeps g c = polling_keeps c.args.self.now.ground.now c.load.new.self c.load.ensures.keeps _
+returns-clause-keeps g c = polling_keeps c.load.ensures.keeps

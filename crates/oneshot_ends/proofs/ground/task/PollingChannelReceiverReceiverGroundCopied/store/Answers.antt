@@ -17,4 +17,4 @@ returns-clause-finds g c =
     token_found [] c.args.self.now.ground.now c.store.new.self (Store c.args.new) c.store.result c.store.ensures.finds
 
 pub returns-clause-keeps : goal.returns-clause-keeps
-returns-clause-keeps g c = polling_keeps c.args.self.now.ground.now c.store.new.self c.store.ensures.keeps _
+returns-clause-keeps g c = polling_keeps c.store.ensures.keeps

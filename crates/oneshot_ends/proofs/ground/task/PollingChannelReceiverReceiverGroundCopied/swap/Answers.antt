@@ -16,4 +16,4 @@ returns-clause-finds g c =
     token_found [] c.args.self.now.ground.now c.swap.new.self (Swap c.args.new) c.swap.result c.swap.ensures.finds
 
 pub returns-clause-keeps : goal.returns-clause-keeps
-returns-clause-keeps g c = polling_keeps c.args.self.now.ground.now c.swap.new.self c.swap.ensures.keeps _
+returns-clause-keeps g c = polling_keeps c.swap.ensures.keeps

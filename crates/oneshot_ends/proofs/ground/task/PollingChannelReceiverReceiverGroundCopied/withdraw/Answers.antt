@@ -9,5 +9,4 @@ returns-clause-log g c =
     told (_ ∷ _ ∷ _ ∷ []) c.args.self.now.ground.now c.withdraw-copy.new.self _ _ refl c.withdraw-copy.ensures.log
 
 pub returns-clause-keeps : goal.returns-clause-keeps
-returns-clause-keeps g c =
-    polling_keeps c.args.self.now.ground.now c.withdraw-copy.new.self c.withdraw-copy.ensures.keeps _
+returns-clause-keeps g c = polling_keeps c.withdraw-copy.ensures.keeps

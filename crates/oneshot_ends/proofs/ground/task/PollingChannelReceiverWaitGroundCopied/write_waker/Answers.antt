@@ -12,14 +12,15 @@ returns-clause-log g c =
     told (_ ∷ _ ∷ _ ∷ []) c.args.self.now.ground.now c.give.new.self _ _ refl c.give.ensures.log
 
 pub returns-clause-keeps : goal.returns-clause-keeps
-returns-clause-keeps g c = (
-  c.given-copy.ensures.kept,
-  refl,
-  ap (λ s. s.about) c.give.ensures.rest,
-  λ free. with_slot IsNoThread c.args.self.now.ground.now c.give.new.self (ap (λ s. s.log) c.give.ensures.rest)
-      (ap (λ s. s.handed) c.give.ensures.rest)
-      (λ k e. let same : held c.given-copy.result ≡ held k = sym (ap (λ s. s.waker) c.give.ensures.rest) ∙ e in
-      subst IsNoThread (cc same) c.given-copy.ensures.no_thread) free,
-  side_keeps c.args.self.now.ground.now c.give.new.self (ap (λ s. s.passed) c.give.ensures.rest)
-      (ap (λ s. s.log) c.give.ensures.rest),
-)
+returns-clause-keeps g c =
+    record {
+      task = c.given-copy.ensures.kept;
+      source = refl;
+      about = ap (λ s. s.about) c.give.ensures.rest;
+      no_thread = λ free. with_slot IsNoThread c.args.self.now.ground.now c.give.new.self
+          (ap (λ s. s.log) c.give.ensures.rest) (ap (λ s. s.handed) c.give.ensures.rest)
+          (λ k e. let same : held c.given-copy.result ≡ held k = sym (ap (λ s. s.waker) c.give.ensures.rest) ∙ e in
+          subst IsNoThread (cc same) c.given-copy.ensures.no_thread) free;
+      taken = side_keeps c.args.self.now.ground.now c.give.new.self (ap (λ s. s.passed) c.give.ensures.rest)
+          (ap (λ s. s.log) c.give.ensures.rest);
+    }

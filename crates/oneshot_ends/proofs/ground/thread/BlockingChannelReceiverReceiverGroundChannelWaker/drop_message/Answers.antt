@@ -3,5 +3,4 @@ use Rattle.oneshot_ends.proofs.LentGrounds.{blocking_keeps}
 use Rattle.oneshot_ends.proofs.ground.thread.BlockingChannelReceiverReceiverGroundChannelWaker.drop_message.Goals as goal
 
 pub returns-clause-keeps : goal.returns-clause-keeps
-returns-clause-keeps g c =
-    blocking_keeps c.args.self.now.ground.now c.drop_message.new.self c.drop_message.ensures.keeps
+returns-clause-keeps g c = blocking_keeps c.drop_message.ensures.keeps

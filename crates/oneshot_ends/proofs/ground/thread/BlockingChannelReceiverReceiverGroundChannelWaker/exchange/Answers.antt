@@ -3,4 +3,4 @@ use Rattle.oneshot_ends.proofs.LentGrounds.{blocking_keeps}
 use Rattle.oneshot_ends.proofs.ground.thread.BlockingChannelReceiverReceiverGroundChannelWaker.exchange.Goals as goal
 
 pub returns-clause-keeps : goal.returns-clause-keeps
-returns-clause-keeps g c = blocking_keeps c.args.self.now.ground.now c.exchange.new.self c.exchange.ensures.keeps
+returns-clause-keeps g c = blocking_keeps c.exchange.ensures.keeps

@@ -3,4 +3,4 @@ use Rattle.oneshot_ends.proofs.LentGrounds.{blocking_keeps}
 use Rattle.oneshot_ends.proofs.ground.thread.BlockingChannelReceiverReceiverGroundChannelWaker.free.Goals as goal
 
 pub returns-clause-keeps : goal.returns-clause-keeps
-returns-clause-keeps g c = blocking_keeps c.args.self.now.ground.now c.free.new.self c.free.ensures.keeps
+returns-clause-keeps g c = blocking_keeps c.free.ensures.keeps

@@ -3,4 +3,4 @@ use Rattle.oneshot_ends.proofs.LentGrounds.{blocking_keeps}
 use Rattle.oneshot_ends.proofs.ground.thread.BlockingChannelReceiverReceiverGroundChannelWaker.load.Goals as goal
 
 pub returns-clause-keeps : goal.returns-clause-keeps
-returns-clause-keeps g c = blocking_keeps c.args.self.now.ground.now c.load.new.self c.load.ensures.keeps
+returns-clause-keeps g c = blocking_keeps c.load.ensures.keeps

@@ -3,5 +3,4 @@ use Rattle.oneshot_ends.proofs.LentGrounds.{blocking_keeps}
 use Rattle.oneshot_ends.proofs.ground.thread.BlockingChannelReceiverReceiverGroundChannelWaker.take_message.Goals as goal
 
 pub returns-clause-keeps : goal.returns-clause-keeps
-returns-clause-keeps g c =
-    blocking_keeps c.args.self.now.ground.now c.take_message.new.self c.take_message.ensures.keeps
+returns-clause-keeps g c = blocking_keeps c.take_message.ensures.keeps

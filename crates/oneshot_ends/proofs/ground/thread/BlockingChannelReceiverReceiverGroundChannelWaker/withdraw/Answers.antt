@@ -3,8 +3,8 @@ use Rattle.oneshot_ends.proofs.LentGrounds.{blocking_keeps}
 use Rattle.oneshot_ends.proofs.ground.thread.BlockingChannelReceiverReceiverGroundChannelWaker.withdraw.Goals as goal
 
 pub returns-clause-keeps : goal.returns-clause-keeps
-returns-clause-keeps g c = blocking_keeps c.args.self.now.ground.now c.withdraw.new.self c.withdraw.ensures.keeps
+returns-clause-keeps g c = blocking_keeps c.withdraw.ensures.keeps
 
 pub returns-clause-has : goal.returns-clause-has
 returns-clause-has g c = λ has.
-    (c.withdraw.ensures.keeps.1 _ has.0, has.0.slot c.withdraw.result c.withdraw.ensures.was)
+    (c.withdraw.ensures.keeps.halves _ has.0, has.0.slot c.withdraw.result c.withdraw.ensures.was)
