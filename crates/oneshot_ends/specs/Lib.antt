@@ -1,5 +1,5 @@
 -- Public contracts cite `Ends`, `Taken` and `Deadlines`. Read beneath them `Grounds`, `Tokens`, `Woken`, `OwnWakers`,
--- `NoLostWakeup`, `Spins`, `Keeps`, `Copies` and `Polling`.
+-- `NoLostWakeup`, `Spins`, `Keeps`, `Invariants`, `Copies` and `Polling`.
 pub mod Grounds
 pub mod Polling
 pub mod Copies
@@ -16,6 +16,7 @@ pub mod NoLostWakeup
 pub mod OwnExamples
 pub mod Spins
 pub mod Keeps
+pub mod Invariants
 -- the definitions of the crates beneath that the contracts of `oneshot_reply` name
 pub use Rattle.oneshot_drive.specs.BetweenCalls
 pub use Rattle.oneshot_machine.specs.Called

@@ -53,12 +53,8 @@ pub struct AsyncReceiver<T, Rt, P: Promise<T> = ()> {
 }
 
 impl<T, Rt, P: Promise<T>> Model for AsyncReceiver<T, Rt, P> {
-    ghost use Rattle.oneshot_drive.specs.Polls.{IsPolled};
-    ghost use Rattle.oneshot_machine.specs.Called.{as_future};
-    ghost use Rattle.oneshot_ends.specs.Ends.{FutureEndOf, HasCalls, channel_at};
-    ghost use Rattle.oneshot_ends.specs.Grounds.{state_of};
-    ghost use Rattle.oneshot_ends.specs.OwnWakers.{WaitsByNoThread};
-    ghost use Rattle.oneshot_ends.specs.Taken.{TookAsFound};
+    ghost use Rattle.oneshot_ends.specs.Ends.{FutureEndOf, channel_at};
+    ghost use Rattle.oneshot_ends.specs.Invariants.{FutureInvariant};
 
     ghost Value = { FutureEndOf T P };
 
@@ -70,9 +66,7 @@ impl<T, Rt, P: Promise<T>> Model for AsyncReceiver<T, Rt, P> {
       took = r.ground.passed;
     } };
 
-    ghost invariant = { λ r.
-        IsPolled (state_of r.ground) × HasCalls T as_future r.ground.log × WaitsByNoThread r.ground
-        × TookAsFound r.ground.passed r.ground.log };
+    ghost invariant = { λ r. FutureInvariant r.ground };
 }
 
 impl<T, Rt, P: Promise<T>> AsyncReceiver<T, Rt, P> {

@@ -54,14 +54,8 @@ pub struct Receiver<T, Rt, P: Promise<T> = ()> {
 }
 
 impl<T, Rt, P: Promise<T>> Model for Receiver<T, Rt, P> {
-    ghost use Rattle.oneshot_machine.specs.Logs.{receiver_of};
-    ghost use Rattle.oneshot_drive.specs.BetweenCalls.{AtRest, IsReady};
-    ghost use Rattle.oneshot_machine.specs.Called.{as_receiver};
-    ghost use Rattle.oneshot_ends.specs.Ends.{EndOf, HasCalls, channel_at};
-    ghost use Rattle.oneshot_ends.specs.Grounds.{state_of};
-    ghost use Rattle.oneshot_ends.specs.OwnWakers.{IsHalfOf, WaitsByHalvesOf};
-    ghost use Rattle.std.specs.Prelude.{IfSome};
-    ghost use Rattle.oneshot_ends.specs.Taken.{TookAsFound};
+    ghost use Rattle.oneshot_ends.specs.Ends.{EndOf, channel_at};
+    ghost use Rattle.oneshot_ends.specs.Invariants.{ReceiverInvariant};
 
     ghost Value = { EndOf T P };
 
@@ -72,11 +66,7 @@ impl<T, Rt, P: Promise<T>> Model for Receiver<T, Rt, P> {
       took = r.ground.passed;
     } };
 
-    ghost invariant = { λ r.
-        AtRest (state_of r.ground) × IsReady r.hand (receiver_of (state_of r.ground).log)
-        × HasCalls T as_receiver r.ground.log
-        × WaitsByHalvesOf r.parker.parker r.ground × IfSome r.hand (IsHalfOf r.parker.parker)
-        × TookAsFound r.ground.passed r.ground.log };
+    ghost invariant = { λ r. ReceiverInvariant r.parker.parker r.hand r.ground };
 }
 
 impl<T, Rt, P: Promise<T>> Receiver<T, Rt, P> {

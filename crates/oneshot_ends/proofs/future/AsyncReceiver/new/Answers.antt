@@ -7,9 +7,10 @@ use Rattle.oneshot_ends.proofs.future.AsyncReceiver.new.Goals as goal
 
 pub invariant_of-result : goal.invariant_of-result
 invariant_of-result g c =
-    let rests = c.requires.rests in (
-      record { at = rests.at; is_one = unpolled rests.is_one; stands = rests.stands },
-      then_future c.requires.calls,
-      rests_free IsNoThread c.args.ground rests,
-      c.requires.found,
-    )
+    let rests = c.requires.rests in
+    record {
+      rests = record { at = rests.at; is_one = unpolled rests.is_one; stands = rests.stands };
+      calls = then_future c.requires.calls;
+      no_thread = rests_free IsNoThread c.args.ground rests;
+      took = c.requires.found;
+    }

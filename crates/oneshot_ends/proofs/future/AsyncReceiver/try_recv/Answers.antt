@@ -10,13 +10,15 @@ use Rattle.oneshot_ends.proofs.Taken.{polled_so, taken_by, tried_takes}
 use Rattle.oneshot_ends.proofs.future.AsyncReceiver.try_recv.Goals as goal
 
 pub invariant_of-self : goal.invariant_of-self
-invariant_of-self g c = (
-  c.async_try_recv.ensures.rests,
-  one_answered AsyncTryRecv refl c.self.invariant.1
-      (grew_by {own = c.self.inside.ground} refl refl c.async_try_recv.new.g AsyncTryRecv c.async_try_recv.ensures.run),
-  c.async_try_recv.ensures.keeps.no_thread c.self.invariant.2,
-  c.async_try_recv.ensures.keeps.taken.found c.self.invariant.3,
-)
+invariant_of-self g c =
+    record {
+      rests = c.async_try_recv.ensures.rests;
+      calls = one_answered AsyncTryRecv refl c.self.invariant.calls
+          (grew_by {own = c.self.inside.ground} refl refl c.async_try_recv.new.g AsyncTryRecv
+          c.async_try_recv.ensures.run);
+      no_thread = c.async_try_recv.ensures.keeps.no_thread c.self.invariant.no_thread;
+      took = c.async_try_recv.ensures.keeps.taken.found c.self.invariant.took;
+    }
 
 pub returns-clause-run : goal.returns-clause-run
 returns-clause-run g c =
@@ -58,6 +60,6 @@ returns-clause-took g c =
     tried_takes
     (taken_by {own = c.self.inside.ground} refl (future_steps c.self.view_is) (future_took c.self.view_is)
     c.async_try_recv.new.g c.async_try_recv.ensures.keeps.taken
-    c.self.invariant.3 (polled_so c.self.inside.ground c.self.invariant.0))
+    c.self.invariant.took (polled_so c.self.inside.ground c.self.invariant.rests))
     AsyncTryRecv refl c.async_try_recv.result (returns-clause-run g c)
     (returns-clause-stays_closed g c) c.async_try_recv.ensures.had

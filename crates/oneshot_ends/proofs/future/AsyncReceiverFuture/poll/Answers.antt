@@ -11,16 +11,17 @@ use Rattle.oneshot_ends.proofs.Taken.{polled_so, taken_by, poll_takes}
 use Rattle.oneshot_ends.proofs.future.AsyncReceiverFuture.poll.Goals as goal
 
 pub poll-requires-clause-rests : goal.poll-requires-clause-rests
-poll-requires-clause-rests g c = stands_by_tokens (_ ∷ _ ∷ _ ∷ []) c.self.inside.ground c.self.invariant.0
+poll-requires-clause-rests g c = stands_by_tokens (_ ∷ _ ∷ _ ∷ []) c.self.inside.ground c.self.invariant.rests
 
 pub invariant_of-self : goal.invariant_of-self
-invariant_of-self g c = (
-  stands_as_told (_ ∷ _ ∷ _ ∷ []) c.poll.new.g.ground.now c.poll.ensures.rests,
-  one_answered C.Poll refl c.self.invariant.1
-      (grew_by {own = c.self.inside.ground} refl refl c.poll.new.g.ground.now C.Poll c.poll.ensures.run),
-  c.poll.ensures.keeps.no_thread c.self.invariant.2,
-  c.poll.ensures.keeps.taken.found c.self.invariant.3,
-)
+invariant_of-self g c =
+    record {
+      rests = stands_as_told (_ ∷ _ ∷ _ ∷ []) c.poll.new.g.ground.now c.poll.ensures.rests;
+      calls = one_answered C.Poll refl c.self.invariant.calls
+          (grew_by {own = c.self.inside.ground} refl refl c.poll.new.g.ground.now C.Poll c.poll.ensures.run);
+      no_thread = c.poll.ensures.keeps.no_thread c.self.invariant.no_thread;
+      took = c.poll.ensures.keeps.taken.found c.self.invariant.took;
+    }
 
 pub returns-clause-run : goal.returns-clause-run
 returns-clause-run g c =
@@ -60,5 +61,5 @@ returns-clause-took g c =
     poll_takes
     (taken_by {own = c.self.inside.ground} refl (future_steps c.self.view_is) (future_took c.self.view_is)
     c.poll.new.g.ground.now c.poll.ensures.keeps.taken
-    c.self.invariant.3 (polled_so c.self.inside.ground c.self.invariant.0))
+    c.self.invariant.took (polled_so c.self.inside.ground c.self.invariant.rests))
     c.poll.result (returns-clause-run g c) (returns-clause-stays_closed g c) c.poll.ensures.had

@@ -6,11 +6,12 @@ use Rattle.oneshot_ends.proofs.Taken.{new_found}
 use Rattle.oneshot_ends.proofs.receiver.Receiver.new.Goals as goal
 
 pub invariant_of-result : goal.invariant_of-result
-invariant_of-result g c = (
-  rests_at_new c.args.side c.new.result c.new.ensures c.requires.new,
-  λ none. absurd (cc none),
-  none_answered c.args.side c.new.result c.new.ensures c.requires.new,
-  own_new c.args.parker.parker c.args.side c.new.result c.new.ensures c.requires.new,
-  c.requires.own,
-  new_found c.args.side c.new.result c.new.ensures c.requires.new.log c.requires.new.passed,
-)
+invariant_of-result g c =
+    record {
+      rests = rests_at_new c.args.side c.new.result c.new.ensures c.requires.new;
+      ready = λ none. absurd (cc none);
+      calls = none_answered c.args.side c.new.result c.new.ensures c.requires.new;
+      halves = own_new c.args.parker.parker c.args.side c.new.result c.new.ensures c.requires.new;
+      half = c.requires.own;
+      took = new_found c.args.side c.new.result c.new.ensures c.requires.new.log c.requires.new.passed;
+    }

@@ -8,7 +8,7 @@ use Rattle.oneshot_ends.proofs.receiver.Receiver.recv.Goals as goal
 pub recv-result-requires-clause-has : goal.recv-result-requires-clause-has
 recv-result-requires-clause-has g c =
     has_lent c.self.inside.hand (ap (λ r. r.now) c.lend-lent.ensures.ground)
-    (ap (λ r. r.now) c.lend-lent.ensures.parker) c.self.invariant.3 c.self.invariant.4
+    (ap (λ r. r.now) c.lend-lent.ensures.parker) c.self.invariant.halves c.self.invariant.half
 
 pub returns-clause-stays_closed : goal.returns-clause-stays_closed
 returns-clause-stays_closed g c closed =

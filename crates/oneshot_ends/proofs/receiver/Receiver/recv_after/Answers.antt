@@ -16,21 +16,23 @@ use Rattle.oneshot_ends.proofs.receiver.Receiver.recv_after.Goals as goal
 
 pub recv_timeout-requires-clause-rests : goal.recv_timeout-requires-clause-rests
 recv_timeout-requires-clause-rests g c =
-    as_lent (_ ∷ _ ∷ []) (ap (λ r. r.now) c.lend-lent.ensures.ground) c.self.invariant.0
+    as_lent (_ ∷ _ ∷ []) (ap (λ r. r.now) c.lend-lent.ensures.ground) c.self.invariant.rests
 
 pub invariant_of-self : goal.invariant_of-self
-invariant_of-self g c = (
-  given_back (_ ∷ _ ∷ []) c.recv_timeout.new.g.ground.now c.recv_timeout.ensures.rests,
-  ready_timed c.recv_timeout.result c.self.inside.hand c.recv_timeout.new.hand _ _
-      (hand_lent c.self.inside.hand (ap (λ r. r.now) c.lend-lent.ensures.ground) c.self.invariant.1)
-      c.recv_timeout.ensures.stays c.recv_timeout.ensures.leaves c.recv_timeout.ensures.hand,
-  one_answered (RecvTimeout c.has_end.result) refl c.self.invariant.2
-      (grew_by (ap (λ r. r.now) c.lend-lent.ensures.ground) refl c.recv_timeout.new.g.ground.now
-      (RecvTimeout c.has_end.result) c.recv_timeout.ensures.run),
-  c.recv_timeout.ensures.has.0,
-  c.recv_timeout.ensures.has.1,
-  c.recv_timeout.ensures.keeps.taken.found (lent_found (ap (λ r. r.now) c.lend-lent.ensures.ground) c.self.invariant.5),
-)
+invariant_of-self g c =
+    record {
+      rests = given_back (_ ∷ _ ∷ []) c.recv_timeout.new.g.ground.now c.recv_timeout.ensures.rests;
+      ready = ready_timed c.recv_timeout.result c.self.inside.hand c.recv_timeout.new.hand _ _
+          (hand_lent c.self.inside.hand (ap (λ r. r.now) c.lend-lent.ensures.ground) c.self.invariant.ready)
+          c.recv_timeout.ensures.stays c.recv_timeout.ensures.leaves c.recv_timeout.ensures.hand;
+      calls = one_answered (RecvTimeout c.has_end.result) refl c.self.invariant.calls
+          (grew_by (ap (λ r. r.now) c.lend-lent.ensures.ground) refl c.recv_timeout.new.g.ground.now
+          (RecvTimeout c.has_end.result) c.recv_timeout.ensures.run);
+      halves = c.recv_timeout.ensures.has.0;
+      half = c.recv_timeout.ensures.has.1;
+      took = c.recv_timeout.ensures.keeps.taken.found
+          (lent_found (ap (λ r. r.now) c.lend-lent.ensures.ground) c.self.invariant.took);
+    }
 
 pub returns-clause-run : goal.returns-clause-run
 returns-clause-run g c =
@@ -64,13 +66,13 @@ pub recv_timeout-requires-clause-has : goal.recv_timeout-requires-clause-has
 recv_timeout-requires-clause-has g c =
     has_lent c.self.inside.hand (ap (λ r. r.now) c.lend-lent.ensures.ground)
     (ap (λ r. r.now) c.lend-lent.ensures.parker)
-    c.self.invariant.3 c.self.invariant.4
+    c.self.invariant.halves c.self.invariant.half
 
 pub returns-clause-took : goal.returns-clause-took
 returns-clause-took g c =
     timed_takes
     (taken_by (ap (λ r. r.now) c.lend-lent.ensures.ground) (same_steps c.self.view_is) (same_took c.self.view_is)
-    c.recv_timeout.new.g.ground.now c.recv_timeout.ensures.keeps.taken c.self.invariant.5
-    (rests_so c.self.inside.ground c.self.invariant.0))
+    c.recv_timeout.new.g.ground.now c.recv_timeout.ensures.keeps.taken c.self.invariant.took
+    (rests_so c.self.inside.ground c.self.invariant.rests))
     (RecvTimeout (returns-clause-run g c).has_end) refl c.recv_timeout.result (returns-clause-run g c).grew
     (returns-clause-stays_closed g c) c.recv_timeout.ensures.had

@@ -13,19 +13,21 @@ use Rattle.oneshot_ends.proofs.receiver.Receiver.recv_ref.Goals as goal
 
 pub recv_ref-requires-clause-rests : goal.recv_ref-requires-clause-rests
 recv_ref-requires-clause-rests g c =
-    as_lent (_ ∷ _ ∷ []) (ap (λ r. r.now) c.lend-lent.ensures.ground) c.self.invariant.0
+    as_lent (_ ∷ _ ∷ []) (ap (λ r. r.now) c.lend-lent.ensures.ground) c.self.invariant.rests
 
 pub invariant_of-self : goal.invariant_of-self
-invariant_of-self g c = (
-  given_back (_ ∷ _ ∷ []) c.recv_ref.new.g.ground.now c.recv_ref.ensures.rests,
-  ready_closed c.recv_ref.new.hand c.recv_ref.result _ c.recv_ref.ensures.leaves,
-  one_answered RecvRef refl c.self.invariant.2
-      (grew_by (ap (λ r. r.now) c.lend-lent.ensures.ground) refl c.recv_ref.new.g.ground.now
-      RecvRef c.recv_ref.ensures.run),
-  c.recv_ref.ensures.has.0,
-  c.recv_ref.ensures.has.1,
-  c.recv_ref.ensures.keeps.taken.found (lent_found (ap (λ r. r.now) c.lend-lent.ensures.ground) c.self.invariant.5),
-)
+invariant_of-self g c =
+    record {
+      rests = given_back (_ ∷ _ ∷ []) c.recv_ref.new.g.ground.now c.recv_ref.ensures.rests;
+      ready = ready_closed c.recv_ref.new.hand c.recv_ref.result _ c.recv_ref.ensures.leaves;
+      calls = one_answered RecvRef refl c.self.invariant.calls
+          (grew_by (ap (λ r. r.now) c.lend-lent.ensures.ground) refl c.recv_ref.new.g.ground.now
+          RecvRef c.recv_ref.ensures.run);
+      halves = c.recv_ref.ensures.has.0;
+      half = c.recv_ref.ensures.has.1;
+      took = c.recv_ref.ensures.keeps.taken.found
+          (lent_found (ap (λ r. r.now) c.lend-lent.ensures.ground) c.self.invariant.took);
+    }
 
 pub returns-clause-run : goal.returns-clause-run
 returns-clause-run g c =
@@ -57,12 +59,12 @@ pub recv_ref-requires-clause-has : goal.recv_ref-requires-clause-has
 recv_ref-requires-clause-has g c =
     has_lent c.self.inside.hand (ap (λ r. r.now) c.lend-lent.ensures.ground)
     (ap (λ r. r.now) c.lend-lent.ensures.parker)
-    c.self.invariant.3 c.self.invariant.4
+    c.self.invariant.halves c.self.invariant.half
 
 pub returns-clause-took : goal.returns-clause-took
 returns-clause-took g c =
     recv_takes
     (taken_by (ap (λ r. r.now) c.lend-lent.ensures.ground) (same_steps c.self.view_is) (same_took c.self.view_is)
-    c.recv_ref.new.g.ground.now c.recv_ref.ensures.keeps.taken c.self.invariant.5
-    (rests_so c.self.inside.ground c.self.invariant.0))
+    c.recv_ref.new.g.ground.now c.recv_ref.ensures.keeps.taken c.self.invariant.took
+    (rests_so c.self.inside.ground c.self.invariant.rests))
     RecvRef refl c.recv_ref.result (returns-clause-run g c) (returns-clause-stays_closed g c) c.recv_ref.ensures.had

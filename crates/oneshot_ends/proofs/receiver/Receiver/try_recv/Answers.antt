@@ -10,16 +10,17 @@ use Rattle.oneshot_ends.proofs.Taken.{rests_so, taken_by, tried_takes}
 use Rattle.oneshot_ends.proofs.receiver.Receiver.try_recv.Goals as goal
 
 pub invariant_of-self : goal.invariant_of-self
-invariant_of-self g c = (
-  c.try_recv.ensures.rests,
-  ready_still c.self.inside.hand c.try_recv.result _ _ c.self.invariant.1 c.try_recv.ensures.stays
-      c.try_recv.ensures.leaves,
-  one_answered TryRecv refl c.self.invariant.2
-      (grew_by {own = c.self.inside.ground} refl refl c.try_recv.new.g TryRecv c.try_recv.ensures.run),
-  c.try_recv.ensures.keeps.halves _ c.self.invariant.3,
-  c.self.invariant.4,
-  c.try_recv.ensures.keeps.taken.found c.self.invariant.5,
-)
+invariant_of-self g c =
+    record {
+      rests = c.try_recv.ensures.rests;
+      ready = ready_still c.self.inside.hand c.try_recv.result _ _ c.self.invariant.ready c.try_recv.ensures.stays
+          c.try_recv.ensures.leaves;
+      calls = one_answered TryRecv refl c.self.invariant.calls
+          (grew_by {own = c.self.inside.ground} refl refl c.try_recv.new.g TryRecv c.try_recv.ensures.run);
+      halves = c.try_recv.ensures.keeps.halves _ c.self.invariant.halves;
+      half = c.self.invariant.half;
+      took = c.try_recv.ensures.keeps.taken.found c.self.invariant.took;
+    }
 
 pub returns-clause-run : goal.returns-clause-run
 returns-clause-run g c =
@@ -53,5 +54,5 @@ pub returns-clause-took : goal.returns-clause-took
 returns-clause-took g c =
     tried_takes
     (taken_by {own = c.self.inside.ground} refl (same_steps c.self.view_is) (same_took c.self.view_is)
-    c.try_recv.new.g c.try_recv.ensures.keeps.taken c.self.invariant.5 (rests_so c.self.inside.ground c.self.invariant.0))
+    c.try_recv.new.g c.try_recv.ensures.keeps.taken c.self.invariant.took (rests_so c.self.inside.ground c.self.invariant.rests))
     TryRecv refl c.try_recv.result (returns-clause-run g c) (returns-clause-stays_closed g c) c.try_recv.ensures.had
