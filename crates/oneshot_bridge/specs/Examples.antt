@@ -85,4 +85,4 @@ module _ {T : Type 0} (m : T) where
         → RunsSo (sends m) receives schedule entries now ((Add, Word RECEIVING) ∷ []) ys word → ⊥
     -- the run leaves no other word than MESSAGE
     pub leaves_another_word : (word : ℕ) → RunsSo (sends m) receives schedule entries last sent received word
-        → word ≡ 4
+        → word ≡ MESSAGE

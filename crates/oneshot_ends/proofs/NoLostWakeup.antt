@@ -6,6 +6,7 @@ use Rattle.atomic_table.specs.Seated.{TableId}
 use Rattle.futures.specs.declared.task.waker.Waker.{Waker}
 use Rattle.std.specs.Prelude.{⊤}
 use Rattle.crossbeam_utils.specs.Token.{IsSamePass}
+use Rattle.oneshot_machine.specs.declared.states.TheConstants.{UNPARKING, MESSAGE}
 use Rattle.oneshot_machine.specs.Noted.{Noted}
 use Rattle.oneshot_machine.specs.Slots.{away}
 use Rattle.oneshot_machine.specs.Phases.{By, sending, blocked, sender_at, ReceiverAt, receiver_at}
@@ -22,11 +23,13 @@ use Rattle.oneshot_ends.specs.declared.token.Given.{Given}
 use Rattle.oneshot_ends.specs.declared.token.Half.{Half}
 use Rattle.oneshot_ends.specs.declared.token.Half.TheVariants.{Parking, Waking}
 use Rattle.oneshot_ends.specs.declared.token.WakingHalf.{WakingHalf}
+use Rattle.oneshot_ends.specs.Keeps.{own_stays, polled_stays}
 use Rattle.oneshot_ends.specs.NoLostWakeup.{RealWaker, AtOneMoment, SleepsOn, IsThereOrTaken, HasGivenTokenOf, EndedSendersGaveTokens, NoSleeperIsForgotten, FuturesWakeNoThread}
 use Rattle.oneshot_word.specs.Examples.{waits as blocks}
 use Rattle.oneshot_ends.specs.OwnExamples.{side_with, sender_of_it, UsesThatAre, UsesThatAreNot}
 use Rattle.oneshot_ends.specs.OwnWakers.{IsHalfOf, IsNoThread, is_waiting, Gave, WaitsByHalvesOf}
 use Rattle.oneshot_ends.specs.Woken.{Sending, IsWoken, phase, found_waiting as shown_waiting, HasEnded}
+use Rattle.oneshot_ends.specs.Taken.{taken_stays}
 use Rattle.oneshot_ends.proofs.FoundWaiting.{found_waiting}
 use Rattle.oneshot_ends.proofs.GrewByRuns.{words_of}
 use Rattle.oneshot_ends.proofs.OwnWakers.{same_put}
@@ -171,7 +174,7 @@ uses_that_are =
       at_one_moment = λ k.
           record {
             about = tt;
-            words = 1 ∷ [];
+            words = UNPARKING ∷ [];
             homes = out ∷ out ∷ [];
             allowed = (wakers_that_pass WakingHalf Waker (λ about message. ⊤)).was_taken tt k;
           };
@@ -183,13 +186,17 @@ uses_that_are =
       ended_beside_a_sleeper = λ half given same. (
         record {
           about = tt;
-          words = 4 ∷ [];
+          words = MESSAGE ∷ [];
           homes = has_message tt ∷ bare ∷ [];
           allowed = (wakers_that_pass WakingHalf Waker (λ about message. ⊤)).was_used tt tt (Thread half) tt;
         },
         record { over = over_finished; woken = λ found. (Thread half, (refl, same)) },
         sleeps_on (side_with blocks (Thread half)) half refl refl refl,
       );
+      keeps_all = λ s. own_stays;
+      slept_and_took = λ s parker.
+          record { about = refl; token = λ has slept. refl; parker = refl; halves = λ own. own; taken = taken_stays };
+      keeps_its_task = λ s cx source. polled_stays;
     }
 
 pub uses_that_are_not : UsesThatAreNot
@@ -223,4 +230,8 @@ uses_that_are_not =
           other (sym (ap (λ (g : Given). g.pass.table_id) same) ∙ gave.of_parker);
       token_is_to_come = λ there. never_there there;
       gave_no_token = λ s parker none gave. let e = sym none ∙ gave.is_it in absurd (cc e);
+      forgets_its_message = λ s next took none keeps. let e = sym none ∙ keeps.taken.stays tt took in absurd (cc e);
+      slept_and_took_none = λ s parker keeps. let e : false ≡ true = keeps.token (λ slept. slept) refl in absurd (cc e);
+      parks_by_another = λ s w parker other apart keeps. apart (sym keeps.parker);
+      polls_by_another = λ s cx keeps. let e : 1 ≡ 2 = keeps.source in cc e;
     }

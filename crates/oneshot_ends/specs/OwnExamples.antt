@@ -1,7 +1,9 @@
--- Examples and counterexamples of senders that used the waker that they took, and of a receiver's own wakers.
-use Rattle.std.specs.Prelude.{◌≡◌, ◌≢◌, ⊤, ℕ, true, false, List, [], ◌∷◌, ◌++◌, Some, None}
+-- Examples and counterexamples of senders that used the waker that they took, of a receiver's own wakers, and of what
+-- its ground keeps.
+use Rattle.std.specs.Prelude.{◌≡◌, ◌≢◌, ⊤, ℕ, Bool, true, false, List, [], ◌∷◌, ◌++◌, Some, None}
 use Rattle.atomic_table.specs.Seated.{TableId}
 use Rattle.crossbeam_utils.specs.Token.{IsSamePass}
+use Rattle.futures.specs.declared.task.context.Context.{Context}
 use Rattle.oneshot_machine.specs.declared.machine.Seen.TheVariants.{Word}
 use Rattle.oneshot_machine.specs.declared.states.Op.TheVariants.{Load, Add, Xor}
 use Rattle.oneshot_machine.specs.declared.states.TheConstants.{RECEIVING, UNPARKING, EMPTY}
@@ -16,8 +18,10 @@ use Rattle.oneshot_word.specs.Side.{Side}
 use Rattle.oneshot_ends.specs.declared.token.Given.{Given}
 use Rattle.oneshot_ends.specs.declared.token.Half.TheVariants.{Parking, Waking}
 use Rattle.oneshot_ends.specs.declared.token.WakingHalf.{WakingHalf}
+use Rattle.oneshot_ends.specs.Keeps.{KeepsOwn, KeepsLent, KeepsPolled}
 use Rattle.oneshot_ends.specs.NoLostWakeup.{RealWaker, AtOneMoment, SleepsOn, IsThereOrTaken, HasGivenTokenOf}
 use Rattle.oneshot_ends.specs.OwnWakers.{IsHalfOf, IsNoThread, WaitsByNoThread, WaitsByHalvesOf, is_waiting}
+use Rattle.oneshot_ends.specs.Spins.{Waiting}
 use Rattle.oneshot_ends.specs.Tokens.{ParkingView}
 use Rattle.oneshot_ends.specs.Woken.{Sending, HasWoken, HasEnded}
 
@@ -42,6 +46,13 @@ sent_to_it = sent_over UNPARKING
 abbrev pub sender_of_it : WakingHalf → Given → Sending ⊤ RealWaker ⊤
 sender_of_it half given =
     record { side = record (side_with sent_to_it (Thread half)) { passed = Some tt }; given = Some given }
+
+-- a wait that has not slept, and one that has, with its parker's token or without it
+abbrev pub unslept : Waiting
+unslept = record { spins = 0; slept = false; taken = false }
+
+abbrev pub slept_with : Bool → Waiting
+slept_with taken = record { spins = 0; slept = true; taken = taken }
 
 -- senders that used the wakers that they took, wakers of their own parker, receivers that wait and sleep, and
 -- moments of a channel
@@ -76,6 +87,11 @@ pub record UsesThatAre : Type 0 where
   pub ended_beside_a_sleeper : (half : WakingHalf) (given : Given) → IsSamePass half.pass given.pass
       → AtOneMoment {P = ⊤} (λ about message. ⊤) (sender_of_it half given).side (side_with blocks (Thread half))
       × HasEnded sending (sender_of_it half given) × SleepsOn half.pass.table_id (side_with blocks (Thread half))
+  -- steps of a ground that keep what it has
+  pub keeps_all : (s : Side ⊤ RealWaker ⊤) → KeepsOwn s s
+  pub slept_and_took : (s : Side ⊤ RealWaker ⊤) (parker : TableId)
+      → KeepsLent s s unslept (slept_with true) parker parker
+  pub keeps_its_task : (s : Side ⊤ RealWaker ⊤) (cx : Context) (source : ℕ) → KeepsPolled s s cx cx source source
 
 -- senders and receivers with real logs, each wrong in one thing, and wakers that are not a parker's own
 pub record UsesThatAreNot : Type 0 where
@@ -108,3 +124,11 @@ pub record UsesThatAreNot : Type 0 where
       → (given.pass.table_id ≡ parker → ⊥) → HasGivenTokenOf parker s → ⊥
   pub token_is_to_come : IsThereOrTaken false (Parking false ∷ Waking false ∷ []) → ⊥
   pub gave_no_token : (s : Sending ⊤ RealWaker ⊤) (parker : TableId) → s.given ≡ None → HasGivenTokenOf parker s → ⊥
+  -- steps of a ground that lose the message, the token, the parker or the source
+  pub forgets_its_message : (s next : Side ⊤ RealWaker ⊤) → s.passed ≡ Some tt → next.passed ≡ None
+      → KeepsOwn s next → ⊥
+  pub slept_and_took_none : (s : Side ⊤ RealWaker ⊤) (parker : TableId)
+      → KeepsLent s s unslept (slept_with false) parker parker → ⊥
+  pub parks_by_another : (s : Side ⊤ RealWaker ⊤) (w : Waiting) (parker other : TableId) → parker ≢ other
+      → KeepsLent s s w w parker other → ⊥
+  pub polls_by_another : (s : Side ⊤ RealWaker ⊤) (cx : Context) → KeepsPolled s s cx cx 1 2 → ⊥

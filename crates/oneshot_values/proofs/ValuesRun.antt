@@ -94,15 +94,15 @@ pub shows_none : {T : Type 0} {form : Form} {calls : List (ReceiverStart × Repl
 unfolding positive
 shows_none was none = shows was ∙ ap positive none
 
-none_of : (n : ℕ) → positive n ≡ false → n ≡ 0
+none_of : (count : ℕ) → positive count ≡ false → count ≡ 0
 unfolding positive
 none_of zero e = refl
-none_of (suc n) e = absurd (cc)
+none_of (suc count) e = absurd (cc)
 
-one_of : (n : ℕ) → positive n ≡ true → n ≤ 1 → n ≡ 1
+one_of : (count : ℕ) → positive count ≡ true → count ≤ 1 → count ≡ 1
 unfolding positive
 one_of zero e few = absurd (cc)
-one_of (suc n) e few = omega (arith, few)
+one_of (suc count) e few = omega (arith, few)
 
 gets_so : {T : Type 0} (took : Option T) (n : ℕ) → (T → n ≤ 1) → is_some took ≡ positive n → n ≡ one_if (is_some took)
 gets_so None n few e = none_of n (sym e)

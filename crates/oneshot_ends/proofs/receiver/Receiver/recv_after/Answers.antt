@@ -55,7 +55,8 @@ returns-clause-stays_closed g c closed =
 
 pub returns-clause-about : goal.returns-clause-about
 returns-clause-about g c =
-    c.recv_timeout.ensures.keeps.about ∙ lent_about (ap (λ r. r.now) c.lend-lent.ensures.ground) (same_about c.self.view_is)
+    c.recv_timeout.ensures.keeps.about
+    ∙ lent_about (ap (λ r. r.now) c.lend-lent.ensures.ground) (same_about c.self.view_is)
 
 pub returns-clause-kept : goal.returns-clause-kept
 returns-clause-kept g c =

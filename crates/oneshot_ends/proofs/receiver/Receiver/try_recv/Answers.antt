@@ -54,5 +54,6 @@ pub returns-clause-took : goal.returns-clause-took
 returns-clause-took g c =
     tried_takes
     (taken_by {own = c.self.inside.ground} refl (same_steps c.self.view_is) (same_took c.self.view_is)
-    c.try_recv.new.g c.try_recv.ensures.keeps.taken c.self.invariant.took (rests_so c.self.inside.ground c.self.invariant.rests))
+    c.try_recv.new.g c.try_recv.ensures.keeps.taken c.self.invariant.took
+    (rests_so c.self.inside.ground c.self.invariant.rests))
     TryRecv refl c.try_recv.result (returns-clause-run g c) (returns-clause-stays_closed g c) c.try_recv.ensures.had
