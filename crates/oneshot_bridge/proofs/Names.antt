@@ -85,7 +85,7 @@ pub use Rattle.oneshot_word.proofs.LastOnes.{not_empty, same_start, same_last}
 pub use Rattle.oneshot_word.proofs.OneOrder.{order_is_one}
 pub use Rattle.oneshot_word.specs.OneOrder.{ends_of}
 pub use Rattle.oneshot_word.specs.Rule.{message_home, waker_home, Home, bare, has_message, Lies, lies_out, lies_bare, lies_filled, IsGiven, IsTaken, took_none, took_it, opened, dealt, runs}
-pub use Rattle.oneshot_word.specs.Seats.{any, with_waker, view}
+pub use Rattle.oneshot_word.specs.Seats.{with_waker, view}
 pub use Rattle.oneshot_word.specs.declared.any_waker.AnyWaker.{AnyWaker}
 pub use Rattle.oneshot_word.specs.declared.rule.Slot.{Slot}
 pub use Rattle.oneshot_word.specs.declared.rule.Slot.TheVariants.{Empty, Message}

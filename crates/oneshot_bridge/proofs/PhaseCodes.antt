@@ -1,22 +1,9 @@
 -- The phases of both ends, distinguished by numbers while the checker explores.
-use Rattle.oneshot_bridge.proofs.Names.{◌≡◌, ℕ, List, [], ◌∷◌, Option, refl, get_or, sending, dropping, SenderAt, fresh, owes, finished, late, overtaken, no_sender, looked, between, blocked, polled}
-use Rattle.oneshot_bridge.proofs.Names.{again, storing, stopping, at_once, waited, swapped, by_future, by_poll, found_closed, closed_itself, ReceiverAt, here, claimed, withdrew, overdue, full}
-use Rattle.oneshot_bridge.proofs.Names.{unclosed, disconnected, resolved, gone, ended, no_receiver, Coding, listed, pairs, or_none}
+use Rattle.oneshot_bridge.proofs.Names.{◌≡◌, ℕ, Option, refl, get_or, sending, dropping, SenderAt, fresh, owes, finished, late, overtaken, no_sender, looked, between, blocked, polled, again, storing}
+use Rattle.oneshot_bridge.proofs.Names.{stopping, at_once, waited, swapped, by_future, by_poll, found_closed, closed_itself, ReceiverAt, here, claimed, withdrew, overdue, full, unclosed, disconnected}
+use Rattle.oneshot_bridge.proofs.Names.{resolved, gone, ended, no_receiver, Coding, listed, pairs, or_none}
 use Rattle.oneshot_machine.specs.Phases.{first, waits}
-
-abbrev senders : List SenderAt
-senders =
-    fresh
-    ∷ owes sending
-    ∷ owes dropping
-    ∷ finished sending
-    ∷ finished dropping
-    ∷ late sending
-    ∷ late dropping
-    ∷ overtaken sending
-    ∷ overtaken dropping
-    ∷ no_sender
-    ∷ []
+use Rattle.oneshot_machine.proofs.EachPhase.{senders, receivers}
 
 abbrev sender_code : SenderAt → ℕ
 sender_code fresh = 0
@@ -41,34 +28,6 @@ sender_back (late dropping) = refl
 sender_back (overtaken sending) = refl
 sender_back (overtaken dropping) = refl
 sender_back no_sender = refl
-
-abbrev receivers : List ReceiverAt
-receivers =
-    first
-    ∷ here looked
-    ∷ here between
-    ∷ waits blocked
-    ∷ waits polled
-    ∷ waits again
-    ∷ claimed
-    ∷ withdrew
-    ∷ overdue
-    ∷ full at_once
-    ∷ full waited
-    ∷ full (swapped storing)
-    ∷ full (swapped stopping)
-    ∷ full by_future
-    ∷ full by_poll
-    ∷ unclosed storing
-    ∷ unclosed stopping
-    ∷ disconnected found_closed
-    ∷ disconnected closed_itself
-    ∷ resolved found_closed
-    ∷ resolved closed_itself
-    ∷ gone
-    ∷ ended
-    ∷ no_receiver
-    ∷ []
 
 abbrev receiver_code : ReceiverAt → ℕ
 receiver_code first = 0

@@ -1,11 +1,11 @@
 -- A log that an order allows the receiver has words that its table may find, as the law of exact tables requires.
-use Rattle.oneshot_bridge.proofs.Names.{◌≡◌, ℕ, Bool, true, false, ◌&&◌, List, refl, list_all, and_parts, Op, none_yet, one_more, Noted, Reaches, has_row, nothing_made, ReceiverAt, here, looked}
-use Rattle.oneshot_bridge.proofs.Names.{between, blocked, polled, again, full, at_once, waited, swapped, by_future, by_poll, unclosed, disconnected, resolved, receiver_moves, Share, none, empty}
-use Rattle.oneshot_bridge.proofs.Names.{filled, Slots, Row, Held, away, vacant, held, IsSlot, is_away, is_vacant, Turns, stays_away, stays_vacant, stays_held, gives_room, gives_thing, gets_room}
-use Rattle.oneshot_bridge.proofs.Names.{gets_thing, In, ReceiverMay, may, ReceiverFinds, finds, each_passes}
+use Rattle.oneshot_bridge.proofs.Names.{◌≡◌, ℕ, Bool, true, false, ◌&&◌, List, refl, and_parts, Op, none_yet, one_more, Noted, Reaches, has_row, nothing_made, ReceiverAt, receiver_moves, Share, none}
+use Rattle.oneshot_bridge.proofs.Names.{empty, filled, Slots, Row, Held, away, vacant, held, IsSlot, is_away, is_vacant, Turns, stays_away, stays_vacant, stays_held, gives_room, gives_thing}
+use Rattle.oneshot_bridge.proofs.Names.{gets_room, gets_thing, In, ReceiverMay, may, ReceiverFinds, finds}
+use Rattle.oneshot_machine.proofs.EachPhase.{in_each_receiver_row}
 use Rattle.oneshot_machine.specs.Exact.{IsFound}
 use Rattle.oneshot_machine.specs.Orders.{sender_makes, receiver_makes}
-use Rattle.oneshot_machine.specs.Phases.{first, waits, receiver_at}
+use Rattle.oneshot_machine.specs.Phases.{receiver_at}
 use Rattle.oneshot_machine.specs.Slots.{is_held}
 
 -- each slot of a row stays, is given up or comes
@@ -16,23 +16,6 @@ can_turn _ _ = true
 
 abbrev is_turning : Row ReceiverAt → Bool
 is_turning row = can_turn row.1.0 row.4.0 && can_turn row.1.1 row.4.1
-
-rows_turn : (at : ReceiverAt) → list_all is_turning (receiver_moves at) ≡ true
-rows_turn first = refl
-rows_turn (here looked) = refl
-rows_turn (here between) = refl
-rows_turn (waits blocked) = refl
-rows_turn (waits polled) = refl
-rows_turn (waits again) = refl
-rows_turn (full at_once) = refl
-rows_turn (full waited) = refl
-rows_turn (full (swapped by)) = refl
-rows_turn (full by_future) = refl
-rows_turn (full by_poll) = refl
-rows_turn (unclosed by) = refl
-rows_turn (disconnected closing) = refl
-rows_turn (resolved closing) = refl
-rows_turn _ = refl
 
 record Turning (s t : Share) : Type 0 where
   before : Held (Unit {0})
@@ -71,7 +54,7 @@ pub row_found : (at : ReceiverAt) {op : Op} {before after : Slots} {word : ℕ} 
     → In (op, before, word, next, after) (receiver_moves at) → RowFound at op word
 row_found at {before} {after} row =
     let turn = and_parts (can_turn before.0 after.0) (can_turn before.1 after.1)
-    (each_passes is_turning (receiver_moves at) (rows_turn at) row) in
+    (in_each_receiver_row (λ at. is_turning) refl at row) in
     let message = turning before.0 after.0 turn.0 in
     let waker = turning before.1 after.1 turn.1 in
     record {

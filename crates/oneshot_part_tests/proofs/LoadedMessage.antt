@@ -1,16 +1,14 @@
--- A load that finds 4 leaves the receiver with the message, and with no waker: computed for each phase.
+-- A load that finds MESSAGE leaves the receiver with the message, and with no waker: computed for each phase.
 use Rattle.std.proofs.Common.{◌≡◌, ℕ, Bool, true, false, ◌&&◌, refl, ◌∙◌}
 use Rattle.std.specs.Prelude.{◌==◌, if◌then◌else◌}
-use Rattle.std.specs.List.{list_all}
 use Rattle.std.proofs.lemmas.Bool.{and_parts}
 use Rattle.oneshot_machine.specs.declared.machine.Seen.TheVariants.{Word}
 use Rattle.oneshot_machine.specs.declared.states.Op.TheVariants.{Load}
 use Rattle.oneshot_machine.specs.declared.states.TheConstants.{MESSAGE}
 use Rattle.oneshot_machine.specs.Noted.{is_same_op}
-use Rattle.oneshot_machine.specs.Phases.{Share, empty, Row, Got, full, looked, here, blocked, waits, storing, swapped, unclosed, found_closed, disconnected, resolved, ReceiverAt, receiver_moves}
-use Rattle.oneshot_machine.specs.Phases.{receiver_next, receiver_at}
+use Rattle.oneshot_machine.specs.Phases.{Share, empty, Row, Got, full, ReceiverAt, receiver_next, receiver_at}
 use Rattle.oneshot_machine.specs.Slots.{Held, vacant, held, Turns, stays_vacant, stays_held, gets_room, gets_thing, finds, ReceiverFinds}
-use Rattle.oneshot_machine.proofs.Sameness.{each_passes}
+use Rattle.oneshot_machine.proofs.EachPhase.{in_each_receiver_row}
 use Rattle.oneshot_word.specs.Side.{ReceiverDid}
 use Rattle.oneshot_part_tests.proofs.Shown.{Plain, ReceiverIs, receiver_told, receiver_went, receiver_is, is_filled}
 
@@ -26,15 +24,6 @@ abbrev has_it : ReceiverAt → Row ReceiverAt → Bool
 has_it q row =
     if is_same_op row.0 Load && row.2 == MESSAGE then is_full (receiver_next q Load (Word MESSAGE)) && is_filled row.4.0
     && is_empty row.4.1 else true
-
-each_has_it : (q : ReceiverAt) → list_all (has_it q) (receiver_moves q) ≡ true
-each_has_it (here looked) = refl
-each_has_it (waits blocked) = refl
-each_has_it (full (swapped storing)) = refl
-each_has_it (unclosed storing) = refl
-each_has_it (disconnected found_closed) = refl
-each_has_it (resolved found_closed) = refl
-each_has_it _ = refl
 
 full_is : (q : ReceiverAt) → is_full q ≡ true → (g : Got) × (q ≡ full g)
 full_is (full g) e = (g, refl)
@@ -58,11 +47,12 @@ module _ {T W : Type 0} where
     holds : m ≡ held message
     no_waker : w ≡ vacant
 
-  found_message : (q : ReceiverAt) {m m' : Held T} {w w' : Held W} → ReceiverFinds q Load 4 m w m' w' → HasIt q m' w'
+  found_message : (q : ReceiverAt) {m m' : Held T} {w w' : Held W} → ReceiverFinds q Load MESSAGE m w m' w'
+      → HasIt q m' w'
   found_message q (finds {after} row message waker) =
       let wakers =
       and_parts (is_full (receiver_next q Load (Word MESSAGE)) && is_filled after.0) (is_empty after.1)
-      (each_passes (has_it q) (receiver_moves q) (each_has_it q) row) in
+      (in_each_receiver_row has_it refl q row) in
       let parts = and_parts (is_full (receiver_next q Load (Word MESSAGE))) (is_filled after.0) wakers.0 in
       let got = full_is (receiver_next q Load (Word MESSAGE)) parts.0 in
       let it = message_is parts.1 message in
@@ -71,11 +61,11 @@ module _ {T W : Type 0} where
   pub gets : {s t : Plain T W} {found : ℕ} → ReceiverDid s Load found t → found ≡ MESSAGE
       → (g : Got) × (x : T) × ReceiverIs t (full g) (held x) vacant
   gets {s} did same =
-      let it = found_message (receiver_at s.log) (receiver_told Load 4 (receiver_is s refl) did same) in (
+      let it = found_message (receiver_at s.log) (receiver_told Load MESSAGE (receiver_is s refl) did same) in (
         it.got,
         it.message,
         record {
-          at = receiver_went Load 4 (receiver_is s refl) did same ∙ it.at;
+          at = receiver_went Load MESSAGE (receiver_is s refl) did same ∙ it.at;
           message = it.holds;
           waker = it.no_waker;
         },

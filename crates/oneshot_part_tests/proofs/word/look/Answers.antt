@@ -1,6 +1,7 @@
 -- Proofs of the goals that `look` leaves.
 use Rattle.std.proofs.Common.{rules, ◌≡◌, refl, subst}
 use Rattle.oneshot_machine.specs.declared.states.Op.TheVariants.{Load}
+use Rattle.oneshot_machine.specs.declared.states.TheConstants.{EMPTY}
 use Rattle.oneshot_machine.specs.Phases.{first, receiver_at}
 use Rattle.oneshot_machine.specs.Slots.{Held, away, vacant, is_away, stays_away, gets_room, head, tail, may, finds, ReceiverFinds, not_its_own, owns, ReceiverOwns}
 use Rattle.oneshot_part_tests.proofs.Shown.{Plain, ReceiverIs, receiver_can, receiver_told, receiver_went}
@@ -10,7 +11,7 @@ module _ {T W : Type 0} where
   owns_none : {m : Held T} {w : Held W} → ReceiverOwns first m w → (m ≡ away) × (w ≡ away)
   owns_none (owns not_its_own not_its_own) = (refl, refl)
 
-  found_none : {m : Held T} {w : Held W} → ReceiverFinds first Load 3 away away m w → w ≡ vacant
+  found_none : {m : Held T} {w : Held W} → ReceiverFinds first Load EMPTY away away m w → w ≡ vacant
   found_none (finds head stays_away gets_room) = refl
   found_none (finds (tail (tail (tail (tail (tail (tail there)))))) _ _) = elim there [ ]
 
@@ -26,10 +27,10 @@ load-found-requires g c =
 
 pub returns-clause-at : goal.returns-clause-at
 returns-clause-at g c =
-    receiver_went Load 3 (begins c.args.receiver.now c.requires c.owns_its_slots.ensures) c.load-found.ensures
+    receiver_went Load EMPTY (begins c.args.receiver.now c.requires c.owns_its_slots.ensures) c.load-found.ensures
     (search rules)
 
 pub returns-clause-waker : goal.returns-clause-waker
 returns-clause-waker g c =
-    found_none (receiver_told Load 3 (begins c.args.receiver.now c.requires c.owns_its_slots.ensures)
+    found_none (receiver_told Load EMPTY (begins c.args.receiver.now c.requires c.owns_its_slots.ensures)
     c.load-found.ensures (search rules))

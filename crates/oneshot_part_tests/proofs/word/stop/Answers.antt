@@ -14,7 +14,7 @@ module _ {T W : Type 0} where
   found_waiting (finds (tail (tail (tail (tail head)))) stays_away (gets_thing k)) = (k, refl, refl)
   found_waiting (finds (tail (tail (tail (tail (tail (tail (tail (tail there)))))))) _ _) = elim there [ ]
 
-  found_none : {m : Held T} {w : Held W} → ReceiverFinds (here between) Load 3 away vacant m w → w ≡ vacant
+  found_none : {m : Held T} {w : Held W} → ReceiverFinds (here between) Load EMPTY away vacant m w → w ≡ vacant
   found_none (finds head stays_away stays_vacant) = refl
   found_none (finds (tail (tail (tail (tail (tail (tail there)))))) _ _) = elim there [ ]
 
@@ -42,11 +42,11 @@ load-found-requires g c =
 
 pub returns-clause-at : goal.returns-clause-at
 returns-clause-at g c =
-    receiver_went Load 3 (takes (stops_only c.requires) c.swap-found.ensures (search rules)
+    receiver_went Load EMPTY (takes (stops_only c.requires) c.swap-found.ensures (search rules)
     c.take_waker-waker.ensures.rest) c.load-found.ensures (search rules)
 
 pub returns-clause-waker : goal.returns-clause-waker
 returns-clause-waker g c =
-    found_none (receiver_told Load 3
+    found_none (receiver_told Load EMPTY
     (takes (stops_only c.requires) c.swap-found.ensures (search rules) c.take_waker-waker.ensures.rest)
     c.load-found.ensures (search rules))

@@ -14,7 +14,7 @@ module _ {T W : Type 0} where
   found_claimed (finds (tail (tail (tail (tail (tail head))))) stays_away stays_away) = (refl, refl)
   found_claimed (finds (tail (tail (tail (tail (tail (tail (tail (tail there)))))))) _ _) = elim there [ ]
 
-  found_nothing : {m : Held T} {w : Held W} → ReceiverFinds overdue Load 3 away away m w → (m ≡ away) × (w ≡ away)
+  found_nothing : {m : Held T} {w : Held W} → ReceiverFinds overdue Load EMPTY away away m w → (m ≡ away) × (w ≡ away)
   found_nothing (finds head stays_away stays_away) = (refl, refl)
   found_nothing (finds (tail (tail (tail there))) _ _) = elim there [ ]
 
@@ -27,8 +27,8 @@ module _ {T W : Type 0} where
   waits_on : {s t : Plain T W} {found : ℕ} → ReceiverIs s overdue away away → ReceiverDid s Load found t → found ≡ EMPTY
       → ReceiverIs t overdue away away
   waits_on is did same =
-      let none = found_nothing (receiver_told Load 3 is did same) in
-      record { at = receiver_went Load 3 is did same; message = none.0; waker = none.1 }
+      let none = found_nothing (receiver_told Load EMPTY is did same) in
+      record { at = receiver_went Load EMPTY is did same; message = none.0; waker = none.1 }
 
 pub load-found-requires : goal.load-found-requires
 load-found-requires g c =
