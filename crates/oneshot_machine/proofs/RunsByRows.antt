@@ -1,6 +1,6 @@
 -- What each row of a table carries on, a run carries to its reply: one induction for every law of runs. The same of an
 -- operation's rows in the phases' table.
-use Rattle.std.proofs.Common.{◌≡◌, Bool, true, false, List, [], ◌∷◌, Option, Some, None, refl, sym, ap, ◌∙◌, subst}
+use Rattle.std.proofs.Common.{◌≡◌, Bool, true, false, List, [], ◌∷◌, Option, Some, None, refl, sym, ap, ◌∙◌, subst, true≢false}
 use Rattle.std.proofs.lemmas.Bool.{and_parts, eqb-true}
 use Rattle.std.specs.Prelude.{if◌then◌else◌}
 use Rattle.std.specs.List.{list_all, cons_option}
@@ -25,7 +25,7 @@ seens_are_same (Refused true) (Refused true) e = refl
 seens_are_same (Refused false) (Refused false) e = refl
 seens_are_same (Token true) (Token true) e = refl
 seens_are_same (Token false) (Token false) e = refl
-seens_are_same _ _ e = absurd (cc)
+seens_are_same _ _ e = absurd (true≢false (sym e))
 
 module _ {P : Type 0} where
   -- a test that all rows pass, the row for what was seen passes

@@ -64,7 +64,7 @@ ops_are_same (Exchange a b) (Exchange c d) e =
     ap (λ x. Exchange x b) (eqb-true a c parts.0) ∙ ap (λ x. Exchange c x) (eqb-true b d parts.1)
 ops_are_same Add Add e = refl
 ops_are_same Xor Xor e = refl
-ops_are_same _ _ e = absurd (cc)
+ops_are_same _ _ e = absurd (true≢false (sym e))
 
 pub same_sight : (op : Op) (word : ℕ) → is_same_seen (saw op word) (saw op word) ≡ true
 same_sight (Store new) word = refl
@@ -84,7 +84,7 @@ pub shares_are_same : (a b : Share) → is_same_share a b ≡ true → a ≡ b
 shares_are_same none none e = refl
 shares_are_same empty empty e = refl
 shares_are_same filled filled e = refl
-shares_are_same _ _ e = absurd (cc)
+shares_are_same _ _ e = absurd (true≢false (sym e))
 
 -- a slot with this share, which this fills
 pub fill : {X : Type 0} → X → Share → Held X
