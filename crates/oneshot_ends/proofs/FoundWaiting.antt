@@ -46,7 +46,7 @@ first_finds : {op : Op} {before after : Slots} {word : ℕ} {next : SenderAt}
     → is_same_seen (saw op word) (Word RECEIVING) ≡ true
 first_finds {op} {word} row zero =
     if_so (word == RECEIVING) (is_same_seen (saw op word) (Word RECEIVING))
-        (each_passes sees_zero (sender_moves fresh) refl row)
+    (each_passes sees_zero (sender_moves fresh) refl row)
     (eq-eqb word RECEIVING zero)
 
 on_sender : (xs : List Noted) {ys : List Noted} {op : Op} {before after : Slots} {word : ℕ} {next : SenderAt}

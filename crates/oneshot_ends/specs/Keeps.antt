@@ -32,12 +32,12 @@ module _ {T K P : Type 0} where
 
   -- The same, where the wakers are no thread's; and what the task has registered stays registered.
   pub record KeepsPolled (before after : Side T (AnyWaker WakingHalf K) P) (cx polled : Context) (id still : ℕ) : Type 0
-      where
-    pub task : Keeps cx polled
-    pub source : id ≡ still
-    pub about : after.about ≡ before.about
-    pub no_thread : WaitsByNoThread before → WaitsByNoThread after
-    pub taken : KeepsTaken before.passed after.passed before.log after.log
+    where
+      pub task : Keeps cx polled
+      pub source : id ≡ still
+      pub about : after.about ≡ before.about
+      pub no_thread : WaitsByNoThread before → WaitsByNoThread after
+      pub taken : KeepsTaken before.passed after.passed before.log after.log
 
   -- a step that changes nothing keeps all this, and so do two steps that do
   abbrev pub own_stays : {s : Side T (AnyWaker WakingHalf K) P} → KeepsOwn s s
