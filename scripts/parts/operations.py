@@ -2,8 +2,7 @@
 - each function of oneshot_word does with the shared table what OPERATIONS says, and no other function reaches it;
 - the looks of oneshot_ends are those of LOOKS, each makes one load, and no other function of that crate makes one;
 - of requests and tickets those of REQUESTS look, once each, and no other call;
-- each call of LAST_CALLS takes its end apart first, so that the end's drop can't run in its place, and lets it go as
-  said there; no function of the channel forgets a value.
+- no function of the channel forgets a value, and its `unsafe` is that of UNSAFE.
 """
 import re
 
@@ -18,7 +17,7 @@ OPERATIONS = {
     "SenderSide::swap": "table.shared.swap seat",
     "SenderSide::trade_message": "seat.turn table.shared.exchange seat seat.turn",
     "SenderSide::trade_waker": "table.shared.exchange seat",
-    "Drop for SenderSide::drop": "table seat",
+    "SenderSide::let_go": "table seat",
     "ReceiverSide::load": "table.shared.load seat",
     "ReceiverSide::store": "table.shared.swap seat",
     "ReceiverSide::swap": "table.shared.swap seat",
@@ -26,7 +25,7 @@ OPERATIONS = {
     "ReceiverSide::owns_its_slots": "seat",
     "ReceiverSide::trade_message": "table.shared.exchange seat",
     "ReceiverSide::trade_waker": "seat.turn table.shared.exchange seat seat.turn",
-    "Drop for ReceiverSide::drop": "table seat",
+    "ReceiverSide::let_go": "table seat",
     # the load of a look, which no log has
     "Peek for SenderSide::peek": "table",
     "Peek for ReceiverSide::peek": "table",
@@ -36,6 +35,7 @@ OPERATIONS = {
     "a_sender_is_in_an_order": "seat",
     # what makes a channel
     "open": "made seat made table table seat table seat seat",
+    "discard": "table seat table seat",
     "seated": "made seat made.shared.load seat made.shared.split_seat seat made seat",
     "shared": "table made table table",
 }
@@ -58,15 +58,14 @@ REQUESTS = {
     "Ticket::is_closed": "self.replies.is_closed",
 }
 
-# How each call that ends an end lets it go.
-LAST_CALLS = {
-    "Sender::send": "ground.sent",
-    "Sender::send_kept": "ground.sent",
-    "Drop for Sender::drop": "ground.dropped",
-    "Receiver::recv": "ground.received",
-    "Drop for Receiver::drop": "ground.dropped",
-    "Drop for AsyncReceiver::drop": "ground.dropped",
-}
+# The `unsafe` of the channel: by it a function could let go what it may neither drop nor forget.
+UNSAFE = [
+    "oneshot_word/src/sender.rt: impl<T: Send, H: Send, K: Send, P: Promise<T>> Send for SenderSide<T, H, K, P> {}",
+    "oneshot_word/src/sender.rt: impl<T: Send + Sync, H: Send, K: Send, P: Promise<T>> Sync"
+    " for SenderSide<T, H, K, P> {}",
+    "oneshot_ends/src/freed.rt: impl Send for Freed {}",
+]
+
 CHANNEL = ["oneshot_errors", "oneshot_machine", "oneshot_drive", "oneshot_word", "oneshot_ends", "oneshot_reply"]
 
 
@@ -121,18 +120,17 @@ def compare_requests():
     return f"{len(found)} calls of requests that look"
 
 
-def compare_last_calls():
-    bodies = {name: body for file in sources("oneshot_ends") for name, _, _, body in functions(code_of(file))}
-    found = {name: use for name, body in bodies.items()
-             if (use := " ".join(re.findall(r"ground\.(?:sent|received|dropped)\b", body)))}
-    wrong = list(differences(found, LAST_CALLS))
-    for name in LAST_CALLS:
-        end = re.sub(".* for ", "", name.split("::")[0])
-        if not re.match(r"\{\s*let " + end + r" \{[^}]*\} = self;", bodies.get(name, "")):
-            wrong.append(f"{name}: it does not take its end apart first")
-    for file in sources(*CHANNEL):
-        for number, line in enumerate(code_of(file).split("\n"), 1):
-            if re.search(r"\bforget\b|\bManuallyDrop\b|\bleak\b", line):
-                wrong.append(f"{place(file)}:{number}: it forgets a value: {line.strip()}")
-    none_of(wrong)
-    return f"{len(LAST_CALLS)} calls that consume an end"
+def compare_forgotten():
+    files = sources(*CHANNEL)
+    none_of([f"{place(file)}:{number}: it forgets a value: {line.strip()}"
+             for file in files for number, line in enumerate(code_of(file).split("\n"), 1)
+             if re.search(r"\b(?:forget|ManuallyDrop|MaybeUninit|leak|(?:Box|Arc|Rc)::into_raw)\b", line)]
+            if files else ["no files"])
+    return f"{len(files)} files of the channel that forget no value"
+
+
+def compare_unsafe():
+    found = [f"{place(file).relative_to('crates')}: {rest.strip()}"
+             for file in sources(*CHANNEL) for rest in re.findall(r"\bunsafe\b(.*)", code_of(file))]
+    none_of([f"unsafe: {it}" for it in set(found) ^ set(UNSAFE)] if len(found) == len(UNSAFE) else found)
+    return f"{len(found)} lines of the channel that are unsafe"

@@ -25,7 +25,8 @@ EXAMPLES = re.compile(
 UNREACHED = [
     ("oneshot_drive.Blocking", "EndsAt HandAt Path ReceiveBy Refills Stretch end_of load_of ref_end value_end",
      "of `find`, which the drivers alone call, and from which their own clauses are proved"),
-    ("oneshot_ends.Keeps", "*_stays *_stays_on", "proofs, which the grounds of a receiver cite"),
+    ("oneshot_ends.Keeps", "*_stays *_stays_on has_lent_on has_lent_back",
+     "proofs, which the grounds of a receiver cite"),
     ("oneshot_ends.Taken", "taken_stays taken_stays_on", "proofs, which the grounds of a receiver cite"),
     ("oneshot_errors.Texts", "*", "texts, which tests compare with what the errors print"),
     ("oneshot_machine.Standing", "*", "what that law computes of each table"),

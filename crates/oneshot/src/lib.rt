@@ -2,7 +2,7 @@
 #![tactic(auto)]
 
 pub use oneshot_channel::{
-    AsyncReceiver, Promise, RawReceiver, RawSender, Receiver, RecvError, RecvTimeoutError,
+    AsyncReceiver, Message, Promise, RawReceiver, RawSender, Receiver, RecvError, RecvTimeoutError,
     SendError, Sender, TryRecvError, async_channel, async_channel_for, channel, channel_for, reply,
 };
 pub use oneshot_drive as drive;

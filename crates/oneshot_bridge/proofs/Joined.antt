@@ -72,7 +72,6 @@ module _ {T H K : Type 0} where
   pub full_waker : (k : AnyWaker H K) → ◌≡◌ {A = Slot T H K} (with_waker k) Empty → ⊥
   full_waker (R.Thread half) e = cc
   full_waker (R.Task copy) e = cc
-  full_waker R.Nobody e = cc
 
 -- the message that passed, or this one if none did
 record Passes {T H K : Type 0} (home : Home T H K) (given taken : Option T) : Type 0 where

@@ -1,8 +1,12 @@
 //! A future without a runtime, because none of its calls blocks.
 
+ghost use Rattle.futures.specs.Poll.{OnPending};
+ghost use Rattle.oneshot_channel.specs.Ends.{WillBeWoken};
+
 use crate::asserts::{assert_same, assert_that};
+use futures::Future;
 use futures::executor::block_on;
-use futures::task::Poll;
+use futures::task::{Context, Poll};
 use futures::test::MockTask;
 use oneshot_channel::{AsyncReceiver, RecvError, TryRecvError, async_channel};
 use std::alloc::Global;
@@ -15,6 +19,17 @@ fn start<R: Threads>(rt: &R, alloc: Global, number: u64) -> io::Result<AsyncRece
     let (sender, receiver) = async_channel((), alloc)?;
     spawn(rt, move || sender.send(number).is_ok())?;
     Ok(receiver)
+}
+
+/// Polls once. After `Pending` the task of `cx` will be polled again: it has asked for that, or the waker by which the
+/// sender wakes the future is its own.
+fn poll_once<T: Drop>(
+    receiver: &mut AsyncReceiver<T, ()>,
+    cx: &mut Context<'_>,
+) -> Poll<Result<T, RecvError>>
+    ensures { OnPending result (WillBeWoken cx.new receiver.new) }
+{
+    receiver.poll(cx)
 }
 
 #[test]

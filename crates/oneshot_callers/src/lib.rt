@@ -21,10 +21,10 @@ mod promised;
 #[cfg(test)]
 mod results;
 #[cfg(test)]
+mod sent;
+#[cfg(test)]
 mod taken;
 #[cfg(test)]
 mod tallied;
 #[cfg(test)]
 mod tickets;
-#[cfg(test)]
-mod woken;

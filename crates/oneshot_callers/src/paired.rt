@@ -1,13 +1,12 @@
 //! Callers that have both ends of one channel, and callers of a future that know which message it took.
 
-ghost use Rattle.std.specs.Prelude.{◌≡◌, ◌<◌, None, Err, IfSome};
-ghost use Rattle.oneshot_channel.specs.Taken.{WasSent};
+ghost use Rattle.std.specs.Prelude.{◌≡◌, ◌<◌, None, Some, Err, IfOk, IfSome};
 ghost use Rattle.oneshot_channel.specs.TryRecvError.TheVariants as Tried;
 
 use crate::asserts::assert_same;
 use oneshot_channel::laws::{
     an_unfinished_future_took_none, one_channel_is_about_one_value,
-    one_channel_of_a_future_is_about_one_value, what_a_future_took_was_sent,
+    one_channel_of_a_future_is_about_one_value,
 };
 use oneshot_channel::{
     AsyncReceiver, Promise, Receiver, Sender, TryRecvError, async_channel, async_channel_for,
@@ -49,15 +48,14 @@ fn left_to_a_future<Rt: Drop>(
     future.try_recv().ok()
 }
 
-/// Receives if the message is there, which the sender gave. After `Empty` the future has taken none.
-fn tried<T: Drop, Rt: Drop, H, K, P: Promise<T>>(
+/// Receives if the message is there, which is the one that the future took. After `Empty` it has taken none.
+fn tried<T: Drop, Rt: Drop, P: Promise<T>>(
     future: &mut AsyncReceiver<T, Rt, P>,
 ) -> Result<T, TryRecvError>
-    ensures sent { WasSent H K P.keeps future.new.log future.new.took }
+    ensures taken { IfOk result (λ message. future.new.took ≡ Some message) }
     ensures none { result ≡ Err Tried.Empty → future.new.took ≡ None }
 {
     let result = future.try_recv();
-    what_a_future_took_was_sent::<T, Rt, H, K, P>(future);
     an_unfinished_future_took_none(future);
     result
 }
@@ -74,17 +72,9 @@ fn both_ends_are_about_one_length(rt: HostRuntime) -> Result<(), Fail> {
 #[test]
 fn a_future_takes_its_message_once(rt: HostRuntime) -> Result<(), Fail> {
     let (sender, mut future) = async_channel::<u8, ()>((), rt.alloc())?;
-    assert_same(
-        &rt,
-        tried::<u8, (), (), (), ()>(&mut future),
-        Err(TryRecvError::Empty),
-    );
+    assert_same(&rt, tried(&mut future), Err(TryRecvError::Empty));
     assert_same(&rt, sender.send(7).is_ok(), true);
-    assert_same(&rt, tried::<u8, (), (), (), ()>(&mut future), Ok(7));
-    assert_same(
-        &rt,
-        tried::<u8, (), (), (), ()>(&mut future),
-        Err(TryRecvError::Disconnected),
-    );
+    assert_same(&rt, tried(&mut future), Ok(7));
+    assert_same(&rt, tried(&mut future), Err(TryRecvError::Disconnected));
     Ok(())
 }

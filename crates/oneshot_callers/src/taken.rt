@@ -1,26 +1,22 @@
-//! A caller that knows which message its receiver took, and that the sender gave it.
+//! A caller that knows which message its receiver took.
 
 ghost use Rattle.std.specs.Prelude.{◌≡◌, None, Some, Err, IfOk};
-ghost use Rattle.oneshot_channel.specs.Taken.{WasSent};
 ghost use Rattle.oneshot_channel.specs.TryRecvError.TheVariants as Tried;
 
 use crate::asserts::assert_same;
-use oneshot_channel::laws::{an_open_receiver_took_none, what_a_receiver_took_was_sent};
+use oneshot_channel::laws::an_open_receiver_took_none;
 use oneshot_channel::{Promise, Receiver, TryRecvError, channel};
 use std::test::Fail;
 
 /// Receives if the message is there, whatever was done with the receiver before. A message that comes is the one
-/// that the receiver took, and the sender gave it. After `Empty` the receiver has taken none. `H` and `K` are the
-/// wakers of the channel: the law holds for any.
-fn tried<T: Drop, Rt: Drop, H, K, P: Promise<T>>(
+/// that the receiver took. After `Empty` the receiver has taken none.
+fn tried<T: Drop, Rt: Drop, P: Promise<T>>(
     receiver: &mut Receiver<T, Rt, P>,
 ) -> Result<T, TryRecvError>
     ensures taken { IfOk result (λ message. receiver.new.took ≡ Some message) }
-    ensures sent { WasSent H K P.keeps receiver.new.log receiver.new.took }
     ensures none { result ≡ Err Tried.Empty → receiver.new.took ≡ None }
 {
     let result = receiver.try_recv();
-    what_a_receiver_took_was_sent::<T, Rt, H, K, P>(receiver);
     an_open_receiver_took_none(receiver);
     result
 }
@@ -28,17 +24,9 @@ fn tried<T: Drop, Rt: Drop, H, K, P: Promise<T>>(
 #[test]
 fn a_message_is_taken_once(rt: HostRuntime) -> Result<(), Fail> {
     let (sender, mut receiver) = channel::<u8, ()>((), rt.alloc())?;
-    assert_same(
-        &rt,
-        tried::<u8, (), (), (), ()>(&mut receiver),
-        Err(TryRecvError::Empty),
-    );
+    assert_same(&rt, tried(&mut receiver), Err(TryRecvError::Empty));
     assert_same(&rt, sender.send(7).is_ok(), true);
-    assert_same(&rt, tried::<u8, (), (), (), ()>(&mut receiver), Ok(7));
-    assert_same(
-        &rt,
-        tried::<u8, (), (), (), ()>(&mut receiver),
-        Err(TryRecvError::Disconnected),
-    );
+    assert_same(&rt, tried(&mut receiver), Ok(7));
+    assert_same(&rt, tried(&mut receiver), Err(TryRecvError::Disconnected));
     Ok(())
 }

@@ -3,8 +3,8 @@
 #![tactic(auto)]
 
 pub use oneshot_ends::{
-    AsyncReceiver, Promise, RawReceiver, RawSender, Receiver, SendError, Sender, async_channel,
-    async_channel_for, channel, channel_for, laws,
+    AsyncReceiver, Message, Promise, RawReceiver, RawSender, Receiver, SendError, Sender,
+    async_channel, async_channel_for, channel, channel_for, laws,
 };
 pub use oneshot_errors::{RecvError, RecvTimeoutError, TryRecvError};
 pub use oneshot_reply as reply;

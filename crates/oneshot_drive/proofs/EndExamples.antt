@@ -1,10 +1,9 @@
 -- Proofs of the examples of ends, of what a call leaves, of replies and of hands.
-use Rattle.oneshot_drive.proofs.Names.{true, false, refl, closed_itself, found_closed, looked, between, blocked, waits, withdrew, is_late, is_overtaken, rests_new, rests_open, rests_closed}
+use Rattle.oneshot_drive.proofs.Names.{true, false, inl, inr, refl, closed_itself, found_closed, looked, between, blocked, waits, withdrew, rests_new, rests_open, rests_closed}
 use Rattle.oneshot_drive.proofs.Names.{leaves_open, leaves_closed, left_received, left_closed, timed_received, timed_out, timed_closed, as_it_was, sender_took, came_back, returned, taken, sent}
 use Rattle.oneshot_drive.proofs.Names.{EndsThatAre, EndsThatAreNot, CallsThatLeave, CallsThatDoNot, RepliesThatAre, HandsThatAre, HandsThatAreNot, Polled, unpolled, left_copy, kept_copy, found_sender}
 use Rattle.oneshot_drive.proofs.Names.{has_resolved, leaves_resolved, leaves_gone, leaves_waiting, tried_resolved, tried_its_copy, is_disconnected}
-use Rattle.oneshot_drive.specs.BetweenCalls.{leaves_received, over_finished, over_late, over_overtaken, last_finished, last_overtaken, found_message, found_unclosed, found_no_sender, left_first}
-use Rattle.oneshot_drive.specs.BetweenCalls.{left_last}
+use Rattle.oneshot_drive.specs.BetweenCalls.{leaves_received, last_finished, last_overtaken}
 
 pub ends_that_are : EndsThatAre
 ends_that_are =
@@ -24,18 +23,8 @@ ends_that_are =
       kept_is_polled = kept_copy;
       claimed_is_polled = found_sender;
       resolved_is_polled = has_resolved found_closed;
-      refused_is_late = is_late;
-      overtaken_is_late = is_overtaken;
-      ended_is_over = λ _. over_finished;
-      refused_is_over = over_late;
-      overtaken_is_over = over_overtaken;
       last_finished_it = λ _. last_finished;
       last_came_too_late = λ _. last_overtaken;
-      received_found_it = found_message;
-      unclosed_found_it = found_unclosed;
-      closed_found_it = found_no_sender;
-      gone_has_left = left_first;
-      ended_has_left = left_last;
     }
 
 blocked_is_polled : Polled (waits blocked) → ⊥
@@ -63,33 +52,9 @@ ends_that_are_not =
       unclosed_rests = λ _ h. elim h [ ];
       blocked_is_polled = blocked_is_polled;
       withdrawn_is_polled = withdrawn_is_polled;
-      sent_is_late = λ _ h. elim h [ ];
-      finishing_is_late = λ _ h. elim h [ ];
-      new_is_over = λ _ h. elim h [ ];
-      owing_is_over = λ _ h. elim h [ ];
-      dropped_is_sent = λ h. elim h [ ];
-      sent_is_dropped = λ h. elim h [ ];
-      late_drop_is_sent = λ h. elim h [ ];
-      late_send_is_dropped = λ h. elim h [ ];
-      overtaken_drop_is_sent = λ h. elim h [ ];
-      overtaken_send_is_dropped = λ h. elim h [ ];
       last_is_hidden = λ _ h. elim h [ ];
       last_finished_too_late = λ _ h. elim h [ ];
       last_is_of_the_other_call = λ h. elim h [ ];
-      new_and_found_it = λ h. elim h [ ];
-      looked_and_found_it = λ _ h. elim h [ ];
-      waits_and_found_it = λ _ h. elim h [ ];
-      claimed_and_found_it = λ h. elim h [ ];
-      overdue_and_found_it = λ h. elim h [ ];
-      withdrew_and_found_it = λ h. elim h [ ];
-      gone_and_found_it = λ h. elim h [ ];
-      ended_and_found_it = λ h. elim h [ ];
-      new_has_left = λ h. elim h [ ];
-      looked_has_left = λ _ h. elim h [ ];
-      waits_has_left = λ _ h. elim h [ ];
-      overdue_has_left = λ h. elim h [ ];
-      received_has_left = λ _ h. elim h [ ];
-      disconnected_has_left = λ _ h. elim h [ ];
     }
 
 pub calls_that_leave : CallsThatLeave
@@ -108,6 +73,8 @@ calls_that_leave =
       polls_too_early = leaves_waiting;
       tries_it = tried_resolved sent;
       tries_too_early = tried_its_copy;
+      leaves_its_copy = inl (refl, tt);
+      woke_its_task = inr tt;
       stays_registered = λ _. refl;
       finds_its_sender = λ _. refl;
       stays_unregistered = λ _. refl;
@@ -128,11 +95,27 @@ calls_that_do_not =
       ends_in_time_and_is_open = λ _ h. elim h [ ];
       polls_it_and_waits = λ _ h. elim h [ ];
       polls_over_nobody_and_waits = λ _ _ h. elim h [ ];
+      pends_and_never_loaded = λ h. elim h [ ];
       pends_and_is_closed = λ _ h. elim h [ ];
       pends_with_the_message = λ _ h. elim h [ ];
       tries_it_and_waits = λ _ h. elim h [ ];
       finds_nothing_and_resolves = λ _ h. elim h [ ];
       tries_and_has_polled = λ h. elim h [ ];
+      leaves_no_copy = λ h.
+          elim h [
+            | inl left ↦ cc left.0
+            | inr none ↦ none
+          ];
+      leaves_an_older_copy = λ h.
+          elim h [
+            | inl left ↦ cc left.0
+            | inr none ↦ none
+          ];
+      leaves_anothers_copy = λ h.
+          elim h [
+            | inl left ↦ left.1
+            | inr none ↦ none
+          ];
       takes_its_copy_back = λ stays. let e = stays refl in cc;
       registers_unasked = λ stays. let e = stays refl in cc;
     }
@@ -179,6 +162,7 @@ hands_that_are_not =
     record {
       open_without = λ _ ready. let e = ready refl in cc;
       taken_while_open = λ _ h. elim h [ ];
+      taken_by_a_future = λ _ h. elim h [ ];
       another_while_closed = λ _ h. elim h [ ];
       found_one = λ _ h. elim h [ ];
       returned_another = λ h. elim h [ ];

@@ -14,8 +14,9 @@ use Rattle.oneshot_machine.proofs.RunsByRows.{next_passes}
 use Rattle.oneshot_drive.specs.Wakes.{finds_waiting, SenderWoke, wakes, wakes_none}
 use Rattle.oneshot_drive.specs.declared.found.Found.{Found}
 use Rattle.oneshot_drive.specs.declared.found.Found.TheVariants as F
-use Rattle.oneshot_drive.specs.BetweenCalls.{SenderIsOver, over_finished, over_late, over_overtaken, LastLeaves, last_finished, last_overtaken, FoundTheEnd, found_message, found_unclosed}
-use Rattle.oneshot_drive.specs.BetweenCalls.{found_no_sender, HasLeft, left_first, left_last}
+use Rattle.oneshot_machine.specs.Over.{SenderIsOver, over_finished, over_late, over_overtaken, FoundTheEnd, found_message, found_unclosed}
+use Rattle.oneshot_drive.specs.BetweenCalls.{LastLeaves, last_finished, last_overtaken}
+use Rattle.oneshot_machine.specs.Over.{found_no_sender, HasLeft, left_first, left_last}
 use Rattle.oneshot_drive.proofs.AfterOperations.{lone, at_word, one_of, sender_lands, lands, sender_still, still}
 use Rattle.oneshot_drive.proofs.SenderCalls.{is_swap}
 

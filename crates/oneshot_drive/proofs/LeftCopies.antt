@@ -82,6 +82,10 @@ module _ {T W : Type 0} where
       → StandsWith receiver_of at slots s → EndsPoll F.Nothing s
   waits_with left_copy is = record { at = waits polled; is_one = leaves_waiting; stands = is }
 
+  phase_with : {at : ReceiverAt} {slots : Slots} {s : GroundState T W} → Left EMPTY at slots
+      → StandsWith receiver_of at slots s → receiver_of s.log ≡ waits polled
+  phase_with left_copy is = is.phase
+
   full_with : {at : ReceiverAt} {slots : Slots} {s : GroundState T W} → Left MESSAGE at slots
       → StandsWith receiver_of at slots s → StandsWith receiver_of (full by_poll) (filled, filled) s
   full_with left_full is = is
@@ -105,6 +109,9 @@ module _ {T W : Type 0} where
 
     pub left_waits : n ≡ EMPTY → EndsPoll F.Nothing s
     left_waits e = waits_with (left_with EMPTY e) found.stands
+
+    pub left_phase : n ≡ EMPTY → receiver_of s.log ≡ waits polled
+    left_phase e = phase_with (left_with EMPTY e) found.stands
 
     pub left_there : ¬ (n ≡ EMPTY) → IsSlot filled s.waker
     left_there a = there_with found.is_so found.stands a

@@ -1,8 +1,10 @@
 -- The names of other crates and of this one's definitions that the proofs use, exported from one place.
 pub use Rattle.futures.specs.declared.task.Poll.TheVariants.{Ready, Pending}
 pub use Rattle.oneshot_drive.specs.BetweenCalls.{AtRest, rests_open, IsClosedAt, LeavesClosed, left_received, left_closed, LeavesTimed, timed_received, timed_out, timed_closed, IsReady, Hands}
-pub use Rattle.oneshot_drive.specs.BetweenCalls.{as_it_was, sender_took, came_back, rests_new, rests_closed, is_late, is_overtaken, leaves_open, leaves_closed, Rests, Leaves, finishing, LastFinds}
-pub use Rattle.oneshot_drive.specs.BetweenCalls.{finds_waiting, finds_overdue, finds_gone, Finishes, send_reply, IsFresh, IsError, IsLate, Owes, IsOvertaken, IsOpenAt}
+pub use Rattle.oneshot_machine.specs.Over.{is_late, is_overtaken}
+pub use Rattle.oneshot_drive.specs.BetweenCalls.{as_it_was, sender_took, came_back, rests_new, rests_closed, leaves_open, leaves_closed, Rests, Leaves, finishing, LastFinds}
+pub use Rattle.oneshot_machine.specs.Over.{IsLate}
+pub use Rattle.oneshot_drive.specs.BetweenCalls.{finds_waiting, finds_overdue, finds_gone, Finishes, send_reply, IsFresh, IsError, Owes, IsOvertaken, IsOpenAt}
 pub use Rattle.oneshot_drive.specs.Blocking.{Path, value_end, EndsAt, Returns, returned, taken, Refills, refilled, HandAt, Stretch, nothing, answers, onward, ReceiveBy, by_ref, by_value, load_of}
 pub use Rattle.oneshot_drive.specs.Blocking.{write_of, wait_of, end_of, WaitedHand, parks_waiting, parks_overdue, asked_of, ref_end, Parks}
 pub use Rattle.oneshot_drive.specs.Examples.{sent, EndsThatAre, EndsThatAreNot, CallsThatLeave, CallsThatDoNot, RepliesThatAre, HandsThatAre, HandsThatAreNot, log_of, GroundsThatAre}
@@ -17,7 +19,7 @@ pub use Rattle.oneshot_drive.specs.declared.found.Found.{Found}
 pub use Rattle.oneshot_errors.specs.declared.recv.RecvError.{RecvError}
 pub use Rattle.oneshot_errors.specs.declared.recv_timeout.RecvTimeoutError.{RecvTimeoutError}
 pub use Rattle.oneshot_errors.specs.declared.try_recv.TryRecvError.{TryRecvError}
-pub use Rattle.oneshot_machine.proofs.CallBounds.{drop_few, send_few, async_try_recv_few, poll_few, drop_async_few, try_recv_few}
+pub use Rattle.oneshot_machine.proofs.CallBounds.{drop_few, send_few, async_try_recv_few, poll_few, drop_async_few, drop_receiver_few, try_recv_few}
 pub use Rattle.oneshot_machine.proofs.Exactness.{leads, differ}
 pub use Rattle.oneshot_machine.proofs.ExampleRuns.{runs_that_are}
 pub use Rattle.oneshot_machine.proofs.GrownLogs.{receiver_moved, and_then, sender_moved, words_stay}
@@ -60,7 +62,7 @@ pub use Rattle.oneshot_machine.specs.declared.machine.value.ValuePos.TheVariants
 pub use Rattle.oneshot_machine.specs.declared.states.TheConstants.{RECEIVING, UNPARKING, DISCONNECTED, EMPTY, MESSAGE}
 pub use Rattle.oneshot_machine.specs.declared.states.Op.{Op}
 pub use Rattle.oneshot_machine.specs.declared.states.Op.TheVariants.{Store, Load, Swap, Exchange, Add, Xor}
-pub use Rattle.std.proofs.Common.{◌≡◌, ℕ, Bool, true, false, List, [], ◌∷◌, Option, Result, Ok, Err, refl, sym, subst, ◌++◌, Some, ap, ◌∙◌, None, not, ◌≢◌, arith, rules}
+pub use Rattle.std.proofs.Common.{◌≡◌, ℕ, Bool, true, false, List, [], ◌∷◌, Option, Result, Ok, Err, refl, sym, subst, ◌++◌, Some, ap, ◌∙◌, None, not, ◌≢◌, arith, rules, inl, inr}
 pub use Rattle.std.proofs.lemmas.Bool.{eq-eqb}
 pub use Rattle.std.proofs.lemmas.List.{append-nil}
 pub use Rattle.std.proofs.lemmas.List.Elements.{filter_map-append}

@@ -11,8 +11,8 @@ use Rattle.oneshot_machine.specs.declared.machine.Step.TheVariants.{TakeWaker, W
 use Rattle.oneshot_machine.specs.declared.states.Op.TheVariants.{Swap}
 use Rattle.oneshot_machine.specs.declared.states.TheConstants.{UNPARKING, DISCONNECTED, EMPTY}
 use Rattle.oneshot_machine.specs.Logs.{Event, Log, Grows, sender_of, handed, worded}
-use Rattle.oneshot_machine.specs.Phases.{By, SenderAt, fresh, finished, late, overtaken, Closing, closed_itself, Open, looked, between, Swapping, Got, ReceiverAt, first, here, waits, claimed, full}
-use Rattle.oneshot_machine.specs.Phases.{unclosed, disconnected, resolved, gone, ended}
+use Rattle.oneshot_machine.specs.Over.{IsLate}
+use Rattle.oneshot_machine.specs.Phases.{By, SenderAt, fresh, finished, overtaken, Closing, closed_itself, Open, looked, between, ReceiverAt, first, here, waits, claimed, disconnected, resolved}
 use Rattle.oneshot_machine.specs.Slots.{Held, away, vacant, held, SenderMay}
 use Rattle.oneshot_drive.specs.Grounds.{GroundState, SenderStands, StandsIn}
 
@@ -24,17 +24,6 @@ IsFresh = SenderStands fresh
 pub record IsError {T W : Type 0} (refused : Held T) (s : GroundState T W) : Type 0 where
   pub keeps : s.message ≡ refused
   pub no_waker : s.waker ≡ vacant
-
--- a sender whose last operation found the receiver gone
-pub data IsLate : SenderAt → Type 0 where
-  is_late : (by : By) → IsLate (late by)
-  is_overtaken : (by : By) → IsLate (overtaken by)
-
--- a sender that has performed its last operation, in its `send` or in its drop
-pub data SenderIsOver (by : By) : SenderAt → Type 0 where
-  over_finished : SenderIsOver by (finished by)
-  over_late : SenderIsOver by (late by)
-  over_overtaken : SenderIsOver by (overtaken by)
 
 -- A sender that found a waiting receiver: it owns the slot with that receiver's waker. Once it has taken
 -- the waker out, it owes this last word.
@@ -73,17 +62,6 @@ pub record IsOvertaken {T W : Type 0} (before after : GroundState T W) : Type 0 
   pub late : IsLate (sender_of after.log)
   pub message : after.message ≡ before.message
   pub waker : after.waker ≡ vacant
-
--- a receiver that found the message, or that none will come
-pub data FoundTheEnd : ReceiverAt → Type 0 where
-  found_message : (got : Got) → FoundTheEnd (full got)
-  found_unclosed : (by : Swapping) → FoundTheEnd (unclosed by)
-  found_no_sender : (closing : Closing) → FoundTheEnd (disconnected closing)
-
--- a receiver that was dropped
-pub data HasLeft : ReceiverAt → Type 0 where
-  left_first : HasLeft gone
-  left_last : HasLeft ended
 
 -- the phases of a receiver between two calls
 pub data Rests : ReceiverAt → Type 0 where

@@ -1,5 +1,5 @@
 -- Examples and counterexamples of ends between calls, of what calls leave and reply, of hands, grounds and wakers.
-use Rattle.std.specs.Prelude.{◌≡◌, ℕ, Bool, true, false, List, [], ◌∷◌, Some, None, Ok, Err}
+use Rattle.std.specs.Prelude.{◌≡◌, ⊤, ℕ, Bool, true, false, List, [], ◌∷◌, Some, None, Ok, Err}
 use Rattle.futures.specs.declared.task.Poll.TheVariants.{Ready, Pending}
 use Rattle.oneshot_errors.specs.declared.recv.RecvError.{RecvError}
 use Rattle.oneshot_errors.specs.declared.recv_timeout.RecvTimeoutError.TheVariants as Timed
@@ -11,14 +11,14 @@ use Rattle.oneshot_machine.specs.declared.states.Op.TheVariants.{Load, Swap, Exc
 use Rattle.oneshot_machine.specs.declared.states.TheConstants.{RECEIVING, UNPARKING, DISCONNECTED, EMPTY, MESSAGE}
 use Rattle.oneshot_machine.specs.Examples.{waking}
 use Rattle.oneshot_machine.specs.Logs.{Event, Log, did, handed, copied, worded}
-use Rattle.oneshot_machine.specs.Phases.{By, sending, dropping, fresh, owes, finished, late, overtaken, Closing, closed_itself, found_closed, Got, Open, looked, between, Swapping, polled, again}
+use Rattle.oneshot_machine.specs.Phases.{By, sending, dropping, finished, overtaken, Closing, closed_itself, found_closed, Got, Open, looked, between, Swapping, polled, again}
 use Rattle.oneshot_machine.specs.Phases.{blocked, Waiting, first, here, waits, claimed, withdrew, overdue, full, unclosed, disconnected, resolved, gone, ended}
 use Rattle.oneshot_machine.specs.Slots.{Held, away, vacant, held}
-use Rattle.oneshot_drive.specs.BetweenCalls.{IsFresh, IsError, IsLate, SenderIsOver, LastLeaves, FoundTheEnd, HasLeft, Rests, AtRest, IsClosedAt, IsOpenAt, Leaves, LeavesClosed, LeavesTimed, IsReady}
+use Rattle.oneshot_drive.specs.BetweenCalls.{IsFresh, IsError, LastLeaves, Rests, AtRest, IsClosedAt, IsOpenAt, Leaves, LeavesClosed, LeavesTimed, IsReady}
 use Rattle.oneshot_drive.specs.BetweenCalls.{Hands, send_reply, try_recv_reply, recv_reply, timed_reply, received}
 use Rattle.oneshot_drive.specs.Blocking.{Parks, Returns}
 use Rattle.oneshot_drive.specs.Grounds.{GroundState, SenderAsks, SenderMakes, ReceiverAsks, ReceiverMakes}
-use Rattle.oneshot_drive.specs.Polls.{Polled, IsPolled, LeavesPolled, LeavesTried, StaysRegistered, IsDisconnected, WritesItsCopy, HandsNoWaker, poll_reply, poll_received}
+use Rattle.oneshot_drive.specs.Polls.{Polled, IsPolled, LeavesPolled, LeavesTask, LeavesTried, StaysRegistered, IsDisconnected, WritesItsCopy, HandsNoWaker, poll_reply, poll_received}
 use Rattle.oneshot_drive.specs.Wakes.{Wakes, SenderWoke}
 
 -- a message
@@ -43,19 +43,9 @@ pub record EndsThatAre : Type 0 where
   pub kept_is_polled : Polled (waits again)
   pub claimed_is_polled : Polled claimed
   pub resolved_is_polled : Polled (resolved found_closed)
-  pub refused_is_late : (by : By) → IsLate (late by)
-  pub overtaken_is_late : (by : By) → IsLate (overtaken by)
-  -- an end that may be let go
-  pub ended_is_over : (by : By) → SenderIsOver by (finished by)
-  pub refused_is_over : SenderIsOver sending (late sending)
-  pub overtaken_is_over : SenderIsOver dropping (overtaken dropping)
+  -- how a sender's last operation leaves it
   pub last_finished_it : (by : By) → LastLeaves by true (finished by)
   pub last_came_too_late : (by : By) → LastLeaves by false (overtaken by)
-  pub received_found_it : (g : Got) → FoundTheEnd (full g)
-  pub unclosed_found_it : (s : Swapping) → FoundTheEnd (unclosed s)
-  pub closed_found_it : (c : Closing) → FoundTheEnd (disconnected c)
-  pub gone_has_left : HasLeft gone
-  pub ended_has_left : HasLeft ended
 
 pub record EndsThatAreNot : Type 0 where
   pub disconnected_is_open : (c : Closing) → IsOpenAt (disconnected c) → ⊥
@@ -76,34 +66,9 @@ pub record EndsThatAreNot : Type 0 where
   -- a future between calls is in no call that blocks, and its copy is not taken back
   pub blocked_is_polled : Polled (waits blocked) → ⊥
   pub withdrawn_is_polled : Polled withdrew → ⊥
-  pub sent_is_late : (by : By) → IsLate (finished by) → ⊥
-  pub finishing_is_late : (by : By) → IsLate (owes by) → ⊥
-  -- an end that must not be let go
-  pub new_is_over : (by : By) → SenderIsOver by fresh → ⊥
-  pub owing_is_over : (by : By) → SenderIsOver by (owes by) → ⊥
-  pub dropped_is_sent : SenderIsOver sending (finished dropping) → ⊥
-  pub sent_is_dropped : SenderIsOver dropping (finished sending) → ⊥
-  pub late_drop_is_sent : SenderIsOver sending (late dropping) → ⊥
-  pub late_send_is_dropped : SenderIsOver dropping (late sending) → ⊥
-  pub overtaken_drop_is_sent : SenderIsOver sending (overtaken dropping) → ⊥
-  pub overtaken_send_is_dropped : SenderIsOver dropping (overtaken sending) → ⊥
   pub last_is_hidden : (by : By) → LastLeaves by true (overtaken by) → ⊥
   pub last_finished_too_late : (by : By) → LastLeaves by false (finished by) → ⊥
   pub last_is_of_the_other_call : LastLeaves sending true (finished dropping) → ⊥
-  pub new_and_found_it : FoundTheEnd first → ⊥
-  pub looked_and_found_it : (o : Open) → FoundTheEnd (here o) → ⊥
-  pub waits_and_found_it : (w : Waiting) → FoundTheEnd (waits w) → ⊥
-  pub claimed_and_found_it : FoundTheEnd claimed → ⊥
-  pub overdue_and_found_it : FoundTheEnd overdue → ⊥
-  pub withdrew_and_found_it : FoundTheEnd withdrew → ⊥
-  pub gone_and_found_it : FoundTheEnd gone → ⊥
-  pub ended_and_found_it : FoundTheEnd ended → ⊥
-  pub new_has_left : HasLeft first → ⊥
-  pub looked_has_left : (o : Open) → HasLeft (here o) → ⊥
-  pub waits_has_left : (w : Waiting) → HasLeft (waits w) → ⊥
-  pub overdue_has_left : HasLeft overdue → ⊥
-  pub received_has_left : (g : Got) → HasLeft (full g) → ⊥
-  pub disconnected_has_left : (c : Closing) → HasLeft (disconnected c) → ⊥
 
 -- WHAT A CALL LEAVES
 pub record CallsThatLeave : Type 0 where
@@ -120,6 +85,8 @@ pub record CallsThatLeave : Type 0 where
   pub polls_too_early : LeavesPolled {T = ℕ} Pending (waits polled)
   pub tries_it : LeavesTried (Ok sent) (resolved closed_itself)
   pub tries_too_early : LeavesTried {T = ℕ} (Err E.Empty) (waits again)
+  pub leaves_its_copy : LeavesTask (waits polled) ⊤ ⊥
+  pub woke_its_task : LeavesTask claimed ⊥ ⊤
   pub stays_registered : StaysRegistered {T = ℕ} (Err E.Empty) (waits polled) (waits again)
   pub finds_its_sender : StaysRegistered {T = ℕ} (Err E.Empty) (waits again) claimed
   pub stays_unregistered : StaysRegistered {T = ℕ} (Err E.Empty) first (here looked)
@@ -137,11 +104,15 @@ pub record CallsThatDoNot : Type 0 where
   pub ends_in_time_and_is_open : (o : Open) → LeavesTimed {T = ℕ} (Err Timed.Disconnected) (here o) → ⊥
   pub polls_it_and_waits : (w : Waiting) → LeavesPolled (Ready (Ok sent)) (waits w) → ⊥
   pub polls_over_nobody_and_waits : (e : RecvError) (w : Waiting) → LeavesPolled {T = ℕ} (Ready (Err e)) (waits w) → ⊥
+  pub pends_and_never_loaded : LeavesPolled {T = ℕ} Pending first → ⊥
   pub pends_and_is_closed : (c : Closing) → LeavesPolled {T = ℕ} Pending (resolved c) → ⊥
   pub pends_with_the_message : (g : Got) → LeavesPolled {T = ℕ} Pending (full g) → ⊥
   pub tries_it_and_waits : (w : Waiting) → LeavesTried (Ok sent) (waits w) → ⊥
   pub finds_nothing_and_resolves : (c : Closing) → LeavesTried {T = ℕ} (Err E.Empty) (resolved c) → ⊥
   pub tries_and_has_polled : LeavesTried {T = ℕ} (Err E.Empty) (waits polled) → ⊥
+  pub leaves_no_copy : LeavesTask (here looked) ⊤ ⊥ → ⊥
+  pub leaves_an_older_copy : LeavesTask (waits again) ⊤ ⊥ → ⊥
+  pub leaves_anothers_copy : LeavesTask (waits polled) ⊥ ⊥ → ⊥
   pub takes_its_copy_back : StaysRegistered {T = ℕ} (Err E.Empty) (waits polled) (here looked) → ⊥
   pub registers_unasked : StaysRegistered {T = ℕ} (Err E.Empty) (here looked) (waits polled) → ⊥
 
@@ -181,6 +152,7 @@ pub record HandsThatAre : Type 0 where
 pub record HandsThatAreNot : Type 0 where
   pub open_without : (o : Open) → IsReady {W = Bool} None (here o) → ⊥
   pub taken_while_open : (o : Open) → Hands (Some true) None (here o) → ⊥
+  pub taken_by_a_future : (c : Closing) → Hands (Some true) None (resolved c) → ⊥
   pub another_while_closed : (c : Closing) → Hands (Some true) (Some false) (disconnected c) → ⊥
   pub found_one : (o : Open) → Hands None (Some true) (here o) → ⊥
   pub returned_another : Returns (Some true) (Some false) → ⊥

@@ -1,5 +1,5 @@
 -- How a poll ends, the states of a future between its calls, and which wakers its calls pass on.
-use Rattle.std.specs.Prelude.{◌≡◌, ⊤, Bool, true, false, List, [], ◌∷◌, Option, None, Result, Ok, Err}
+use Rattle.std.specs.Prelude.{◌≡◌, ◌⊎◌, ⊤, Bool, true, false, List, [], ◌∷◌, Option, None, Result, Ok, Err}
 use Rattle.std.specs.List.{filter_map}
 use Rattle.futures.specs.declared.task.Poll.{Poll}
 use Rattle.futures.specs.declared.task.Poll.TheVariants.{Ready, Pending}
@@ -75,6 +75,10 @@ abbrev pub poll_reply : {T : Type 0} → Poll (Result T RecvError) → Reply
 poll_reply (Ready (Ok x)) = R.Message
 poll_reply (Ready (Err e)) = R.Disconnected
 poll_reply Pending = R.Pending
+
+-- How a pending poll leaves its task: with its copy as the waker that the future gave last, or woken.
+abbrev pub LeavesTask : ReceiverAt → Type 0 → Type 0 → Type 0
+LeavesTask at its_copy woken = ((at ≡ waits polled) × its_copy) ⊎ woken
 
 -- the message that was returned, if any
 abbrev pub poll_received : {T : Type 0} → Poll (Result T RecvError) → List T

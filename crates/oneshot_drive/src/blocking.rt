@@ -6,10 +6,12 @@ ghost use Rattle.oneshot_machine.specs.declared.machine.receiver.ReceiverPos.The
 ghost use Rattle.oneshot_machine.specs.declared.machine.by_ref.RefPos.TheVariants.{StartLoad};
 ghost use Rattle.oneshot_machine.specs.declared.machine.receiver.ReceiverStart.TheVariants.{Recv, RecvRef, RecvDeadline, RecvTimeout};
 ghost use Rattle.oneshot_machine.specs.Logs.{receiver_of};
+ghost use Rattle.oneshot_machine.specs.Slots.{away};
 ghost use Rattle.oneshot_machine.specs.Receiver.{receiver_step, receiver_row};
 ghost use Rattle.oneshot_machine.specs.Runs.{Ran, ReceiverRan};
 ghost use Rattle.oneshot_drive.specs.Blocking.{Returns};
-ghost use Rattle.oneshot_drive.specs.BetweenCalls.{AtRest, IsClosedAt, LeavesClosed, LeavesTimed, FoundTheEnd, IsReady, Hands, recv_reply, timed_reply, received};
+ghost use Rattle.oneshot_machine.specs.Over.{FoundTheEnd};
+ghost use Rattle.oneshot_drive.specs.BetweenCalls.{AtRest, IsClosedAt, LeavesClosed, LeavesTimed, IsReady, Hands, recv_reply, timed_reply, received};
 
 use crate::found::Found;
 use crate::ground::BlockGround;
@@ -166,6 +168,7 @@ pub fn recv<T, W: Drop, G: BlockGround<T, W>>(
     ensures run { ReceiverRan Recv (G.state g.old).log (G.state g.new).log
         (recv_reply result) [] (received result) }
     ensures found { FoundTheEnd (receiver_of (G.state g.new).log) }
+    ensures freed { (G.state g.new).message ≡ away }
     ensures stays { IsClosedAt (receiver_of (G.state g.old).log) → IsErr result }
     ensures hand { Returns hand.old hand.new }
     ensures given { IfOk result (λ message. G.gives g.old message) }

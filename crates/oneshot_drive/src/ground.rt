@@ -6,7 +6,7 @@ ghost use Rattle.oneshot_machine.specs.declared.states.Op.TheVariants.{Load, Sto
 ghost use Rattle.oneshot_machine.specs.Phases.{By};
 ghost use Rattle.oneshot_machine.specs.Logs.{Grows, words, sender_of, receiver_of, did, wrote, took, handed, parked, clocked, copied, worded};
 ghost use Rattle.oneshot_machine.specs.Slots.{away, vacant, held};
-ghost use Rattle.oneshot_drive.specs.BetweenCalls.{SenderIsOver};
+ghost use Rattle.oneshot_machine.specs.Over.{SenderIsOver};
 ghost use Rattle.oneshot_drive.specs.Blocking.{Parks};
 ghost use Rattle.oneshot_drive.specs.Grounds.{GroundState, SenderAsks, SenderMakes, ReceiverAsks, ReceiverMakes};
 ghost use Rattle.oneshot_drive.specs.Wakes.{finds_waiting};
@@ -33,7 +33,7 @@ pub trait SenderGround<T, W> {
     // The end has given this message to the channel.
     ghost gave: { Self → T → Type 0 };
 
-    // What holds of an end once its `send` or its drop is over: it may be let go.
+    // What holds of an end once its `send` or its drop is over: it may be released.
     ghost ended: { By → Self → Type 0 };
 
     // Its last operation is made, and it has woken the receiver that it found waiting.
@@ -150,8 +150,6 @@ pub trait ReceiverGround<T, W> {
     // What the ground is ready for, beside this waker, which is not in its slot: to give a waker, and to park.
     ghost has: { Self → Option W → Type 0 };
 
-    ghost has_on: { (a b : Self) (hand : Option W) → keeps a b → has a hand → has b hand };
-
     // What holds of a message that the ground hands out.
     ghost gives: { Self → T → Type 0 };
 
@@ -190,6 +188,7 @@ pub trait ReceiverGround<T, W> {
         requires { ReceiverAsks (Exchange expected new) (state self.old) }
         ensures log { Grows (state self.old).log (state self.new).log (worded (Exchange expected new) result ∷ []) }
         ensures finds { ReceiverMakes (Exchange expected new) result (state self.old) (state self.new) }
+        ensures has { (hand : Option W) → has self.old hand → has self.new hand }
         ensures keeps { keeps self.old self.new };
 
     /// Takes the message out of its slot, and returns it.
@@ -203,20 +202,12 @@ pub trait ReceiverGround<T, W> {
         ensures waker { (state self.new).waker ≡ (state self.old).waker }
         ensures keeps { keeps self.old self.new };
 
-    /// Drops the message in its slot.
-    fn drop_message(&mut self)
-        requires { (x : T) × ((state self.old).message ≡ held x) }
-        ensures log { Grows (state self.old).log (state self.new).log (did DropMessage ∷ []) }
-        ensures message { (state self.new).message ≡ vacant }
-        ensures waker { (state self.new).waker ≡ (state self.old).waker }
-        ensures keeps { keeps self.old self.new };
-
     /// Takes the waker back out of its slot, and returns it.
     fn withdraw(&mut self) -> W
         requires { (k : W) × ((state self.old).waker ≡ held k) }
         ensures log { Grows (state self.old).log (state self.new).log (handed Withdraw result ∷ []) }
         ensures was { (state self.old).waker ≡ held result }
-        ensures has { has self.old None → has self.new (Some result) }
+        ensures has { (waker : W) → has self.old (Some waker) → has self.new (Some waker) }
         ensures message { (state self.new).message ≡ (state self.old).message }
         ensures waker { (state self.new).waker ≡ vacant }
         ensures keeps { keeps self.old self.new };
@@ -229,6 +220,17 @@ pub trait ReceiverGround<T, W> {
         ensures message { (state self.new).message ≡ away }
         ensures waker { (state self.new).waker ≡ away }
         ensures keeps { keeps self.old self.new };
+}
+
+/// The steps of the receiver in its drop. No call that returns a message has them.
+pub trait DropGround<T, W>: ReceiverGround<T, W> {
+    /// Drops the message in its slot.
+    fn drop_message(&mut self)
+        requires { (x : T) × ((Self.state self.old).message ≡ held x) }
+        ensures log { Grows (Self.state self.old).log (Self.state self.new).log (did DropMessage ∷ []) }
+        ensures message { (Self.state self.new).message ≡ vacant }
+        ensures waker { (Self.state self.new).waker ≡ (Self.state self.old).waker }
+        ensures keeps { Self.keeps self.old self.new };
 }
 
 /// The steps of the receiver in a call that may give its waker.
@@ -249,6 +251,9 @@ pub trait BlockGround<T, W>: WaitGround<T, W> {
     // What a park, with a deadline or without, does beside the channel.
     ghost parks: { Bool → Self → Self → Type 0 };
 
+    // What a reading of the clock, by which the deadline is over or not, does beside the channel.
+    ghost reads: { Bool → Self → Self → Type 0 };
+
     /// Blocks until the receiver is woken; if `timed`, at most until its deadline. It may return earlier (a
     /// spurious wakeup). Only the log records whether the receiver was woken. A receiver whose deadline is
     /// over parks without one, because a timed park would not block.
@@ -267,7 +272,14 @@ pub trait BlockGround<T, W>: WaitGround<T, W> {
         ensures log { Grows (Self.state self.old).log (Self.state self.new).log (clocked result ∷ []) }
         ensures message { (Self.state self.new).message ≡ (Self.state self.old).message }
         ensures waker { (Self.state self.new).waker ≡ (Self.state self.old).waker }
-        ensures keeps { Self.keeps self.old self.new };
+        ensures keeps { Self.keeps self.old self.new }
+        ensures reads { reads result self.old self.new };
+
+    // What it is ready for stays so, and it may give a waker again that it takes back.
+    ghost has_on: { (a b : Self) (hand : Option W) → Self.keeps a b → Self.has a hand → Self.has b hand };
+
+    ghost has_back: { (a b : Self) (waker : W) → (Self.state a).waker ≡ held waker → Self.keeps a b
+        → Self.has a None → Self.has b (Some waker) };
 }
 
 /// The steps of the receiver in a poll.
@@ -275,13 +287,16 @@ pub trait TaskGround<T, W>: WaitGround<T, W> {
     // The poll's task will be polled again: it was woken, or its waker was copied.
     ghost heard: { Self → Type 0 };
 
+    // The poll has woken its own task.
+    ghost woke_own: { Self → Type 0 };
+
     /// Clones the task's waker, and returns this copy. `None`: the copy was refused.
     fn copy(&mut self) -> Option<W>
         ensures log { Grows (Self.state self.old).log (Self.state self.new).log (copied result ∷ []) }
         ensures message { (Self.state self.new).message ≡ (Self.state self.old).message }
         ensures waker { (Self.state self.new).waker ≡ (Self.state self.old).waker }
         ensures heard { IfSome result (λ _. heard self.new) }
-        ensures has { Self.has self.old None → Self.has self.new result }
+        ensures has { IfSome result (λ waker. Self.has self.new (Some waker)) }
         ensures keeps { Self.keeps self.old self.new };
 
     /// Wakes the poll's task with its own waker.
@@ -290,6 +305,7 @@ pub trait TaskGround<T, W>: WaitGround<T, W> {
         ensures message { (Self.state self.new).message ≡ (Self.state self.old).message }
         ensures waker { (Self.state self.new).waker ≡ (Self.state self.old).waker }
         ensures heard { heard self.new }
+        ensures woken { woke_own self.new }
         ensures keeps { Self.keeps self.old self.new };
 
     ghost heard_on: { (a b : Self) → heard a → Self.keeps a b → heard b };

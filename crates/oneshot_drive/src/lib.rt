@@ -11,7 +11,9 @@ mod sender;
 mod waiting;
 
 pub use blocking::{recv, recv_deadline, recv_ref, recv_timeout};
-pub use ground::{BlockGround, ErrorGround, ReceiverGround, SenderGround, TaskGround, WaitGround};
+pub use ground::{
+    BlockGround, DropGround, ErrorGround, ReceiverGround, SenderGround, TaskGround, WaitGround,
+};
 pub use polling::{async_try_recv, drop_async, poll};
 pub use receiver::{drop_receiver, try_recv};
 pub use sender::{drop_error, drop_sender, into_inner, send};

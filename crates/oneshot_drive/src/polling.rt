@@ -17,13 +17,14 @@ ghost use Rattle.oneshot_machine.specs.Runs.{Ran, ReceiverRan};
 ghost use Rattle.oneshot_machine.specs.TableRows.{Goes};
 ghost use Rattle.oneshot_drive.specs.declared.found.Found.TheVariants as F;
 ghost use Rattle.oneshot_drive.specs.Blocking.{Path};
-ghost use Rattle.oneshot_drive.specs.BetweenCalls.{IsClosedAt, HasLeft, try_recv_reply, received};
+ghost use Rattle.oneshot_machine.specs.Over.{HasLeft};
+ghost use Rattle.oneshot_drive.specs.BetweenCalls.{IsClosedAt, try_recv_reply, received};
 ghost use Rattle.oneshot_drive.specs.Grounds.{Stands, ReceiverAsks};
 ghost use Rattle.oneshot_drive.specs.Polls.{IsPolled, LeavesPolled, LeavesTried, StaysRegistered, poll_reply, poll_received, poll_end, EndsPoll, MayLeave, IsDisconnected, WroteCopies, WritesItsCopy};
-ghost use Rattle.oneshot_drive.specs.Polls.{HandsNoWaker};
+ghost use Rattle.oneshot_drive.specs.Polls.{HandsNoWaker, LeavesTask};
 
 use crate::found::Found;
-use crate::ground::{ReceiverGround, TaskGround};
+use crate::ground::{DropGround, ReceiverGround, TaskGround};
 use futures::task::Poll;
 use oneshot_errors::{RecvError, TryRecvError};
 use oneshot_machine::states::{DISCONNECTED, EMPTY, MESSAGE, RECEIVING, UNPARKING};
@@ -35,8 +36,7 @@ use oneshot_machine::states::{DISCONNECTED, EMPTY, MESSAGE, RECEIVING, UNPARKING
 /// - `Pending`: no message yet. The channel has a new copy of the task's waker, in place of an earlier
 ///   poll's; or the poll woke its own task, because the copy was refused or the sender is about to finish.
 pub fn poll<T, W: Drop, G: TaskGround<T, W>>(g: &mut G) -> Poll<Result<T, RecvError>>
-    requires rests { IsPolled (G.state g.old) }
-    requires has { G.has g.old None }
+    requires { IsPolled (G.state g.old) }
     ensures run { ReceiverRan C.Poll (G.state g.old).log (G.state g.new).log
         (poll_reply result) [] (poll_received result) }
     ensures rests { IsPolled (G.state g.new) }
@@ -45,6 +45,8 @@ pub fn poll<T, W: Drop, G: TaskGround<T, W>>(g: &mut G) -> Poll<Result<T, RecvEr
     ensures bounded { MakesWithin (receiver_bound C.Poll) (G.state g.old).log (G.state g.new).log }
     ensures own_copy { WritesItsCopy (G.state g.old).log (G.state g.new).log }
     ensures heard { OnPending result (G.heard g.new) }
+    ensures task { OnPending result
+        (LeavesTask (receiver_of (G.state g.new).log) (G.has g.new None) (G.woke_own g.new)) }
     ensures given { IfReady result (λ answer. IfOk answer (λ message. G.gives g.old message)) }
     ensures had { IfReady result (λ answer. IfOk answer (λ message. G.had g.new message)) }
     ensures keeps { G.keeps g.old g.new }
@@ -61,12 +63,13 @@ pub fn poll<T, W: Drop, G: TaskGround<T, W>>(g: &mut G) -> Poll<Result<T, RecvEr
 
 // Loads the word, and leaves a copy if the sender has not acted.
 fn meet<T, W: Drop, G: TaskGround<T, W>>(g: &mut G) -> Found
-    requires rests { IsPolled (G.state g.old) }
-    requires has { G.has g.old None }
+    requires { IsPolled (G.state g.old) }
     ensures path { Path (Future PollLoad) (poll_end result) (G.state g.old).log (G.state g.new).log }
     ensures ends { EndsPoll result (G.state g.new) }
     ensures stays { IsClosedAt (receiver_of (G.state g.old).log) → result ≡ F.Closed }
     ensures heard { result ≡ F.Nothing → G.heard g.new }
+    ensures task { result ≡ F.Nothing
+        → LeavesTask (receiver_of (G.state g.new).log) (G.has g.new None) (G.woke_own g.new) }
     ensures own { WritesItsCopy (G.state g.old).log (G.state g.new).log }
     ensures keeps { G.keeps g.old g.new }
 {
@@ -86,11 +89,12 @@ fn meet<T, W: Drop, G: TaskGround<T, W>>(g: &mut G) -> Found
 
 // Leaves a copy where there was none.
 fn leave_first<T, W: Drop, G: TaskGround<T, W>>(g: &mut G) -> Found
-    requires open { Stands (here looked) (G.state g.old) }
-    requires has { G.has g.old None }
+    requires { Stands (here looked) (G.state g.old) }
     ensures path { Path (Future PollCopy) (poll_end result) (G.state g.old).log (G.state g.new).log }
     ensures ends { EndsPoll result (G.state g.new) }
     ensures heard { result ≡ F.Nothing → G.heard g.new }
+    ensures task { result ≡ F.Nothing
+        → LeavesTask (receiver_of (G.state g.new).log) (G.has g.new None) (G.woke_own g.new) }
     ensures own { WritesItsCopy (G.state g.old).log (G.state g.new).log }
     ensures keeps { G.keeps g.old g.new }
 {
@@ -109,6 +113,8 @@ fn leave<T, W: Drop, G: TaskGround<T, W>>(g: &mut G, copy: W) -> Found
     ensures path { Path (Future PollWrite) (poll_end result) (G.state g.old).log (G.state g.new).log }
     ensures ends { EndsPoll result (G.state g.new) }
     ensures heard { result ≡ F.Nothing → G.heard g.new }
+    ensures task { result ≡ F.Nothing
+        → LeavesTask (receiver_of (G.state g.new).log) (G.has g.new None) (G.woke_own g.new) }
     ensures own { WroteCopies (Some copy) (G.state g.old).log (G.state g.new).log }
     ensures keeps { G.keeps g.old g.new }
 {
@@ -127,11 +133,12 @@ fn leave<T, W: Drop, G: TaskGround<T, W>>(g: &mut G, copy: W) -> Found
 
 // Leaves a copy in place of an earlier poll's.
 fn leave_again<T, W: Drop, G: TaskGround<T, W>>(g: &mut G) -> Found
-    requires open { Stands (waits again) (G.state g.old) }
-    requires has { G.has g.old None }
+    requires { Stands (waits again) (G.state g.old) }
     ensures path { Path (Future AgainCopy) (poll_end result) (G.state g.old).log (G.state g.new).log }
     ensures ends { EndsPoll result (G.state g.new) }
     ensures heard { result ≡ F.Nothing → G.heard g.new }
+    ensures task { result ≡ F.Nothing
+        → LeavesTask (receiver_of (G.state g.new).log) (G.has g.new None) (G.woke_own g.new) }
     ensures own { WritesItsCopy (G.state g.old).log (G.state g.new).log }
     ensures keeps { G.keeps g.old g.new }
 {
@@ -192,7 +199,7 @@ pub fn async_try_recv<T, W, G: ReceiverGround<T, W>>(g: &mut G) -> Result<T, Try
 /// calls. It never blocks. A sender that is about to finish takes that copy instead.
 ///
 /// It frees the block if the sender was gone or had sent. Otherwise the sender's side frees it.
-pub fn drop_async<T, W: Drop, G: ReceiverGround<T, W>>(g: &mut G)
+pub fn drop_async<T, W: Drop, G: DropGround<T, W>>(g: &mut G)
     requires { IsPolled (G.state g.old) }
     ensures run { ReceiverRan C.DropAsync (G.state g.old).log (G.state g.new).log R.Done [] [] }
     ensures left { HasLeft (receiver_of (G.state g.new).log) }
@@ -222,7 +229,7 @@ fn take_back<T, W: Drop, G: ReceiverGround<T, W>>(g: &mut G)
 }
 
 // Closes the channel, and drops the message if it is there.
-fn close<T, W, G: ReceiverGround<T, W>>(g: &mut G)
+fn close<T, W, G: DropGround<T, W>>(g: &mut G)
     requires { ReceiverAsks (Swap DISCONNECTED) (G.state g.old) }
     ensures run { Ran receiver_step receiver_row (AsyncDrop AsyncSwap) (G.state g.old).log (G.state g.new).log
         R.Done [] [] }

@@ -7,9 +7,10 @@ ghost use Rattle.oneshot_machine.specs.declared.machine.receiver.ReceiverStart.T
 ghost use Rattle.oneshot_machine.specs.Counts.{receiver_bound, MakesWithin};
 ghost use Rattle.oneshot_machine.specs.Logs.{receiver_of};
 ghost use Rattle.oneshot_machine.specs.Runs.{ReceiverRan};
-ghost use Rattle.oneshot_drive.specs.BetweenCalls.{AtRest, IsClosedAt, Leaves, HasLeft, try_recv_reply, received};
+ghost use Rattle.oneshot_machine.specs.Over.{HasLeft};
+ghost use Rattle.oneshot_drive.specs.BetweenCalls.{AtRest, IsClosedAt, Leaves, try_recv_reply, received};
 
-use crate::ground::ReceiverGround;
+use crate::ground::{DropGround, ReceiverGround};
 use oneshot_errors::TryRecvError;
 use oneshot_machine::states::{DISCONNECTED, EMPTY, MESSAGE};
 
@@ -45,10 +46,11 @@ pub fn try_recv<T, W, G: ReceiverGround<T, W>>(g: &mut G) -> Result<T, TryRecvEr
 /// fail.
 ///
 /// It frees the block if the sender was gone or had sent. Otherwise the sender's side frees it.
-pub fn drop_receiver<T, W, G: ReceiverGround<T, W>>(g: &mut G)
+pub fn drop_receiver<T, W, G: DropGround<T, W>>(g: &mut G)
     requires { AtRest (G.state g.old) }
     ensures run { ReceiverRan Drop (G.state g.old).log (G.state g.new).log R.Done [] [] }
     ensures left { HasLeft (receiver_of (G.state g.new).log) }
+    ensures bounded { MakesWithin (receiver_bound Drop) (G.state g.old).log (G.state g.new).log }
 {
     match g.swap(DISCONNECTED) {
         MESSAGE => {

@@ -9,7 +9,8 @@ ghost use Rattle.oneshot_machine.specs.Phases.{By, sending, dropping, finished, 
 ghost use Rattle.oneshot_machine.specs.Runs.{SenderRan};
 ghost use Rattle.oneshot_machine.specs.Slots.{away, held};
 ghost use Rattle.oneshot_drive.specs.Wakes.{SenderWoke};
-ghost use Rattle.oneshot_drive.specs.BetweenCalls.{IsFresh, IsError, IsLate, SenderIsOver, Owes, LastLeaves, Finishes, IsOvertaken, send_reply};
+ghost use Rattle.oneshot_machine.specs.Over.{IsLate, SenderIsOver};
+ghost use Rattle.oneshot_drive.specs.BetweenCalls.{IsFresh, IsError, Owes, LastLeaves, Finishes, IsOvertaken, send_reply};
 
 use crate::ground::{ErrorGround, SenderGround};
 use oneshot_machine::states::{DISCONNECTED, EMPTY, MESSAGE, RECEIVING};

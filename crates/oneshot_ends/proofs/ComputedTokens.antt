@@ -1,5 +1,5 @@
 -- The examples of tokens, computed.
-use Rattle.std.proofs.Common.{◌≡◌, ℕ, Bool, true, false, List, [], ◌∷◌, Option, refl, sym, ap, subst, arith}
+use Rattle.std.proofs.Common.{◌≡◌, ℕ, Bool, List, [], ◌∷◌, Option, refl, sym, subst, arith}
 use Rattle.oneshot_machine.specs.declared.machine.Step.TheVariants.{Wake}
 use Rattle.oneshot_machine.specs.Logs.{handed}
 use Rattle.oneshot_drive.specs.Wakes.{Wakes, wakes, wakes_none}
@@ -7,11 +7,9 @@ use Rattle.oneshot_word.specs.declared.any_waker.AnyWaker.TheVariants.{Thread}
 use Rattle.oneshot_ends.specs.declared.token.Given.{Given}
 use Rattle.oneshot_ends.specs.declared.token.Half.{Half}
 use Rattle.oneshot_ends.specs.declared.token.Half.TheVariants.{Both}
-use Rattle.oneshot_ends.specs.Spins.{Waiting}
 use Rattle.oneshot_ends.specs.Tokens.{undivided, divides, gives, takes, Life, and_then, made, was_divided, was_given}
 use Rattle.oneshot_ends.specs.Woken.{IsWoken}
 use Rattle.oneshot_ends.specs.TokenExamples.{any_wakes, none_wakes, up_to_its_wake, StatesThatAreNot, LivesThatAre, LivesThatAreNot, StepsThatWake, StepsThatDoNot, WakersThatWoke, WakersThatDidNot}
-use Rattle.oneshot_ends.specs.TokenExamples.{WaitsThatAre, WaitsThatAreNot}
 use Rattle.oneshot_ends.proofs.TokenLives.{halves_gave, halves_took}
 use Rattle.oneshot_ends.proofs.Tokens.{Has, has, undivided_has}
 
@@ -82,30 +80,3 @@ wakers_that_woke =
 pub wakers_that_did_not : WakersThatDidNot
 wakers_that_did_not =
     record { unwoken = λ half woken. woken; by_another = λ half given other woken. other woken }
-
-pub waits_that_are : WaitsThatAre
-waits_that_are =
-    record {
-      spins_first = λ deadline reading. (omega arith, λ e. absurd (cc));
-      spins_in_time = λ end now e. (omega arith, λ _. omega arith);
-      spins_once = record { spins = λ _. refl; sleeps = λ never _. absurd (never tt) };
-      sleeps = record { spins = λ never. absurd never; sleeps = λ _ _. (refl, refl) };
-      has_it = λ _. refl;
-      has_not_slept = λ e. absurd (cc);
-    }
-
-pub waits_that_are_not : WaitsThatAreNot
-waits_that_are_not =
-    record {
-      spins_on = λ timed deadline reading may. let few = may.0 in omega arith;
-      spins_late = λ end now e may. let far = may.1 refl in omega arith;
-      spins_unread = λ end may. may.1 refl;
-      spins_past_it = λ reading may. may.1 refl;
-      counts_none = λ parked. let e = parked.spins tt in cc;
-      returns_at_once =
-          λ parked. let e : false ≡ true = ap (λ (w : Waiting). w.taken) (parked.sleeps (λ no. no) refl).1 in cc;
-      wakes_without_it =
-          λ parked. let e : false ≡ true = ap (λ (w : Waiting). w.taken) (parked.sleeps (λ no. no) refl).1 in cc;
-      takes_it_twice = λ parked. let e = (parked.sleeps (λ no. no) refl).0 in cc;
-      lost_it = λ has. let e = has refl in cc;
-    }

@@ -26,6 +26,9 @@ module _ {T P : Type 0} where
   pub future_took : {a b : FutureEndOf T P} → a ≡ b → a.took ≡ b.took
   future_took is = ap (λ (e : FutureEndOf T P). e.took) is
 
+  pub future_registered : {a b : FutureEndOf T P} → a ≡ b → a.registered ≡ b.registered
+  future_registered is = ap (λ (e : FutureEndOf T P). e.registered) is
+
 module _ {P : Type 0} where
   pub sent_steps : {a b : SenderEndOf P} → a ≡ b → a.log ≡ b.log
   sent_steps is = ap (λ (e : SenderEndOf P). e.log) is

@@ -1,5 +1,5 @@
 -- The examples of open and closed ends, logs of calls, orders, deadlines, copies and grounds, computed.
-use Rattle.std.proofs.Common.{◌≡◌, ℕ, Bool, true, false, List, [], ◌∷◌, Option, Some, None, get_or, drop, refl, sym, ap, subst, arith, inl, inr}
+use Rattle.std.proofs.Common.{◌≡◌, ℕ, Bool, true, false, List, [], ◌∷◌, Option, Some, None, get_or, drop, refl, sym, ap, ◌∙◌, subst, arith, inl, inr}
 use Rattle.atomic_table.specs.Seated.{TableId}
 use Rattle.futures.specs.declared.task.context.Context.{Context}
 use Rattle.oneshot_machine.specs.declared.machine.Reply.{Reply}
@@ -18,6 +18,7 @@ use Rattle.oneshot_machine.specs.declared.states.TheConstants.{RECEIVING, DISCON
 use Rattle.oneshot_machine.specs.Called.{not_called, became_future, SenderCalled, not_called_yet, called_once}
 use Rattle.oneshot_machine.specs.Logs.{did, handed, clocked, worded}
 use Rattle.oneshot_machine.specs.Noted.{Noted}
+use Rattle.oneshot_machine.specs.Phases.{sending, dropping, SenderAt, fresh, finished, sender_at, no_receiver, receiver_at}
 use Rattle.oneshot_machine.specs.Orders.{has_row, nothing_made, sender_makes, receiver_makes}
 use Rattle.oneshot_machine.specs.Receiver.{receiver_row}
 use Rattle.oneshot_machine.specs.Runs.{Run, last, more}
@@ -26,8 +27,10 @@ use Rattle.oneshot_machine.specs.Slots.{head}
 use Rattle.oneshot_machine.specs.TableRows.{Goes, Answers}
 use Rattle.oneshot_machine.proofs.FirstSteps.{tries_once, tries_in_vain, sends_with}
 use Rattle.oneshot_word.proofs.Between.{between}
+use Rattle.oneshot_word.proofs.RuleImplies.{Is, word_between}
 use Rattle.oneshot_ends.specs.Ends.{Waking, SenderGrew, ReceiverGrew}
 use Rattle.oneshot_ends.specs.Examples.{ran_out, EndsThatAre, EndsThatAreNot, CallsThatGrow, CallsThatDoNot, DeadlinesThatAre, DeadlinesThatAreNot, CopiesThatAre, CopiesThatAreNot, GroundsThatAre}
+use Rattle.oneshot_ends.specs.OwnWakers.{is_waiting}
 use Rattle.oneshot_ends.specs.Examples.{GroundsThatAreNot, OrdersThatAre, OrdersThatAreNot}
 use Rattle.oneshot_ends.proofs.CallsAnswered.{one_more, was_refused}
 use Rattle.oneshot_ends.proofs.Endless.{never_runs_out}
@@ -163,8 +166,18 @@ orders_that_are =
       looked = ([], 3, receiver_makes Load nothing_made (has_row head));
     }
 
+no_order : (p : SenderAt) {word : ℕ} → Is (word_between p no_receiver) word → ⊥
+no_order fresh met = elim met [ ]
+no_order (finished sending) met = elim met [ ]
+no_order (finished dropping) met = elim met [ ]
+no_order _ met = elim met [ ]
+
 pub orders_that_are_not : OrdersThatAreNot
-orders_that_are_not = record { sent_over_a_message = λ (ys, word, reaches). elim (between reaches) [ ] }
+orders_that_are_not =
+    record {
+      sent_over_a_message = λ (ys, word, reaches). elim (between reaches) [ ];
+      found_a_waker_first = λ (xs, word, reaches). no_order (sender_at xs) (between reaches);
+    }
 
 pub deadlines_that_are : DeadlinesThatAre
 deadlines_that_are =
@@ -203,6 +216,12 @@ module _ (before after : Context) where
         made = λ copy its wakes. (its, inr wakes);
         none_in_hand = tt;
         of_another = λ copy other. other;
+        in_hand = λ copy s wakes. inr wakes;
+        gave_none = λ s logs slot.
+            record {
+              slot = λ k e. absurd (let no = sym slot ∙ e in cc no);
+              gave = λ waits. absurd (let no = sym (ap (λ xs. is_waiting (receiver_at xs)) logs) ∙ waits in cc no);
+            };
       }
 
   pub copies_that_are_not : CopiesThatAreNot before after
@@ -212,6 +231,8 @@ module _ (before after : Context) where
         made_for_another = λ copy other made. other made.0;
         wakes_another = λ copy lacks other made. elim made.1 [ inl lacking ↦ cc | inr wakes ↦ other wakes ];
         has_one = λ copy its none. none its;
+        none_to_give = λ s has. has;
+        has_anothers = λ copy s lacks other has. elim has [ inl lacking ↦ cc | inr wakes ↦ other wakes ];
       }
 
 -- whether the message's slot is the end's

@@ -1,18 +1,18 @@
 -- A ground that was lent has the phase and the slots of the receiver's own ground, and keeps what that keeps.
 use Rattle.std.proofs.Common.{◌≡◌, ℕ, List, Option, refl, sym, ◌∙◌, subst}
-use Rattle.atomic_table.specs.Seated.{TableId}
+use Rattle.std.proofs.Math.Nat.{le_refl}
 use Rattle.futures.specs.declared.task.context.Context.{Context}
 use Rattle.oneshot_machine.specs.Logs.{receiver_of}
 use Rattle.oneshot_machine.specs.Phases.{ReceiverAt, Share}
 use Rattle.oneshot_machine.specs.Slots.{IsSlot}
 use Rattle.oneshot_drive.specs.BetweenCalls.{IsReady}
 use Rattle.oneshot_drive.specs.Grounds.{GroundState, StandsIn}
-use Rattle.oneshot_word.specs.declared.any_waker.AnyWaker.{AnyWaker}
 use Rattle.oneshot_word.specs.Side.{Side}
-use Rattle.oneshot_ends.specs.declared.token.WakingHalf.{WakingHalf}
 use Rattle.oneshot_ends.specs.Grounds.{state_of, lent}
 use Rattle.oneshot_ends.specs.Keeps.{KeepsOwn, KeepsLent, KeepsPolled}
-use Rattle.oneshot_ends.specs.Spins.{Waiting}
+use Rattle.oneshot_ends.specs.OwnWakers.{RealWaker}
+use Rattle.oneshot_ends.specs.declared.patience.Patience.{Patience}
+use Rattle.oneshot_ends.specs.Tokens.{ParkingView}
 
 -- one ground stands as another does if both have the same phase and the same shares of the slots
 pub stands_again : {Phases : ReceiverAt → Type 0} {T W V : Type 0} {s : GroundState T W} {t : GroundState T V}
@@ -45,12 +45,14 @@ pub hand_lent : {T W V P : Type 0} {own s : Side T W P} (hand : Option V) → s 
 hand_lent hand is ready = subst (λ s. IsReady hand (receiver_of (state_of s).log)) (sym is) ready
 
 -- what an operation of the receiver's own ground keeps, a ground that it is lent to keeps
-module _ {T K P : Type 0} {a b : Side T (AnyWaker WakingHalf K) P} (keeps : KeepsOwn a b) where
-  pub blocking_keeps : {w : Waiting} {p : TableId} → KeepsLent a b w w p p
-  blocking_keeps =
+module _ {T P : Type 0} {a b : Side T RealWaker P} (keeps : KeepsOwn a b) where
+  pub blocking_keeps : {patience : Patience} {half : ParkingView} → KeepsLent a b patience patience half half
+  blocking_keeps {patience} =
       record {
         about = keeps.about;
-        token = λ has. has;
+        deadline = refl;
+        spins = le_refl patience.spins;
+        token = λ took. took;
         parker = refl;
         halves = keeps.halves _;
         taken = keeps.taken;

@@ -1,7 +1,8 @@
 -- Each operation of a receiver leaves its wakers its own: computed for each row of the phases' table.
 use Rattle.std.proofs.Common.{◌≡◌, ℕ, Bool, true, false, Option, Some, refl, sym, ap, ◌∙◌, subst}
+use Rattle.std.proofs.Math.Nat.{le_refl}
 use Rattle.std.proofs.lemmas.Bool.{and_parts}
-use Rattle.std.specs.Prelude.{◌&&◌, ◌||◌, if◌then◌else◌, IfSome}
+use Rattle.std.specs.Prelude.{◌≤◌, ◌&&◌, ◌||◌, if◌then◌else◌, IfSome}
 use Rattle.atomic_table.specs.Seated.{TableId}
 use Rattle.oneshot_word.proofs.WakerPasses.{is_put, is_got}
 use Rattle.oneshot_machine.proofs.GrownLogs.{phase_from-snoc}
@@ -9,17 +10,18 @@ use Rattle.oneshot_machine.proofs.EachPhase.{in_each_receiver_row, if_so}
 use Rattle.oneshot_machine.specs.declared.states.Op.{Op}
 use Rattle.oneshot_machine.specs.Noted.{saw}
 use Rattle.oneshot_machine.specs.Phases.{Share, none, Row, ReceiverAt, first, looked, between, receiver_at, receiver_next, receiver_moves}
-use Rattle.oneshot_machine.specs.Slots.{IsSlot, is_away, is_vacant, Held, away, held, Finds, finds, Turns, stays_away, stays_held, gives_thing, gets_thing}
+use Rattle.oneshot_machine.specs.Slots.{IsSlot, is_away, is_vacant, Held, away, vacant, held, Finds, finds, Turns, stays_away, stays_held, gives_thing, gets_thing}
 use Rattle.oneshot_drive.specs.BetweenCalls.{AtRest, Rests, rests_new, rests_open, rests_closed}
 use Rattle.oneshot_drive.specs.Grounds.{receiver_slots}
 use Rattle.oneshot_word.specs.declared.any_waker.AnyWaker.{AnyWaker}
 use Rattle.oneshot_word.specs.Seats.{gave}
 use Rattle.oneshot_word.specs.Side.{Side, ReceiverDid}
 use Rattle.oneshot_ends.specs.declared.token.WakingHalf.{WakingHalf}
-use Rattle.oneshot_ends.specs.Grounds.{left_of, state_of, IsNewReceiver}
-use Rattle.oneshot_ends.specs.OwnWakers.{IsHalfOf, is_waiting, Gave, WaitsBy, IsNoThread, WaitsByHalvesOf}
+use Rattle.oneshot_ends.specs.Grounds.{left_of, unless_freed, state_of, IsNewReceiver}
+use Rattle.oneshot_ends.specs.OwnWakers.{RealWaker, IsTaskOf, IsHalfOf, is_waiting, Gave, WaitsBy, IsNoThread, WaitsByHalvesOf}
 use Rattle.oneshot_ends.specs.Keeps.{KeepsOwn, KeepsLent}
-use Rattle.oneshot_ends.specs.Spins.{Waiting, HasToken}
+use Rattle.oneshot_ends.specs.declared.patience.Patience.{Patience}
+use Rattle.oneshot_ends.specs.Patience.{unread}
 use Rattle.oneshot_ends.specs.Tokens.{ParkingView}
 use Rattle.oneshot_ends.proofs.GrewByRuns.{words_of}
 use Rattle.oneshot_ends.proofs.Taken.{side_keeps, ground_keeps}
@@ -105,17 +107,57 @@ module _ {T W P : Type 0} (freed : Bool) (s : Side T W P) {now : Side T W P} (is
       (after_op own s next did (subst (WaitsBy own) (sym is ∙ (λ i. left_of (unfreed i) s)) owned))
 
 -- what an operation keeps of a real receiver's ground
-pub operated : {T K P : Type 0} (freed : Bool) (s : Side T (AnyWaker WakingHalf K) P)
-    {now : Side T (AnyWaker WakingHalf K) P} → left_of freed s ≡ now → freed ≡ false
-    → (next : Side T (AnyWaker WakingHalf K) P) {op : Op} {word : ℕ} → ReceiverDid s op word next
+pub operated : {T P : Type 0} (freed : Bool) (s : Side T RealWaker P) {now : Side T RealWaker P}
+    → left_of freed s ≡ now → freed ≡ false
+    → (next : Side T RealWaker P) {op : Op} {word : ℕ} → ReceiverDid s op word next
     → KeepsOwn now (left_of freed next)
 operated freed s is unfreed next did =
     record {
       about = did.about ∙ ap (λ s. s.about) is;
       halves = λ parker. ground_after freed s is (IsHalfOf parker) next unfreed did;
       no_thread = ground_after freed s is IsNoThread next unfreed did;
+      copies = λ cx. ground_after freed s is (IsTaskOf cx) next unfreed did;
+      same = λ k. ground_after freed s is (λ other. other ≡ k) next unfreed did;
       taken = (ground_keeps freed s is did).1;
     }
+
+no_room : (freed : Bool) {k : RealWaker} → unless_freed freed vacant ≡ held k → ⊥
+no_room true e = cc e
+no_room false e = cc e
+
+-- a step that leaves all but a slot, and puts no waker into its own
+module _ {T P : Type 0} where
+  kept_but_slot : (s next : Side T RealWaker P) → next.about ≡ s.about → next.log ≡ s.log → next.handed ≡ s.handed
+      → next.passed ≡ s.passed → ((k : RealWaker) → next.waker ≡ held k → s.waker ≡ held k) → KeepsOwn s next
+  kept_but_slot s next about logs puts passed slot =
+      record {
+        about = about;
+        halves = λ parker own. still (IsHalfOf parker) own;
+        no_thread = still IsNoThread;
+        copies = λ cx own. still (IsTaskOf cx) own;
+        same = λ k own. still (λ other. other ≡ k) own;
+        taken = side_keeps s next passed logs;
+      }
+    where
+      still : (own : RealWaker → Type 0) → WaitsBy own s → WaitsBy own next
+      still own owned = with_slot own s next logs puts (λ k e. owned.slot k (slot k e)) owned
+
+  -- so does a receiver that takes the message out of its slot, or its waker back
+  pub took_out : (freed : Bool) (s next : Side T RealWaker P) {now : Side T RealWaker P} → left_of freed s ≡ now
+      → next ≡ record s { message = vacant } → KeepsOwn now (left_of freed next)
+  took_out freed s next {now} is rest =
+      subst (λ now. KeepsOwn now (left_of freed next)) is
+      (kept_but_slot (left_of freed s) (left_of freed next) (ap (λ s. s.about) rest) (ap (λ s. s.log) rest)
+      (ap (λ s. s.handed) rest) (ap (λ s. s.passed) rest)
+      (λ k e. ap (λ s. unless_freed freed s.waker) (sym rest) ∙ e))
+
+  pub took_back : (freed : Bool) (s next : Side T RealWaker P) {now : Side T RealWaker P} → left_of freed s ≡ now
+      → next ≡ record s { waker = vacant } → KeepsOwn now (left_of freed next)
+  took_back freed s next {now} is rest =
+      subst (λ now. KeepsOwn now (left_of freed next)) is
+      (kept_but_slot (left_of freed s) (left_of freed next) (ap (λ s. s.about) rest) (ap (λ s. s.log) rest)
+      (ap (λ s. s.handed) rest) (ap (λ s. s.passed) rest)
+      (λ k e. absurd (no_room freed (ap (λ s. unless_freed freed s.waker) (sym rest) ∙ e))))
 
 no_slot : {W : Type 0} {w : Held W} {k : W} → IsSlot none w → w ≡ held k → ⊥
 no_slot is_away e = cc e
@@ -131,18 +173,6 @@ module _ {T K P : Type 0} where
     subst (λ (p : ParkingView). IfSome hand (IsHalfOf p.parker)) (sym same) its,
   )
 
-  -- a park leaves all but the token of its own parker
-  pub parked : {before after : Waiting} {parker parker' : TableId} (s : Side T (AnyWaker WakingHalf K) P)
-      → (HasToken before → HasToken after) → parker' ≡ parker → KeepsLent s s before after parker parker'
-  parked s token same =
-      record {
-        about = refl;
-        token = token;
-        parker = same;
-        halves = λ owned. subst (λ parker. WaitsByHalvesOf parker s) (sym same) owned;
-        taken = side_keeps s s refl refl;
-      }
-
   -- a new receiver has given none
   pub own_new : (parker : TableId) (s now : Side T (AnyWaker WakingHalf K) P) → now ≡ s → IsNewReceiver s
       → WaitsByHalvesOf parker now
@@ -152,6 +182,21 @@ module _ {T K P : Type 0} where
         slot = λ k e. absurd (no_slot new.waker e);
         gave = λ e. let none = sym (ap (λ xs. is_waiting (receiver_at xs)) new.log) ∙ e in absurd (cc none);
       })
+
+-- a park that does not spin leaves the channel as it is, and may take the token of its own parker
+pub parked : {T P : Type 0} {patience waits : Patience} {half next : ParkingView} (s : Side T RealWaker P)
+    → waits ≡ unread patience → (half.taken ≡ true → next.taken ≡ true) → next.parker ≡ half.parker
+    → KeepsLent s s patience waits half next
+parked {patience = patience} s rests token same =
+    record {
+      about = refl;
+      deadline = ap (λ (p : Patience). p.deadline) rests;
+      spins = subst (λ (p : Patience). patience.spins ≤ p.spins) (sym rests) (le_refl patience.spins);
+      token = token;
+      parker = same;
+      halves = λ owned. subst (λ parker. WaitsByHalvesOf parker s) (sym same) owned;
+      taken = side_keeps s s refl refl;
+    }
 
 -- a receiver between two calls has no waker in its slot, and does not wait
 slot_unheld : {W : Type 0} {at : ReceiverAt} {w : Held W} {k : W} → Rests at → IsSlot (receiver_slots at).1 w

@@ -25,6 +25,12 @@ module _ {W : Type 0} where
   slot_of_token vacant is_vacant = is_vacant
   slot_of_token (held k) (is_held _) = is_held k
 
+  -- a slot that shows a `Copied` holds a waker
+  pub token_held : (w : Held W) {copied : Copied} → token_of w ≡ held copied → (k : W) × w ≡ held k
+  token_held away e = absurd (cc e)
+  token_held vacant e = absurd (cc e)
+  token_held (held k) e = (k, refl)
+
   token_turns : {share then : Share} {w w' : Held W} → Turns share then w w'
       → Turns share then (token_of w) (token_of w')
   token_turns stays_away = stays_away

@@ -6,6 +6,7 @@ use mathlib.Core.Bool.{or_assoc, or_comm}
 use Rattle.std.specs.Prelude.{ℕ, ◌&&◌, ◌||◌, if◌then◌else◌, is_some, is_err, IfOk, IsErr}
 use Rattle.std.specs.List.{list_all}
 use Rattle.futures.specs.declared.task.Poll.{Poll}
+use Rattle.futures.specs.declared.task.waker.Waker.{Waker}
 use Rattle.futures.specs.declared.task.Poll.TheVariants.{Ready, Pending}
 use Rattle.futures.specs.Poll.{IfReady}
 use Rattle.oneshot_machine.specs.declared.machine.Reply.{Reply}
@@ -44,11 +45,14 @@ use Rattle.oneshot_word.specs.Side.{Side, SenderDid, ReceiverDid}
 use Rattle.oneshot_machine.specs.Slots.{away, held}
 use Rattle.oneshot_word.proofs.WordsEqual.{is_bool, bools_are}
 use Rattle.oneshot_word.proofs.RuleReceives.{received_is_sent}
+use Rattle.oneshot_ends.specs.declared.token.WakingHalf.{WakingHalf}
 use Rattle.oneshot_ends.specs.Ends.{ReceiverGrew}
 use Rattle.oneshot_ends.specs.Grounds.{state_of, left_of, unless_freed}
 use Rattle.oneshot_ends.proofs.GrewByRuns.{words_of}
 use Rattle.oneshot_ends.proofs.OpenTaken.{open_took_none}
-use Rattle.oneshot_ends.specs.Taken.{StaysTaken, has_found, TookAsFound, KeepsTaken, Takes, TakesReady, WasSent, is_message}
+use Rattle.oneshot_ends.specs.Moments.{AtOneMoment, TookWhatWasGiven}
+use Rattle.oneshot_ends.specs.OwnWakers.{RealWaker}
+use Rattle.oneshot_ends.specs.Taken.{StaysTaken, has_found, TookAsFound, KeepsTaken, Takes, TakesReady, is_message}
 
 pub found_both : (xs ys : List Noted) → has_found (xs ++ ys) ≡ (has_found xs || has_found ys)
 found_both xs ys = list_any-append (λ x. is_same_seen x.1 (Word MESSAGE)) xs ys
@@ -327,8 +331,20 @@ module _ {T W P : Type 0} where
       did.passed ∙ (λ i. gave (was i) (gone i) s.passed)
 
 -- by the rule of the shared table, who gave it
-pub was_sent : {T P : Type 0} (H K : Type 0) (keeps : P → T → Type 0) (log : List Noted) (took : Option T)
-    → WasSent H K keeps log took
-was_sent H K keeps log took m is q words homes xs given put woke tied =
-    (received_is_sent H K keeps).taken q words homes xs log given put woke m
-    (subst (λ taken. Tied keeps q words homes (both_views q xs given woke log taken put)) is tied)
+module _ {T P : Type 0} (keeps : P → T → Type 0) where
+  gave_that : (sender receiver : Side T RealWaker P) (took : T) → AtOneMoment keeps sender receiver
+      → receiver.passed ≡ Some took → sender.passed ≡ Some took
+  gave_that sender receiver took moment is =
+      (received_is_sent WakingHalf Waker keeps).taken moment.about moment.words moment.homes sender.log receiver.log
+      sender.passed receiver.handed sender.handed took
+      (subst (λ taken. Tied keeps moment.about moment.words moment.homes
+      (both_views moment.about sender.log sender.passed sender.handed receiver.log taken receiver.handed))
+      is moment.allowed)
+
+  pub took_what_was_given : TookWhatWasGiven keeps
+  took_what_was_given =
+      record {
+        given = gave_that;
+        same = λ sender receiver gave took moment gives takes.
+            let e = sym (gave_that sender receiver took moment takes) ∙ gives in cc e;
+      }

@@ -1,22 +1,32 @@
 -- The examples of the message that a receiver took are so.
-use Rattle.std.proofs.Common.{◌≡◌, ℕ, true, false, Option, Some, None, refl, sym, ap}
-use Rattle.oneshot_ends.specs.Examples.{received}
+use Rattle.std.proofs.Common.{◌≡◌, ℕ, true, false, [], ◌∷◌, Option, Some, None, refl, sym, ap}
+use Rattle.futures.specs.declared.task.waker.Waker.{Waker}
+use Rattle.std.specs.Prelude.{⊤}
+use Rattle.oneshot_machine.specs.declared.states.TheConstants.{MESSAGE}
+use Rattle.oneshot_word.specs.Rule.{out}
+use Rattle.oneshot_word.proofs.RuleReceives.{messages_that_pass, messages_that_do_not}
+use Rattle.oneshot_ends.specs.declared.token.WakingHalf.{WakingHalf}
 use Rattle.oneshot_ends.specs.Taken.{has_found}
 use Rattle.oneshot_ends.specs.TakenExamples.{TakesThatAre, TakesThatAreNot}
-use Rattle.oneshot_ends.proofs.Taken.{was_sent}
 
 pub takes_that_are : TakesThatAre
 takes_that_are =
     record {
       found_it = refl;
       found_none = refl;
-      was_sent = was_sent ℕ ℕ ◌≡◌ received (Some 7);
       takes_it = record { stays = λ x is. absurd (cc is); found = λ so. refl };
       returned_it = (refl, refl);
       returned_none = refl;
       is_ready = (refl, refl);
       is_pending = refl;
       sends = λ sender new. sym (ap has_found new);
+      took_what_was_given = λ m.
+          record {
+            about = tt;
+            words = MESSAGE ∷ [];
+            homes = out ∷ out ∷ [];
+            allowed = (messages_that_pass WakingHalf Waker (λ about message. ⊤)).was_taken tt m;
+          };
     }
 
 pub takes_that_are_not : TakesThatAreNot
@@ -35,4 +45,8 @@ takes_that_are_not =
       ready_again = λ took. let e : ◌≡◌ {A = Option ℕ} (Some 7) None = took.0 in cc e;
       ready_in_an_error = λ took. let e : ◌≡◌ {A = Option ℕ} (Some 7) None = took in cc e;
       took_while_pending = λ took. let e : ◌≡◌ {A = Option ℕ} (Some 7) None = took in cc e;
+      took_anothers = λ xs ys m other apart moment.
+          (messages_that_do_not WakingHalf Waker (λ about message. ⊤)).took_another m other apart moment.allowed;
+      took_what_none_gave = λ xs ys m moment.
+          (messages_that_do_not WakingHalf Waker (λ about message. ⊤)).took_what_none_gave m moment.allowed;
     }

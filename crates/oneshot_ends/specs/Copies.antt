@@ -1,9 +1,11 @@
 -- Which task a future's copy of a waker belongs to.
-use Rattle.std.specs.Prelude.{◌≡◌, ◌≢◌, ℕ, true, ◌⊎◌, IsSomeAnd, IfSome}
+use Rattle.std.specs.Prelude.{◌≡◌, ◌≢◌, ℕ, true, ◌⊎◌, Option, Some, None, IsSomeAnd, IfSome}
 use Rattle.futures.specs.Task.{Wakes}
 use Rattle.futures.specs.declared.task.context.Context.{Context}
 use Rattle.futures.specs.declared.task.waker.Waker.{Waker}
+use Rattle.oneshot_word.specs.Side.{Side}
 use Rattle.oneshot_ends.specs.declared.copies.Copies.{Copies}
+use Rattle.oneshot_ends.specs.OwnWakers.{RealWaker, IsCopyFor, WaitsForTask}
 
 -- The copy in hand has the number of the poll's task, and wakes that task. If the context could make no waker
 -- in this poll, only the number is known.
@@ -15,3 +17,12 @@ HasMade before after copies =
 -- the copy in hand, if one is there, has another task's number
 abbrev pub HasNoneOf : ℕ → Copies Waker → Type 0
 HasNoneOf task copies = IfSome copies.hand (λ copy. copy.task ≢ task)
+
+-- the copy in hand wakes the context's task
+abbrev pub HasCopyFor : Context → Copies Waker → Type 0
+HasCopyFor cx copies = IsSomeAnd copies.hand (λ copy. IsCopyFor cx copy.waker)
+
+-- What a poll has: with a copy made, that copy in hand; with none, only copies for its task in the channel.
+abbrev pub PollHas : {T P C : Type 0} → Context → Copies Waker → Side T RealWaker P → Option C → Type 0
+PollHas cx copies side (Some _) = HasCopyFor cx copies
+PollHas cx copies side None = WaitsForTask cx side

@@ -1,9 +1,11 @@
 -- What a contract sees of an end: the channel that it belongs to, and the log of its operations on the word.
-use Rattle.std.specs.Prelude.{◌≡◌, ◌↔◌, ℕ, Bool, List, [], ◌∷◌, ◌++◌, Option, IfSome, IsTrue}
+use Rattle.std.specs.Prelude.{◌≡◌, ◌↔◌, ℕ, Bool, List, [], ◌∷◌, ◌++◌, ◌⊎◌, true, Option, Some, None, IfSome, IsSomeAnd, IsTrue}
 use Rattle.std.specs.Time.{instant_nanos, FitsClock}
 use Rattle.std.specs.declared.time.Duration.{Duration}
 use Rattle.std.specs.declared.time.Instant.{Instant}
 use Rattle.atomic_table.specs.Seated.{TableId}
+use Rattle.futures.specs.declared.task.context.Context.{Context}
+use Rattle.futures.specs.declared.task.waker.Waker.{Waker}
 use Rattle.oneshot_machine.specs.declared.machine.Reply.{Reply}
 use Rattle.oneshot_machine.specs.declared.machine.Reply.TheVariants.{Refused}
 use Rattle.oneshot_machine.specs.declared.machine.receiver.ReceiverStart.{ReceiverStart}
@@ -19,8 +21,12 @@ use Rattle.oneshot_machine.specs.Runs.{Run}
 use Rattle.oneshot_machine.specs.Sender.{sender_start, sender_step, sender_row}
 use Rattle.oneshot_machine.specs.Noted.{Noted}
 use Rattle.oneshot_drive.specs.BetweenCalls.{IsClosedAt, IsOpenAt}
+use Rattle.oneshot_drive.specs.Polls.{is_registered}
+use Rattle.oneshot_word.specs.declared.any_waker.AnyWaker.{AnyWaker}
+use Rattle.oneshot_word.specs.declared.any_waker.AnyWaker.TheVariants.{Task}
 use Rattle.oneshot_word.specs.Side.{Side}
 use Rattle.oneshot_ends.specs.Deadlines.{HasEnd}
+use Rattle.oneshot_ends.specs.OwnWakers.{IsCopyFor}
 
 -- a waker in a run; contracts leave open which one
 abbrev pub Waking : Type 0
@@ -44,13 +50,15 @@ pub record EndOf (T P : Type 0) : Type 0 where
   pub about : P
   pub took : Option T
 
--- a future: the same, with the source at which its polls register
+-- A future: the same, with the source at which its polls register, and the waker by which the sender wakes it, while
+-- one is in the channel or the sender has taken it.
 pub record FutureEndOf (T P : Type 0) : Type 0 where
   pub channel : Channel P
   pub log : List Noted
   pub source : ℕ
   pub about : P
   pub took : Option T
+  pub registered : Option Waker
 
 -- an error: the message that was refused, and the sender's channel and log
 pub record Failed (T P : Type 0) : Type 0 where
@@ -61,6 +69,18 @@ pub record Failed (T P : Type 0) : Type 0 where
 -- the channel that an end's side belongs to
 abbrev pub channel_at : {T W P : Type 0} → Side T W P → Channel P
 channel_at side = record { table = side.table; about = side.about }
+
+-- the task's waker that the future gave last, if it is registered
+abbrev pub registered_if : {H K : Type 0} → Bool → Option (AnyWaker H K) → Option K
+registered_if true (Some (Task waker)) = Some waker
+registered_if _ _ = None
+
+abbrev pub registered_by : {T H K P : Type 0} → Side T (AnyWaker H K) P → Option K
+registered_by side = registered_if (is_registered (receiver_at side.log)) side.handed
+
+-- A pending poll has asked for its task to be polled again, or has left a copy of its task's waker in the channel.
+abbrev pub WillBeWoken : {T P : Type 0} → Context → FutureEndOf T P → Type 0
+WillBeWoken cx future = (cx.is_woken ≡ true) ⊎ IsSomeAnd future.registered (IsCopyFor cx)
 
 -- the log grew by the operations of one run of this call, which ends in this reply
 pub record SenderGrew (T : Type 0) (call : SenderCall) (before after : List Noted) (reply : Reply) : Type 0 where

@@ -1,6 +1,6 @@
 -- Examples that the definitions of the ends accept or refuse: open and closed ends, logs of calls, logs that have an
 -- order, deadlines, copies of wakers, and grounds.
-use Rattle.std.specs.Prelude.{◌≡◌, ◌≢◌, ℕ, ◌+◌, true, false, List, [], ◌∷◌, ◌++◌, Option, Some, None}
+use Rattle.std.specs.Prelude.{◌≡◌, ◌≢◌, ⊤, ℕ, ◌+◌, true, false, List, [], ◌∷◌, ◌++◌, Option, Some, None}
 use Rattle.std.specs.Duration.{as_nanos}
 use Rattle.std.specs.declared.time.Duration.{Duration}
 use Rattle.std.specs.Time.{instant_nanos, FitsClock}
@@ -24,7 +24,8 @@ use Rattle.oneshot_word.specs.Side.{Side}
 use Rattle.oneshot_ends.specs.declared.copies.Copies.{Copies}
 use Rattle.oneshot_ends.specs.declared.copies.TaskCopy.{TaskCopy}
 use Rattle.oneshot_ends.specs.declared.deadline.Deadline.TheVariants.{At, Passed, Never}
-use Rattle.oneshot_ends.specs.Copies.{HasMade, HasNoneOf}
+use Rattle.oneshot_ends.specs.Copies.{HasMade, HasNoneOf, PollHas}
+use Rattle.oneshot_ends.specs.OwnWakers.{RealWaker}
 use Rattle.oneshot_ends.specs.Deadlines.{IsOver, IsFar, has_end, IsAfter, HasEnd}
 use Rattle.oneshot_ends.specs.Ends.{Channel, EndOf, FutureEndOf, channel_at, Failed, SenderGrew, ReceiverGrew, TimeoutRan, TimeoutGrew, HasCalls, SenderIsOrdered, ReceiverIsOrdered, WasRefused}
 use Rattle.oneshot_ends.specs.Ends.{IsClosed, IsOpen, IsDone, IsUnfinished}
@@ -53,7 +54,7 @@ module _ (table : TableId) where
   error_with log = record { message = 7; channel = channel; log = log }
 
   abbrev pub future_with : List Noted → FutureEndOf ℕ ℕ
-  future_with log = record { channel = channel; log = log; source = 1; about = 5; took = None }
+  future_with log = record { channel = channel; log = log; source = 1; about = 5; took = None; registered = None }
 
   pub record EndsThatAre : Type 0 where
     pub new_is_open : IsOpen (end_with [])
@@ -111,6 +112,7 @@ pub record OrdersThatAre : Type 0 where
 
 pub record OrdersThatAreNot : Type 0 where
   pub sent_over_a_message : SenderIsOrdered ((Add, Word MESSAGE) ∷ []) → ⊥
+  pub found_a_waker_first : ReceiverIsOrdered ((Load, Word RECEIVING) ∷ []) → ⊥
 
 -- DEADLINES
 pub record DeadlinesThatAre : Type 0 where
@@ -152,6 +154,11 @@ module _ (before after : Context) where
     pub none_in_hand : HasNoneOf before.turn.task (copies_with None)
     pub of_another : (copy : TaskCopy Waker) → copy.task ≢ before.turn.task
         → HasNoneOf before.turn.task (copies_with (Some copy))
+    -- what a poll has: a copy for its task in hand, or nothing that it gave
+    pub in_hand : (copy : TaskCopy Waker) (s : Side ⊤ RealWaker ⊤) → Wakes copy.waker before
+        → PollHas {C = ⊤} before (copies_with (Some copy)) s (Some tt)
+    pub gave_none : (s : Side ⊤ RealWaker ⊤) → s.log ≡ [] → s.waker ≡ away
+        → PollHas {C = ⊤} before (copies_with None) s None
 
   pub record CopiesThatAreNot : Type 0 where
     pub made_none : HasMade before after (copies_with None) → ⊥
@@ -161,6 +168,9 @@ module _ (before after : Context) where
         → HasMade before after (copies_with (Some copy)) → ⊥
     pub has_one : (copy : TaskCopy Waker) → copy.task ≡ before.turn.task
         → HasNoneOf before.turn.task (copies_with (Some copy)) → ⊥
+    pub none_to_give : (s : Side ⊤ RealWaker ⊤) → PollHas {C = ⊤} before (copies_with None) s (Some tt) → ⊥
+    pub has_anothers : (copy : TaskCopy Waker) (s : Side ⊤ RealWaker ⊤) → before.lacks_waker ≡ false
+        → (Wakes copy.waker before → ⊥) → PollHas {C = ⊤} before (copies_with (Some copy)) s (Some tt) → ⊥
 
 -- WHAT A GROUND SHOWS: a side with both slots, which loses them when it frees the block
 module _ (table : TableId) where

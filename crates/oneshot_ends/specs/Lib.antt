@@ -1,5 +1,5 @@
 -- Public contracts cite `Ends`, `Taken` and `Deadlines`. Read beneath them `Grounds`, `Tokens`, `Woken`, `OwnWakers`,
--- `NoLostWakeup`, `Spins`, `Keeps`, `Invariants`, `Copies` and `Polling`.
+-- `Moments`, `NoLostWakeup`, `Patience`, `Keeps`, `Invariants`, `Copies` and `Polling`.
 pub mod Grounds
 pub mod Polling
 pub mod Copies
@@ -12,9 +12,11 @@ pub mod Tokens
 pub mod TokenExamples
 pub mod Woken
 pub mod OwnWakers
+pub mod Moments
 pub mod NoLostWakeup
 pub mod OwnExamples
-pub mod Spins
+pub mod Patience
+pub mod PatienceExamples
 pub mod Keeps
 pub mod Invariants
 -- the definitions of the crates beneath that the contracts of `oneshot_reply` name

@@ -1,10 +1,14 @@
--- Whose wakers a receiver gives: one that blocks gives the waking half of its own parker, a future no thread's.
-use Rattle.std.specs.Prelude.{◌≡◌, ⊤, Bool, true, false, Option, Some}
+-- Whose wakers a receiver gives: one that blocks gives the waking half of its own parker, a future a copy for the task
+-- that polled.
+use Rattle.std.specs.Prelude.{◌≡◌, ◌⊎◌, ⊤, Bool, true, false, Option, Some, IfSome}
 use Rattle.atomic_table.specs.Seated.{TableId}
+use Rattle.futures.specs.Task.{Wakes}
+use Rattle.futures.specs.declared.task.context.Context.{Context}
+use Rattle.futures.specs.declared.task.waker.Waker.{Waker}
 use Rattle.oneshot_machine.specs.Phases.{ReceiverAt, waits, claimed, overdue, receiver_at}
 use Rattle.oneshot_machine.specs.Slots.{held}
 use Rattle.oneshot_word.specs.declared.any_waker.AnyWaker.{AnyWaker}
-use Rattle.oneshot_word.specs.declared.any_waker.AnyWaker.TheVariants.{Thread}
+use Rattle.oneshot_word.specs.declared.any_waker.AnyWaker.TheVariants.{Thread, Task}
 use Rattle.oneshot_word.specs.Side.{Side}
 use Rattle.oneshot_ends.specs.declared.token.WakingHalf.{WakingHalf}
 
@@ -29,7 +33,7 @@ pub record WaitsBy {T W P : Type 0} (own : W → Type 0) (receiver : Side T W P)
   pub slot : (k : W) → receiver.waker ≡ held k → own k
   pub gave : is_waiting (receiver_at receiver.log) ≡ true → Gave own receiver.handed
 
--- no thread's waker: a copy of a task's, or one that wakes nobody
+-- no thread's waker: a copy of a task's
 abbrev pub IsNoThread : {K : Type 0} → AnyWaker WakingHalf K → Type 0
 IsNoThread (Thread half) = ⊥
 IsNoThread _ = ⊤
@@ -38,6 +42,33 @@ IsNoThread _ = ⊤
 abbrev pub WaitsByNoThread : {T K P : Type 0} → Side T (AnyWaker WakingHalf K) P → Type 0
 WaitsByNoThread = WaitsBy IsNoThread
 
+-- the wakers of real ends
+abbrev pub RealWaker : Type 0
+RealWaker = AnyWaker WakingHalf Waker
+
+-- This waker wakes the context's task. If the context could make no waker in this poll, it has asked for the task to
+-- be polled again, and this says nothing.
+abbrev pub IsCopyFor : Context → Waker → Type 0
+IsCopyFor cx waker = (cx.lacks_waker ≡ true) ⊎ Wakes waker cx
+
+-- a copy of a waker of the context's task
+abbrev pub IsTaskOf : Context → RealWaker → Type 0
+IsTaskOf cx (Task waker) = IsCopyFor cx waker
+IsTaskOf cx _ = ⊥
+
+-- a future whose wakers are copies for the context's task
+abbrev pub WaitsForTask : {T P : Type 0} → Context → Side T RealWaker P → Type 0
+WaitsForTask cx = WaitsBy (IsTaskOf cx)
+
+-- a receiver whose only waker is this one
+abbrev pub WaitsByThis : {T W P : Type 0} → W → Side T W P → Type 0
+WaitsByThis k = WaitsBy (λ other. other ≡ k)
+
 -- a receiver whose wakers are waking halves of this parker
 abbrev pub WaitsByHalvesOf : {T K P : Type 0} → TableId → Side T (AnyWaker WakingHalf K) P → Type 0
 WaitsByHalvesOf parker = WaitsBy (IsHalfOf parker)
+
+-- What a call that blocks has: its wakers, with the one beside its slot, are waking halves of this parker.
+abbrev pub BlockHas : {T K P : Type 0} → TableId → Side T (AnyWaker WakingHalf K) P → Option (AnyWaker WakingHalf K)
+    → Type 0
+BlockHas parker receiver hand = WaitsByHalvesOf parker receiver × IfSome hand (IsHalfOf parker)

@@ -1,5 +1,5 @@
 -- The message that a receiver took: which one, when, and how its log shows it.
-use Rattle.std.specs.Prelude.{◌≡◌, ℕ, Bool, true, false, List, Option, Some, None, is_some, Result, Ok, Err}
+use Rattle.std.specs.Prelude.{◌≡◌, Bool, true, false, List, Option, Some, None, is_some, Result, Ok, Err}
 use Rattle.std.specs.List.{list_any}
 use Rattle.futures.specs.declared.task.Poll.{Poll}
 use Rattle.futures.specs.declared.task.Poll.TheVariants.{Ready, Pending}
@@ -8,9 +8,6 @@ use Rattle.oneshot_machine.specs.declared.machine.Reply.TheVariants as R
 use Rattle.oneshot_machine.specs.declared.machine.Seen.TheVariants.{Word}
 use Rattle.oneshot_machine.specs.Noted.{Noted}
 use Rattle.oneshot_machine.specs.TableRows.{is_same_seen}
-use Rattle.oneshot_word.specs.declared.any_waker.AnyWaker.{AnyWaker}
-use Rattle.oneshot_word.specs.Received.{both_views}
-use Rattle.oneshot_word.specs.Rule.{Home, Tied}
 use Rattle.oneshot_machine.specs.declared.states.TheConstants.{MESSAGE}
 
 -- a message that was taken is still the one
@@ -24,14 +21,6 @@ has_found = list_any (λ x. is_same_seen x.1 (Word MESSAGE))
 -- a receiver has taken a message exactly if its log has an operation that found one
 abbrev pub TookAsFound : {T : Type 0} → Option T → List Noted → Type 0
 TookAsFound took log = is_some took ≡ has_found log
-
--- In every state that the rule of the shared table allows with this receiver's view, the sender gave what the
--- receiver took, whichever wakers passed.
-abbrev pub WasSent : {T P : Type 0} (H K : Type 0) → (P → T → Type 0) → List Noted → Option T → Type 0
-WasSent {T} {P} H K keeps log took =
-    (m : T) → took ≡ Some m → (q : P) (words : List ℕ) (homes : List (Home T H K)) (xs : List Noted) (given : Option T)
-    (put woke : Option (AnyWaker H K)) → Tied keeps q words homes (both_views q xs given woke log took put)
-    → given ≡ Some m
 
 -- what its ground keeps of that
 pub record KeepsTaken {T : Type 0} (before after : Option T) (log next : List Noted) : Type 0 where

@@ -1,22 +1,17 @@
 -- Examples that the definitions accept or refuse: states and lives of a token, steps of a sender that wake or do not,
--- wakers that were used or not, and parks of a receive.
-use Rattle.std.specs.Prelude.{◌≡◌, ℕ, ◌+◌, ⊤, Bool, true, false, List, [], ◌∷◌, Option, Some, None}
+-- and wakers that were used or not.
+use Rattle.std.specs.Prelude.{◌≡◌, ℕ, ⊤, Bool, true, false, List, [], ◌∷◌, Some, None}
 use Rattle.crossbeam_utils.specs.Token.{IsSamePass}
-use Rattle.std.specs.declared.time.Instant.{Instant}
-use Rattle.std.specs.Time.{instant_nanos}
 use Rattle.oneshot_machine.specs.declared.machine.Step.TheVariants.{TakeWaker, Wake}
 use Rattle.oneshot_machine.specs.declared.states.Op.TheVariants.{Add, Swap}
 use Rattle.oneshot_machine.specs.declared.states.TheConstants.{RECEIVING, UNPARKING, EMPTY, MESSAGE}
 use Rattle.oneshot_machine.specs.Logs.{Event, handed, worded}
 use Rattle.oneshot_drive.specs.Wakes.{Wakes}
 use Rattle.oneshot_word.specs.declared.any_waker.AnyWaker.TheVariants.{Thread, Task}
-use Rattle.oneshot_ends.specs.declared.deadline.Deadline.{Deadline}
-use Rattle.oneshot_ends.specs.declared.deadline.Deadline.TheVariants.{At, Passed}
 use Rattle.oneshot_ends.specs.declared.token.Given.{Given}
 use Rattle.oneshot_ends.specs.declared.token.Half.{Half}
 use Rattle.oneshot_ends.specs.declared.token.Half.TheVariants.{Parking, Waking}
 use Rattle.oneshot_ends.specs.declared.token.WakingHalf.{WakingHalf}
-use Rattle.oneshot_ends.specs.Spins.{MaySpin, Waiting, Parked, HasToken}
 use Rattle.oneshot_ends.specs.Tokens.{TokenIs, divides, gives, takes, Life, IsGivenOnce, took}
 use Rattle.oneshot_ends.specs.Woken.{IsWoken, Sending}
 
@@ -72,28 +67,3 @@ pub record WakersThatDidNot : Type 0 where
   pub unwoken : (half : WakingHalf) → IsWoken {K = ℕ} (Thread half) None → ⊥
   pub by_another : (half : WakingHalf) (given : Given) → (IsSamePass half.pass given.pass → ⊥)
       → IsWoken {K = ℕ} (Thread half) (Some given) → ⊥
-
--- A RECEIVE THAT WAITS: how often it spun, whether it slept without a deadline, and whether it has its token
-abbrev pub waiting : ℕ → Bool → Bool → Waiting
-waiting spins slept taken = record { spins = spins; slept = slept; taken = taken }
-
-pub record WaitsThatAre : Type 0 where
-  pub spins_first : (deadline : Deadline) (reading : Option Instant) → MaySpin false 16 deadline reading
-  pub spins_in_time : (end now : Instant) → instant_nanos now + 100_000_000 ≡ instant_nanos end
-      → MaySpin true 0 (At end) (Some now)
-  pub spins_once : Parked ⊤ false (waiting 3 false false) (waiting 4 false false)
-  pub sleeps : Parked ⊥ false (waiting 17 false false) (waiting 17 true true)
-  pub has_it : HasToken (waiting 17 true true)
-  pub has_not_slept : HasToken (waiting 4 false false)
-
-pub record WaitsThatAreNot : Type 0 where
-  pub spins_on : (timed : Bool) (deadline : Deadline) (reading : Option Instant) → MaySpin timed 17 deadline reading → ⊥
-  pub spins_late : (end now : Instant) → instant_nanos now + 99_999_999 ≡ instant_nanos end
-      → MaySpin true 0 (At end) (Some now) → ⊥
-  pub spins_unread : (end : Instant) → MaySpin true 0 (At end) None → ⊥
-  pub spins_past_it : (reading : Option Instant) → MaySpin true 0 Passed reading → ⊥
-  pub counts_none : Parked ⊤ false (waiting 3 false false) (waiting 3 false false) → ⊥
-  pub returns_at_once : Parked ⊥ false (waiting 17 false false) (waiting 17 false false) → ⊥
-  pub wakes_without_it : Parked ⊥ false (waiting 17 false false) (waiting 17 true false) → ⊥
-  pub takes_it_twice : Parked ⊥ false (waiting 17 true true) (waiting 17 true true) → ⊥
-  pub lost_it : HasToken (waiting 17 true false) → ⊥

@@ -5,7 +5,7 @@ use Rattle.oneshot_word.specs.declared.any_waker.AnyWaker.{AnyWaker}
 use Rattle.oneshot_word.specs.declared.any_waker.AnyWaker.TheVariants.{Thread}
 use Rattle.oneshot_machine.specs.Logs.{words, sender_of}
 use Rattle.oneshot_machine.specs.Phases.{By, SenderAt}
-use Rattle.oneshot_drive.specs.BetweenCalls.{SenderIsOver}
+use Rattle.oneshot_machine.specs.Over.{SenderIsOver}
 use Rattle.oneshot_drive.specs.Wakes.{finds_waiting}
 use Rattle.oneshot_word.specs.Side.{Side}
 use Rattle.oneshot_ends.specs.Grounds.{state_of}

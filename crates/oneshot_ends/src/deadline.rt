@@ -11,14 +11,20 @@ use std::time::{Clock, Duration, Instant};
 /// each, which must not make the receive late.
 const FAR: u128 = 100_000_000;
 
-/// A reading of the clock: `None` if it failed.
-pub(crate) type Reading = Option<Instant>;
+/// A reading of the clock. Only `read` makes one.
+#[derive(Clone, Copy)]
+pub(crate) struct Reading {
+    /// `None`: the clock failed.
+    instant: Option<Instant>,
+}
 
 /// Reads the clock.
 pub(crate) fn read(clock: &impl Clock) -> Reading
-    ensures { IfSome result (λ now. FitsClock (instant_nanos now)) }
+    ensures { IfSome result.instant (λ now. FitsClock (instant_nanos now)) }
 {
-    Instant::now(clock).ok()
+    Reading {
+        instant: Instant::now(clock).ok(),
+    }
 }
 
 /// Where a call's next reading of the clock comes from.
@@ -58,9 +64,9 @@ impl Deadline {
     ///
     /// `Passed` if the reading failed, and `Never` if no instant can hold the sum.
     pub(crate) fn after(reading: Reading, timeout: Duration) -> Deadline
-        ensures { IsAfter timeout reading result }
+        ensures { IsAfter timeout reading.instant result }
     {
-        let Some(now) = reading else {
+        let Some(now) = reading.instant else {
             return Deadline::Passed;
         };
         match now.checked_add(timeout) {
@@ -72,10 +78,10 @@ impl Deadline {
     /// Whether the deadline is over by this reading of the clock. A reading of the instant itself is not past
     /// it, and a failed reading counts as past every instant.
     pub(crate) fn is_over(self, reading: Reading) -> bool
-        ensures { IsTrue result ↔ IsOver self reading }
+        ensures { IsTrue result ↔ IsOver self reading.instant }
     {
         match self {
-            Deadline::At(end) => match reading {
+            Deadline::At(end) => match reading.instant {
                 Some(now) => end.checked_duration_since(now).is_none(),
                 None => true,
             },
@@ -84,11 +90,12 @@ impl Deadline {
         }
     }
 
-    /// Whether `FAR` or more is left by this reading of the clock. `false` without an instant or a reading.
+    /// Whether `FAR` or more is left by this reading of the clock. `false` without an instant, or if the reading
+    /// failed.
     pub(crate) fn is_far(self, reading: Reading) -> bool
-        ensures { IsTrue result ↔ IsFar self reading }
+        ensures { IsTrue result ↔ IsFar self reading.instant }
     {
-        match (self, reading) {
+        match (self, reading.instant) {
             (Deadline::At(end), Some(now)) => match end.checked_duration_since(now) {
                 Some(left) => left.as_nanos() >= FAR,
                 None => false,

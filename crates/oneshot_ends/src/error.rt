@@ -3,7 +3,7 @@
 ghost use Rattle.std.specs.Prelude.{◌≡◌};
 ghost use Rattle.oneshot_machine.specs.Phases.{sending, sender_at};
 ghost use Rattle.oneshot_machine.specs.Slots.{held};
-ghost use Rattle.oneshot_drive.specs.BetweenCalls.{IsLate};
+ghost use Rattle.oneshot_machine.specs.Over.{IsLate};
 ghost use Rattle.oneshot_ends.specs.Ends.{SenderIsOrdered, WasRefused, channel_at};
 ghost use Rattle.oneshot_ends.specs.Woken.{HasEnded};
 
@@ -56,9 +56,7 @@ impl<T, P: Promise<T>> SendError<T, P> {
     {
         self.refused.is_in_an_order();
     }
-}
 
-impl<T: Drop, P: Promise<T>> SendError<T, P> {
     /// The error of a `send` that was refused on this ground.
     pub(crate) fn refused(ground: SharedSender<T, P>) -> SendError<T, P>
         requires ended { HasEnded sending ground }
@@ -74,7 +72,9 @@ impl<T: Drop, P: Promise<T>> SendError<T, P> {
             refused: Refused::new(message, side),
         }
     }
+}
 
+impl<T: Drop, P: Promise<T>> SendError<T, P> {
     /// Returns the message, and releases the error's share of the channel's memory.
     pub fn into_inner(self) -> T
         ensures { result ≡ self.message }

@@ -12,7 +12,7 @@ ghost use Rattle.oneshot_machine.specs.Phases.{receiver_at};
 ghost use Rattle.oneshot_drive.specs.BetweenCalls.{AtRest, try_recv_reply};
 ghost use Rattle.oneshot_drive.specs.Polls.{LeavesPolled, LeavesTried, StaysRegistered, IsDisconnected, poll_reply};
 ghost use Rattle.oneshot_machine.specs.Called.{as_receiver};
-ghost use Rattle.oneshot_ends.specs.Ends.{ReceiverGrew, HasCalls, IsDone, IsUnfinished, channel_at};
+ghost use Rattle.oneshot_ends.specs.Ends.{ReceiverGrew, HasCalls, IsDone, IsUnfinished, channel_at, WillBeWoken};
 ghost use Rattle.oneshot_ends.specs.Grounds.{state_of};
 ghost use Rattle.oneshot_ends.specs.Taken.{TookAsFound, Takes, TakesReady};
 
@@ -35,8 +35,9 @@ use std::marker::{Model, PhantomData};
 /// returns at once, the sender's side frees the memory, and a `send` is refused too.
 ///
 /// A contract sees the future's channel, the value that the channel is about, the log of the future's
-/// operations on the word, which determines whether it is done, the source at which its polls register, and
-/// the message that it took out of the channel, if it has. It takes at most one.
+/// operations on the word, which determines whether it is done, the source at which its polls register, the
+/// message that it took out of the channel, if it has, and while it is registered the waker by which its sender
+/// wakes it. It takes at most one message.
 ///
 /// `P` is the promise of its channel: the message that it returns keeps it.
 ///
@@ -53,7 +54,7 @@ pub struct AsyncReceiver<T, Rt, P: Promise<T> = ()> {
 }
 
 impl<T, Rt, P: Promise<T>> Model for AsyncReceiver<T, Rt, P> {
-    ghost use Rattle.oneshot_ends.specs.Ends.{FutureEndOf, channel_at};
+    ghost use Rattle.oneshot_ends.specs.Ends.{FutureEndOf, channel_at, registered_by};
     ghost use Rattle.oneshot_ends.specs.Invariants.{FutureInvariant};
 
     ghost Value = { FutureEndOf T P };
@@ -64,6 +65,7 @@ impl<T, Rt, P: Promise<T>> Model for AsyncReceiver<T, Rt, P> {
       source = r.source.id;
       about = r.ground.about;
       took = r.ground.passed;
+      registered = registered_by r.ground;
     } };
 
     ghost invariant = { λ r. FutureInvariant r.ground };
@@ -97,8 +99,8 @@ impl<T: Drop, Rt: Drop, P: Promise<T>> AsyncReceiver<T, Rt, P> {
     /// Receives the message if it is there. It never blocks and does not allocate. The Rust crate has no
     /// `try_recv` of a future: this one follows that of a `Receiver`.
     ///
-    /// After `Empty` a registered task is still registered, as clause `registered` states. That a later
-    /// `send`, or the sender's drop, then wakes it is only tested.
+    /// After `Empty` a registered task is still registered, as clause `registered` states, by the same waker
+    /// (`same_waker`). The law `no_wakeup_is_lost` states that a later `send`, or the sender's drop, then uses it.
     ///
     /// - `Ok`: the message. The future is done from then on.
     /// - `Err(Empty)`: nothing was sent yet, or a `send` or the sender's drop is under way. The future stays
@@ -114,6 +116,7 @@ impl<T: Drop, Rt: Drop, P: Promise<T>> AsyncReceiver<T, Rt, P> {
         ensures stays_open { result ≡ Err Tried.Empty → IsUnfinished self.new }
         ensures stays_closed { IsDone self.old → result ≡ Err Tried.Disconnected }
         ensures registered { StaysRegistered result (receiver_at self.old.log) (receiver_at self.new.log) }
+        ensures same_waker { result ≡ Err Tried.Empty → self.new.registered ≡ self.old.registered }
         ensures bounded { GrewWithin (receiver_bound C.AsyncTryRecv) self.old.log self.new.log }
         ensures about { self.new.about ≡ self.old.about }
         ensures kept { IfOk result (λ message. P.keeps self.old.about message) }
@@ -136,8 +139,9 @@ impl<T: Drop, Rt: Drop, P: Promise<T>> Future for AsyncReceiver<T, Rt, P> {
     /// - `Ready(Ok)`: the message.
     /// - `Ready(Err)`: the sender was dropped without a message, or the message was received before. A
     ///   future that was ready returns this from then on.
-    /// - `Pending`: no message yet. The task is registered, and woken when that changes. If no copy of its
-    ///   waker could be made, or the sender is about to finish, the task is woken at once.
+    /// - `Pending`: no message yet. The task is registered, and woken when that changes: the waker that the
+    ///   sender then takes is a copy of this task's (clause `woken`). If no copy of its waker could be made, or
+    ///   the sender is about to finish, the task is woken at once.
     fn poll(&mut self, cx: &mut Context<'_>) -> Poll<Result<T, RecvError>>
         ensures value { IfReady result (λ answer. IfOk answer (λ message. P.keeps self.old.about message)) }
         ensures again { OnPending result ⊤ }
@@ -145,6 +149,7 @@ impl<T: Drop, Rt: Drop, P: Promise<T>> Future for AsyncReceiver<T, Rt, P> {
             → IfOk answer (λ message. P.keeps self.new.about message)
             → IfOk answer (λ message. P.keeps self.old.about message)) }
         ensures registered { OnPending result (Covers cx.new (λ s. s ≡ self.new.source)) }
+        ensures woken { OnPending result (WillBeWoken cx.new self.new) }
         ensures kept { Keeps cx.old cx.new }
         ensures channel { self.new.channel ≡ self.old.channel }
         ensures source { self.new.source ≡ self.old.source }

@@ -7,12 +7,15 @@ ghost use Rattle.oneshot_machine.specs.Called.{as_receiver, as_future};
 ghost use Rattle.oneshot_ends.specs.Ends.{IsOpen, IsUnfinished, HasCalls, CallsAddUp, SenderIsOrdered, ReceiverIsOrdered, WasRefused};
 ghost use Rattle.oneshot_ends.specs.Examples.{EndsThatAre, EndsThatAreNot, CallsThatGrow, CallsThatDoNot, DeadlinesThatAre, DeadlinesThatAreNot, CopiesThatAre, CopiesThatAreNot, GroundsThatAre};
 ghost use Rattle.oneshot_ends.specs.Examples.{GroundsThatAreNot, OrdersThatAre, OrdersThatAreNot};
+ghost use Rattle.oneshot_ends.specs.Moments.{TookWhatWasGiven};
 ghost use Rattle.oneshot_ends.specs.NoLostWakeup.{EndedSendersGaveTokens, NoSleeperIsForgotten, FuturesWakeNoThread};
+ghost use Rattle.oneshot_ends.specs.NoLostWakeup.{EndedSendersWokeTasks, NoTaskIsForgotten, GivenTokensStay};
 ghost use Rattle.oneshot_ends.specs.OwnExamples.{UsesThatAre, UsesThatAreNot};
-ghost use Rattle.oneshot_ends.specs.Taken.{TookAsFound, WasSent};
+ghost use Rattle.oneshot_ends.specs.PatienceExamples.{WaitsThatAre, WaitsThatAreNot};
+ghost use Rattle.oneshot_ends.specs.Taken.{TookAsFound};
 ghost use Rattle.oneshot_ends.specs.TakenExamples.{TakesThatAre, TakesThatAreNot};
 ghost use Rattle.oneshot_ends.specs.Tokens.{LivesLeadToStates, TokensAreGivenOnce, HasOneWakingHalf};
-ghost use Rattle.oneshot_ends.specs.TokenExamples.{StatesThatAreNot, LivesThatAre, LivesThatAreNot, StepsThatWake, StepsThatDoNot, WakersThatWoke, WakersThatDidNot, WaitsThatAre, WaitsThatAreNot};
+ghost use Rattle.oneshot_ends.specs.TokenExamples.{StatesThatAreNot, LivesThatAre, LivesThatAreNot, StepsThatWake, StepsThatDoNot, WakersThatWoke, WakersThatDidNot};
 
 use crate::error::SendError;
 use crate::future::AsyncReceiver;
@@ -99,21 +102,12 @@ pub fn an_unfinished_future_took_none<T, Rt, P: Promise<T>>(future: &AsyncReceiv
     a_future_took_what_it_found(future);
 }
 
-/// The message that a receiver took is the one that its channel's sender gave: so it is in every state that
-/// the rule of the shared table allows with this receiver's log and message. `H` and `K` are the wakers of
-/// the channel.
-pub fn what_a_receiver_took_was_sent<T, Rt, H, K, P: Promise<T>>(receiver: &Receiver<T, Rt, P>)
-    ensures { WasSent H K P.keeps receiver.now.log receiver.now.took }
-{
-    let _ground = &receiver.ground;
-}
-
-/// The same of a future.
-pub fn what_a_future_took_was_sent<T, Rt, H, K, P: Promise<T>>(future: &AsyncReceiver<T, Rt, P>)
-    ensures { WasSent H K P.keeps future.now.log future.now.took }
-{
-    let _ground = &future.ground;
-}
+/// The message that a receiver or a future took is the one that its channel's sender gave, at each moment that the
+/// rule of the shared table allows (`AtOneMoment`). That the sender gave a message, its `send` guarantees (`gave`);
+/// that the receiver took one, the receive that returned it (`had`).
+pub fn what_was_taken_was_given<T, P: Promise<T>>()
+    ensures { TookWhatWasGiven P.keeps }
+{}
 
 /// Adds up the calls of a receiver or a future. If its log was that of some calls, and one more call left it
 /// in place and appended the operations of one run that ends in its reply, the log is that of all the calls.
@@ -150,27 +144,36 @@ pub fn an_error_is_in_an_order<T, P: Promise<T>>(error: &SendError<T, P>)
 }
 
 /// The token of a blocking receiver is given at most once, taken at most once, and never taken before it is
-/// given. The rule of both halves of its parker has exactly the states that a token's life can lead to. A parker has
-/// one waking half.
+/// given. Once it is given, it is there until it is taken. The rule of both halves of its parker has exactly the states
+/// that a token's life can lead to. A parker has one waking half.
 pub fn a_token_is_given_once_and_then_taken()
     ensures states { LivesLeadToStates }
     ensures once { TokensAreGivenOnce }
+    ensures stays { GivenTokensStay }
     ensures one_half { HasOneWakingHalf }
 {}
 
 /// No wakeup of a real receiver is lost. At each moment of a channel whose sender has ended:
 ///
 /// - if the sender found its receiver waiting, it has given the token of the parker whose half the receiver gave;
-/// - a receiver that sleeps on a parker has that parker's token there, or has taken it;
-/// - from a future that waits, the sender took no thread's waker.
+/// - a receiver that sleeps on a parker has that parker's token there;
+/// - from a future that waits, the sender took no thread's waker;
+/// - if the sender found a future waiting, it has used the copy that the future gave last, which is a waker of the task of
+///   the last poll that registered (clause `woken` of the poll);
+/// - it has used the waker of a future that is registered.
 ///
-/// What the law requires of the sender (`HasEnded`), its ground requires to be let go. What it requires of a
-/// receiver that sleeps (`SleepsOn`), each `park` requires. That the table's rule allows what both ends show
-/// (`AtOneMoment`), the shared table guarantees between any two steps.
+/// What the use of a task's waker does, `futures` states.
+///
+/// What the law requires of the sender (`HasEnded`), the functions require that release it. What it requires of a
+/// receiver that sleeps (`SleepsOn`), `park` of its ground and of its parker's half require. That the rules of both
+/// tables allow what the ends and the halves show (`AtOneMoment`, `ParkerAt`), the tables guarantee between any two
+/// steps.
 pub fn no_wakeup_is_lost<T, P: Promise<T>>()
     ensures tokens { EndedSendersGaveTokens P.keeps }
     ensures sleepers { NoSleeperIsForgotten P.keeps }
     ensures futures { FuturesWakeNoThread P.keeps }
+    ensures tasks { EndedSendersWokeTasks P.keeps }
+    ensures registered { NoTaskIsForgotten P.keeps }
 {}
 
 /// Examples that the definitions accept or refuse: open and closed ends, logs of calls, deadlines, copies of

@@ -14,7 +14,9 @@ mod freed;
 mod future;
 mod ground;
 pub mod laws;
+mod message;
 mod pair;
+mod patience;
 mod raw;
 mod receiver;
 mod sender;
@@ -24,6 +26,7 @@ mod waker;
 
 pub use error::SendError;
 pub use future::AsyncReceiver;
+pub use message::Message;
 pub use oneshot_word::Promise;
 pub use pair::{async_channel, async_channel_for, channel, channel_for};
 pub use raw::{RawReceiver, RawSender};

@@ -8,7 +8,7 @@ use crate::receiver::Receiver;
 use crate::sender::Sender;
 use crate::token::parker;
 use crate::waker::ChannelWaker;
-use oneshot_word::{Promise, open};
+use oneshot_word::{Promise, discard, open};
 use std::alloc::{AllocError, Global};
 
 /// Makes a channel for one message, and returns its sender and its receiver.
@@ -30,7 +30,10 @@ pub fn channel<T: Send + Drop, Rt: Drop>(
 {
     // Does not call `channel_for`, which would copy both ends once more.
     let (sender, receiver) = open(alloc, &())?;
-    let (parking, waking) = parker(alloc)?;
+    let Ok((parking, waking)) = parker(alloc) else {
+        discard(sender, receiver);
+        return Err(AllocError);
+    };
     Ok((
         Sender::new(sender),
         Receiver::new(receiver, parking, ChannelWaker::Thread(waking), rt),
@@ -56,7 +59,10 @@ pub fn channel_for<T: Send + Drop, Rt: Drop, P: Promise<T>>(
     ensures receiver_about { IfOk result (λ ends. ends.1.about ≡ about.now) }
 {
     let (sender, receiver) = open(alloc, about)?;
-    let (parking, waking) = parker(alloc)?;
+    let Ok((parking, waking)) = parker(alloc) else {
+        discard(sender, receiver);
+        return Err(AllocError);
+    };
     Ok((
         Sender::new(sender),
         Receiver::new(receiver, parking, ChannelWaker::Thread(waking), rt),

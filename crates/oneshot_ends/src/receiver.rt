@@ -13,9 +13,11 @@ ghost use Rattle.oneshot_ends.specs.Grounds.{IsNewReceiver};
 ghost use Rattle.oneshot_ends.specs.OwnWakers.{IsHalfOf};
 ghost use Rattle.oneshot_ends.specs.Taken.{Takes};
 
-use crate::deadline::{Deadline, NextReading, Reading, read};
+use crate::deadline::{Deadline, Reading, read};
 use crate::future::AsyncReceiver;
 use crate::ground::{Blocking, ChannelReceiver, SharedReceiver};
+use crate::message::Message;
+use crate::patience::Patience;
 use crate::token::{ParkingHalf, WakingHalf};
 use crate::waker::ChannelWaker;
 use futures::task::{Source, Waker};
@@ -127,10 +129,11 @@ impl<T: Drop, Rt: Drop, P: Promise<T>> Receiver<T, Rt, P> {
         let Receiver {
             ground,
             hand: _,
-            parker: _,
+            parker,
             source,
             rt,
         } = self;
+        parker.let_go(&ground);
         AsyncReceiver::new(ground, source, rt)
     }
 }
@@ -155,8 +158,8 @@ impl<T: Drop, Rt: Wait + Clock + Drop, P: Promise<T>> Receiver<T, Rt, P> {
         ensures kept { IfOk result (λ message. P.keeps self.old.about message) }
         ensures took { Takes result self.old.took self.new.took }
     {
-        let (deadline, next) = (Deadline::Never, NextReading::Due);
-        let mut lent = Blocking::lend(&mut self.ground, &mut self.parker, &self.rt, deadline, next);
+        let patience = Patience::until(Deadline::Never);
+        let mut lent = Blocking::lend(&mut self.ground, &mut self.parker, &self.rt, patience);
         recv_ref(&mut lent, &self.rt, &mut self.hand)
     }
 
@@ -183,8 +186,8 @@ impl<T: Drop, Rt: Wait + Clock + Drop, P: Promise<T>> Receiver<T, Rt, P> {
         ensures kept { IfOk result (λ message. P.keeps self.old.about message) }
         ensures took { Takes result self.old.took self.new.took }
     {
-        let (deadline, next) = (Deadline::At(deadline), NextReading::Due);
-        let mut lent = Blocking::lend(&mut self.ground, &mut self.parker, &self.rt, deadline, next);
+        let patience = Patience::until(Deadline::At(deadline));
+        let mut lent = Blocking::lend(&mut self.ground, &mut self.parker, &self.rt, patience);
         recv_deadline(&mut lent, &self.rt, &mut self.hand)
     }
 
@@ -209,6 +212,25 @@ impl<T: Drop, Rt: Wait + Clock + Drop, P: Promise<T>> Receiver<T, Rt, P> {
         self.recv_after(reading, timeout)
     }
 
+    // Waits until `timeout` after `reading`.
+    fn recv_after(&mut self, reading: Reading, timeout: Duration) -> Result<T, RecvTimeoutError>
+        requires { IfSome reading.instant (λ now. FitsClock (instant_nanos now)) }
+        ensures channel { self.new.channel ≡ self.old.channel }
+        ensures run { TimeoutRan T timeout reading.instant self.old.log self.new.log (timed_reply result) }
+        ensures leaves { LeavesTimed result (receiver_at self.new.log) }
+        ensures stays_closed { IsClosed self.old → result ≡ Err Timed.Disconnected }
+        ensures about { self.new.about ≡ self.old.about }
+        ensures kept { IfOk result (λ message. P.keeps self.old.about message) }
+        ensures took { Takes result self.old.took self.new.took }
+    {
+        let patience = Patience::after(reading, timeout);
+        let has_end = patience.has_end();
+        let mut lent = Blocking::lend(&mut self.ground, &mut self.parker, &self.rt, patience);
+        recv_timeout(&mut lent, &self.rt, &mut self.hand, has_end)
+    }
+}
+
+impl<T: Message, Rt: Wait + Clock + Drop, P: Promise<T>> Receiver<T, Rt, P> {
     /// Blocks until the message is there or will never come. It consumes the receiver and does not allocate.
     ///
     /// - `Ok`: the message.
@@ -227,29 +249,12 @@ impl<T: Drop, Rt: Wait + Clock + Drop, P: Promise<T>> Receiver<T, Rt, P> {
             source: _,
             rt,
         } = self;
-        let (deadline, next) = (Deadline::Never, NextReading::Due);
-        let mut lent = Blocking::lend(&mut ground, &mut parker, &rt, deadline, next);
+        let patience = Patience::until(Deadline::Never);
+        let mut lent = Blocking::lend(&mut ground, &mut parker, &rt, patience);
         let result = recv(&mut lent, &rt, &mut hand);
-        ground.received();
+        parker.let_go(&ground);
+        T::received(ground);
         result
-    }
-
-    // Waits until `timeout` after `reading`. The ground's first check of the deadline uses `reading` too,
-    // so the clock is read once for both.
-    fn recv_after(&mut self, reading: Reading, timeout: Duration) -> Result<T, RecvTimeoutError>
-        requires { IfSome reading (λ now. FitsClock (instant_nanos now)) }
-        ensures channel { self.new.channel ≡ self.old.channel }
-        ensures run { TimeoutRan T timeout reading self.old.log self.new.log (timed_reply result) }
-        ensures leaves { LeavesTimed result (receiver_at self.new.log) }
-        ensures stays_closed { IsClosed self.old → result ≡ Err Timed.Disconnected }
-        ensures about { self.new.about ≡ self.old.about }
-        ensures kept { IfOk result (λ message. P.keeps self.old.about message) }
-        ensures took { Takes result self.old.took self.new.took }
-    {
-        let deadline = Deadline::after(reading, timeout);
-        let next = NextReading::Taken(reading);
-        let mut lent = Blocking::lend(&mut self.ground, &mut self.parker, &self.rt, deadline, next);
-        recv_timeout(&mut lent, &self.rt, &mut self.hand, deadline.has_end())
     }
 }
 
@@ -258,11 +263,12 @@ impl<T: Drop, Rt: Drop, P: Promise<T>> Drop for Receiver<T, Rt, P> {
         let Receiver {
             mut ground,
             hand: _,
-            parker: _,
+            parker,
             source: _,
             rt: _,
         } = self;
         drop_receiver(&mut ground);
+        parker.let_go(&ground);
         ground.dropped();
     }
 }

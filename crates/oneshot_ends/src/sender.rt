@@ -10,6 +10,7 @@ ghost use Rattle.oneshot_ends.specs.Grounds.{IsNewSender};
 
 use crate::error::SendError;
 use crate::ground::Unsent;
+use crate::message::Message;
 use crate::token::WakingHalf;
 use futures::task::Waker;
 use oneshot_drive::{drop_sender, send};
@@ -55,7 +56,7 @@ impl<T, P: Promise<T>> Sender<T, P> {
     }
 }
 
-impl<T: Drop> Sender<T> {
+impl<T: Message> Sender<T> {
     /// Sends `message`, and wakes a waiting receiver. It never blocks and does not allocate.
     ///
     /// - `Ok`: the receiver was there. It may still be dropped before it receives the message.
@@ -70,14 +71,14 @@ impl<T: Drop> Sender<T> {
         let mut ground = side.into_ground();
         // A body of its own: a call of `send_kept` would copy the message once more.
         if send(&mut ground, message) {
-            ground.sent();
+            T::sent(ground);
             return Ok(());
         }
         Err(SendError::refused(ground))
     }
 }
 
-impl<T: Drop, P: Promise<T>> Sender<T, P> {
+impl<T: Message, P: Promise<T>> Sender<T, P> {
     /// Sends `message` as `send` does. It requires that `message` keeps the channel's promise, which the
     /// receive then guarantees. The results are those of `send`: the error owns a refused message.
     pub fn send_kept(self, message: T) -> Result<(), SendError<T, P>>
@@ -89,7 +90,7 @@ impl<T: Drop, P: Promise<T>> Sender<T, P> {
         let Sender { side } = self;
         let mut ground = side.into_ground();
         if send(&mut ground, message) {
-            ground.sent();
+            T::sent(ground);
             return Ok(());
         }
         Err(SendError::refused(ground))

@@ -7,9 +7,11 @@ ghost use Rattle.crossbeam_utils.specs.Token.{IsSamePass, parker_view};
 ghost use Rattle.oneshot_ends.specs.declared.token.Half.TheVariants.{Both, Parking, Waking};
 ghost use Rattle.oneshot_ends.specs.Tokens.{TokenIs, took};
 
+use crate::ground::ChannelReceiver;
 use atomic_table::Split;
 use crossbeam_utils::rule::{Outcome, Protocol};
 use crossbeam_utils::sync::parker::{Pass, RuledParker, RuledUnparker};
+use oneshot_word::Promise;
 use std::alloc::{AllocError, Global};
 use std::marker::Model;
 use std::sync::Wait;
@@ -56,11 +58,13 @@ impl Outcome<bool, Half> for Gives {
     ghost then = { λ _ _ _ after. after ≡ Waking true };
 }
 
+// It has no `Drop`, so that none can be forgotten.
 /// The half by which a thread parks. A contract sees its parker, and whether it took the token.
-#[derive(Drop)]
 pub(crate) struct ParkingHalf {
     parker: RuledParker<Half, TokenRule>,
     pass: Pass<Half>,
+    // Whether it took the token.
+    has_taken: bool,
 }
 
 impl Model for ParkingHalf {
@@ -75,12 +79,13 @@ impl Model for ParkingHalf {
     ghost view = { λ p. record { taken = took (parker_view p.pass); parker = p.pass.table_id } };
 
     ghost invariant = { λ p. (p.pass.table_id ≡ (arc_value p.parker.unparker.state).shared.table_id)
-        × (parker_view p.pass ≡ Parking (took (parker_view p.pass))) };
+        × (parker_view p.pass ≡ Parking (took (parker_view p.pass)))
+        × (p.has_taken ≡ took (parker_view p.pass)) };
 }
 
 /// The half that wakes the thread. It has not given the token yet.
 #[derive(Drop)]
-pub(crate) struct WakingHalf {
+pub struct WakingHalf {
     unparker: RuledUnparker<Half, TokenRule>,
     pass: Pass<Half>,
     ghost one_parker: { pass.table_id ≡ (arc_value unparker.state).shared.table_id },
@@ -95,6 +100,8 @@ pub(crate) struct Given {
 }
 
 /// Makes a parker in its halves, without a token. `Err`: an allocation failed.
+// Inlined, so that the parking half is made in its place.
+#[inline(always)]
 pub(crate) fn parker(alloc: Global) -> Result<(ParkingHalf, WakingHalf), AllocError>
     ensures no_token { IfOk result (λ halves. halves.0.taken ≡ false) }
     ensures one_parker { IfOk result (λ halves. halves.1.pass.table_id ≡ halves.0.parker) }
@@ -103,7 +110,11 @@ pub(crate) fn parker(alloc: Global) -> Result<(ParkingHalf, WakingHalf), AllocEr
     let unparker = parker.unparker().clone()?;
     let waking = unparker.split_pass::<SplitsToken>(&mut pass);
     Ok((
-        ParkingHalf { parker, pass },
+        ParkingHalf {
+            parker,
+            pass,
+            has_taken: false,
+        },
         WakingHalf {
             unparker,
             pass: waking,
@@ -112,21 +123,47 @@ pub(crate) fn parker(alloc: Global) -> Result<(ParkingHalf, WakingHalf), AllocEr
 }
 
 impl ParkingHalf {
-    /// Blocks until the token is there, and takes it. It never returns if the token was taken before.
+    ghost use Rattle.oneshot_machine.specs.Phases.{receiver_at};
+    ghost use Rattle.oneshot_ends.specs.OwnWakers.{is_waiting};
+
+    /// Releases the half's share of the parker. Its receiver does not wait.
+    pub(crate) fn let_go<T, P: Promise<T>>(self, receiver: &ChannelReceiver<T, P>)
+        requires { is_waiting (receiver_at receiver.now.log) ≡ false }
+    {
+        let _ground = receiver;
+        let ParkingHalf {
+            parker: _,
+            pass: _,
+            has_taken: _,
+        } = self;
+    }
+
+    /// Whether it took the token.
+    pub(crate) fn has_taken(&self) -> bool
+        ensures { result ≡ self.now.taken }
+    {
+        self.has_taken
+    }
+
+    /// Blocks until the token is there, and takes it, which it has not before.
     pub(crate) fn park<R: Wait>(&mut self, rt: &R)
-        ensures first { self.old.taken ≡ false }
+        requires { self.old.taken ≡ false }
         ensures takes { self.new ≡ record self.old { taken = true } }
     {
         self.parker.park_as::<Takes, R>(rt, &mut self.pass);
+        self.has_taken = true;
     }
 
     /// Blocks until the token is there, and takes it, or until `deadline`. Returns whether it took the token.
     pub(crate) fn park_until<R: Wait + Clock>(&mut self, rt: &R, deadline: Instant) -> bool
-        ensures first { result ≡ true → self.old.taken ≡ false }
-        ensures takes { self.new ≡ record self.old { taken = result || self.old.taken } }
+        requires { self.old.taken ≡ false }
+        ensures takes { self.new ≡ record self.old { taken = result } }
     {
-        self.parker
-            .park_deadline_as::<Takes, R>(rt, &mut self.pass, deadline)
+        let in_time = self
+            .parker
+            .park_deadline_as::<Takes, R>(rt, &mut self.pass, deadline);
+        self.has_taken = in_time;
+        in_time
     }
 }
 

@@ -15,6 +15,6 @@ pub(crate) fn wake(waker: ChannelWaker) -> Option<Given>
 {
     match waker {
         ChannelWaker::Thread(half) => Some(half.wake()),
-        ChannelWaker::Task(_) | ChannelWaker::Nobody => None,
+        ChannelWaker::Task(_) => None,
     }
 }

@@ -11,7 +11,7 @@ use Rattle.oneshot_machine.specs.declared.machine.try_recv.TryPos.TheVariants.{T
 use Rattle.oneshot_machine.specs.declared.machine.future.FuturePos.TheVariants.{PollLoad, PollCopy, PollWrite, PollExchange, PollBackFull, PollBackClosed, AgainCopy, AgainExchange, AgainBack, PollOwn}
 use Rattle.oneshot_machine.specs.declared.machine.future.FuturePos.TheVariants.{AsyncTryLoad}
 use Rattle.oneshot_machine.specs.declared.machine.async_drop.AsyncDropPos.TheVariants.{AsyncLoad, AsyncExchange, AsyncBack, AsyncSwap}
-use Rattle.oneshot_machine.specs.declared.machine.drop.DropPos.TheVariants.{DropMessage, DropFree}
+use Rattle.oneshot_machine.specs.declared.machine.drop.DropPos.TheVariants.{DropSwap, DropMessage, DropFree}
 use Rattle.oneshot_machine.specs.declared.machine.sender.SenderCall.TheVariants as S
 use Rattle.oneshot_machine.specs.declared.machine.sender.SenderPos.{SenderPos}
 use Rattle.oneshot_machine.specs.declared.machine.sender.SenderPos.TheVariants.{SendWrite, SendAdd, SendTakeWaker, SendFinal, SendWake, SendLateWake, DropXor, DropTakeWaker, DropFinal, DropWake}
@@ -60,6 +60,7 @@ receiver_most (AsyncDrop AsyncLoad) = Some 3
 receiver_most (AsyncDrop AsyncExchange) = Some 2
 receiver_most (AsyncDrop AsyncBack) = Some 1
 receiver_most (AsyncDrop AsyncSwap) = Some 1
+receiver_most (Drop DropSwap) = Some 1
 receiver_most (Drop DropMessage) = Some 0
 receiver_most (Drop DropFree) = Some 0
 receiver_most _ = None
@@ -125,6 +126,10 @@ module _ {T W : Type 0} {reply : Reply} where
 
     pub poll_few : ReceiverRan C.Poll before after reply given got → MakesWithin (receiver_bound C.Poll) before after
     poll_few ran = ran_few poll_makes ran
+
+    pub drop_receiver_few : ReceiverRan C.Drop before after reply given got
+        → MakesWithin (receiver_bound C.Drop) before after
+    drop_receiver_few ran = ran_few (receiver_makes (Drop DropSwap) 1 refl) ran
 
     pub drop_async_few : ReceiverRan C.DropAsync before after reply given got
         → MakesWithin (receiver_bound C.DropAsync) before after

@@ -16,6 +16,7 @@ sender_bound _ = None
 abbrev pub receiver_bound : ReceiverStart → Option ℕ
 receiver_bound RS.TryRecv = Some 2
 receiver_bound RS.AsyncTryRecv = Some 2
+receiver_bound RS.Drop = Some 1
 receiver_bound RS.Poll = Some 4
 receiver_bound RS.DropAsync = Some 3
 receiver_bound _ = None

@@ -7,6 +7,7 @@ ghost use Rattle.oneshot_machine.specs.FutureExamples.{LogsOfFuture, FutureRuns,
 ghost use Rattle.oneshot_machine.specs.CountExamples.{CountsThatAre, CountsThatAreNot};
 ghost use Rattle.oneshot_machine.specs.LogExamples.{LogsThatGrow, LogsThatDoNot};
 ghost use Rattle.oneshot_machine.specs.RowExamples.{RowsThatLead, SlotsThatAre, SlotsThatAreNot};
+ghost use Rattle.oneshot_machine.specs.OverExamples.{EndsThatAreOver, EndsThatAreNotOver};
 ghost use Rattle.oneshot_machine.specs.Orders.{ReachedInOrder};
 ghost use Rattle.oneshot_machine.specs.OrderExamples.{OrdersThatAre, OrdersThatAreNot};
 
@@ -23,7 +24,8 @@ pub fn phases_keep_order()
 {}
 
 /// Examples of the definitions: what the tables allow, the logs and runs of an end, counts of operations,
-/// orders of both ends' logs, what a ground did between two logs, and what becomes of an end's slots.
+/// orders of both ends' logs, what a ground did between two logs, what becomes of an end's slots, and ends that are
+/// over.
 pub fn examples_are_so()
     ensures tables { TablesAllow }
     ensures no_tables { TablesRefuse }
@@ -43,4 +45,6 @@ pub fn examples_are_so()
     ensures rows { RowsThatLead }
     ensures slots { SlotsThatAre }
     ensures no_slots { SlotsThatAreNot }
+    ensures over { EndsThatAreOver }
+    ensures not_over { EndsThatAreNotOver }
 {}

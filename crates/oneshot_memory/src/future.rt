@@ -5,7 +5,7 @@ ghost use Rattle.oneshot_drive.specs.Polls.{IsPolled};
 
 use crate::receiver::MemoryReceiver;
 use crate::task::{MemoryTask, TaskWaker};
-use oneshot_drive::{ReceiverGround, TaskGround, WaitGround};
+use oneshot_drive::{DropGround, ReceiverGround, TaskGround, WaitGround};
 use std::alloc::Global;
 use std::sync::Wait;
 
@@ -48,8 +48,6 @@ impl<'a, 't, T: Drop, R: Wait> ReceiverGround<T, TaskWaker<'t>> for MemoryFuture
     // It gives and takes any waker.
     ghost has = { λ s hand. ⊤ };
 
-    ghost has_on = { λ a b hand k h. tt };
-
     // It states nothing of a message that it returns.
     ghost gives = { λ s m. ⊤ };
 
@@ -79,16 +77,18 @@ impl<'a, 't, T: Drop, R: Wait> ReceiverGround<T, TaskWaker<'t>> for MemoryFuture
         self.receiver.take_message()
     }
 
-    fn drop_message(&mut self) {
-        self.receiver.drop_message();
-    }
-
     fn withdraw(&mut self) -> TaskWaker<'t> {
         self.receiver.withdraw()
     }
 
     fn free(&mut self) {
         self.receiver.free();
+    }
+}
+
+impl<'a, 't, T: Drop, R: Wait> DropGround<T, TaskWaker<'t>> for MemoryFuture<'a, 't, T, R> {
+    fn drop_message(&mut self) {
+        self.receiver.drop_message();
     }
 }
 
@@ -103,6 +103,8 @@ impl<'a, 't, T: Drop, R: Wait> TaskGround<T, TaskWaker<'t>> for MemoryFuture<'a,
     ghost heard = { λ s. ⊤ };
 
     ghost heard_on = { λ a b h k. tt };
+
+    ghost woke_own = { λ s. ⊤ };
 
     fn copy(&mut self) -> Option<TaskWaker<'t>> {
         let copy = if self.refuses {

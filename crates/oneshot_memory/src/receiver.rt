@@ -11,7 +11,7 @@ ghost use Rattle.oneshot_memory.specs.Receiver.{keeps_message, keeps_waker, wake
 
 use crate::wakes::Wakes;
 use crate::{Event, record, sight};
-use oneshot_drive::{BlockGround, ReceiverGround, WaitGround};
+use oneshot_drive::{BlockGround, DropGround, ReceiverGround, WaitGround};
 use oneshot_machine::machine::{Seen, Step};
 use oneshot_machine::states::{DISCONNECTED, EMPTY, MESSAGE, Op, RECEIVING, UNPARKING};
 use std::alloc::Global;
@@ -280,8 +280,6 @@ impl<'a, T: Drop, W: Drop + Wakes, R: Wait> ReceiverGround<T, W> for MemoryRecei
     // It gives and takes any waker.
     ghost has = { λ s hand. ⊤ };
 
-    ghost has_on = { λ a b hand k h. tt };
-
     // It states nothing of a message that it returns.
     ghost gives = { λ s m. ⊤ };
 
@@ -327,12 +325,6 @@ impl<'a, T: Drop, W: Drop + Wakes, R: Wait> ReceiverGround<T, W> for MemoryRecei
         message
     }
 
-    fn drop_message(&mut self) {
-        self.message = None;
-        let event = Event::of(Step::DropMessage, Seen::Done);
-        record(self.rt, &mut self.events, event);
-    }
-
     fn withdraw(&mut self) -> W {
         let Some(waker) = self.waker.take() else {
             unreachable!()
@@ -350,6 +342,14 @@ impl<'a, T: Drop, W: Drop + Wakes, R: Wait> ReceiverGround<T, W> for MemoryRecei
     }
 }
 
+impl<'a, T: Drop, W: Drop + Wakes, R: Wait> DropGround<T, W> for MemoryReceiver<'a, T, W, R> {
+    fn drop_message(&mut self) {
+        self.message = None;
+        let event = Event::of(Step::DropMessage, Seen::Done);
+        record(self.rt, &mut self.events, event);
+    }
+}
+
 impl<'a, T: Drop, W: Drop + Wakes, R: Wait> WaitGround<T, W> for MemoryReceiver<'a, T, W, R> {
     fn write_waker(&mut self, waker: W) {
         let event = Event::handing(Step::WriteWaker, &waker);
@@ -362,6 +362,12 @@ impl<'a, T: Drop, W: Drop + Wakes, R: Wait> WaitGround<T, W> for MemoryReceiver<
 impl<'a, T: Drop, W: Drop + Wakes, R: Wait> BlockGround<T, W> for MemoryReceiver<'a, T, W, R> {
     // Its log has what a park did.
     ghost parks = { λ timed a b. ⊤ };
+
+    ghost reads = { λ over a b. ⊤ };
+
+    ghost has_on = { λ a b hand k h. tt };
+
+    ghost has_back = { λ a b waker slot k h. tt };
 
     fn park(&mut self, _timed: bool) {
         self.pause();

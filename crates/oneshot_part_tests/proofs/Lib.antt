@@ -1,2 +1,3 @@
 mod Shown
 pub mod LoadedMessage
+mod Released

@@ -106,6 +106,9 @@ module _ {T W : Type 0} where
       ∙ (λ i. receiver_next (is.at i) op (saw op (same i)))
 
   -- its phase, with whatever slots it has
+  pub sender_is : {p : SenderAt} (s : Plain T W) → sender_at s.log ≡ p → SenderIs s p s.message s.waker
+  sender_is s at = record { at = at; message = refl; waker = refl }
+
   pub receiver_is : {q : ReceiverAt} (s : Plain T W) → receiver_at s.log ≡ q → ReceiverIs s q s.message s.waker
   receiver_is s at = record { at = at; message = refl; waker = refl }
 

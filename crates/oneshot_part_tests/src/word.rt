@@ -1,13 +1,14 @@
 //! Tests of both sides of one word on one thread.
 
-ghost use Rattle.std.specs.Prelude.{◌≡◌};
+ghost use Rattle.std.specs.Prelude.{◌≡◌, ◌⊎◌};
 ghost use Rattle.oneshot_machine.specs.declared.states.Op.TheVariants.{Load, Swap};
-ghost use Rattle.oneshot_machine.specs.Phases.{fresh, sender_at, looked, first, here, blocked, waits, receiver_at};
+ghost use Rattle.oneshot_machine.specs.Over.{SenderIsOver, ReceiverIsOver};
+ghost use Rattle.oneshot_machine.specs.Phases.{By, fresh, sender_at, looked, first, here, blocked, waits, overdue, receiver_at};
 ghost use Rattle.oneshot_machine.specs.Slots.{vacant};
 ghost use Rattle.oneshot_word.specs.Side.{SenderCan, ReceiverCan};
 
 use crate::asserts::assert_same;
-use oneshot_word::{AnyWaker, Peek, ReceiverSide, SenderSide, Slot, open};
+use oneshot_word::{AnyWaker, Peek, ReceiverSide, SenderSide, Slot, discard, open};
 use std::mem::size_of;
 use std::process::Abort;
 use std::test::Fail;
@@ -17,6 +18,7 @@ fn a_new_table_reads_3_at_both_ends(rt: HostRuntime) -> Result<(), Fail> {
     let (sender, receiver) = open::<u64, u64, u64, ()>(rt.alloc(), &())?;
     assert_same(&rt, sender.peek(), 3);
     assert_same(&rt, receiver.peek(), 3);
+    discard(sender, receiver);
     Ok(())
 }
 
@@ -33,8 +35,10 @@ fn a_waker_goes_one_way_and_a_message_the_other(rt: HostRuntime) -> Result<(), F
     look(&rt, &mut receiver);
     store_waker(&rt, &mut receiver, AnyWaker::Thread(5));
     assert!(rt; matches!(begin_send(&rt, &mut sender, 7), AnyWaker::Thread(5)));
-    assert_same(&rt, sender.swap(4), 1);
+    finish(&rt, &mut sender, 4, 1);
     assert_same(&rt, receive(&rt, &mut receiver), 7);
+    sender.let_go();
+    receiver.let_go();
     Ok(())
 }
 
@@ -47,8 +51,10 @@ fn a_receiver_that_stops_waiting_goes_on(rt: HostRuntime) -> Result<(), Fail> {
     assert_same(&rt, sender.peek(), 3);
     store_waker(&rt, &mut receiver, AnyWaker::Task(6));
     assert!(rt; matches!(begin_send(&rt, &mut sender, 7), AnyWaker::Task(6)));
-    assert_same(&rt, sender.swap(4), 1);
+    finish(&rt, &mut sender, 4, 1);
     assert_same(&rt, receive(&rt, &mut receiver), 7);
+    sender.let_go();
+    receiver.let_go();
     Ok(())
 }
 
@@ -59,8 +65,10 @@ fn an_overdue_receiver_gets_the_message(rt: HostRuntime) -> Result<(), Fail> {
     store_waker(&rt, &mut receiver, AnyWaker::Thread(5));
     assert!(rt; matches!(begin_send(&rt, &mut sender, 7), AnyWaker::Thread(5)));
     stop_too_late(&rt, &mut receiver);
-    assert_same(&rt, sender.swap(4), 3);
+    finish(&rt, &mut sender, 4, 3);
     assert_same(&rt, receive(&rt, &mut receiver), 7);
+    sender.let_go();
+    receiver.let_go();
     Ok(())
 }
 
@@ -68,11 +76,13 @@ fn an_overdue_receiver_gets_the_message(rt: HostRuntime) -> Result<(), Fail> {
 fn an_overdue_receiver_finds_the_sender_gone(rt: HostRuntime) -> Result<(), Fail> {
     let (mut sender, mut receiver) = open::<u8, u8, u8, ()>(rt.alloc(), &())?;
     look(&rt, &mut receiver);
-    store_waker(&rt, &mut receiver, AnyWaker::Nobody);
-    assert!(rt; matches!(begin_drop(&rt, &mut sender), AnyWaker::Nobody));
+    store_waker(&rt, &mut receiver, AnyWaker::Task(6));
+    assert!(rt; matches!(begin_drop(&rt, &mut sender), AnyWaker::Task(6)));
     stop_too_late(&rt, &mut receiver);
-    assert_same(&rt, sender.swap(2), 3);
-    assert_same(&rt, receiver.load(), 2);
+    finish(&rt, &mut sender, 2, 3);
+    find_it_gone(&rt, &mut receiver);
+    sender.let_go();
+    receiver.let_go();
     Ok(())
 }
 
@@ -82,9 +92,11 @@ fn a_receiver_that_stops_over_the_message_gets_it(rt: HostRuntime) -> Result<(),
     look(&rt, &mut receiver);
     store_waker(&rt, &mut receiver, AnyWaker::Thread(5));
     assert!(rt; matches!(begin_send(&rt, &mut sender, 7), AnyWaker::Thread(5)));
-    assert_same(&rt, sender.swap(4), 1);
+    finish(&rt, &mut sender, 4, 1);
     assert_same(&rt, stop_over_the_message(&rt, &mut receiver), 7);
     assert_same(&rt, receiver.peek(), 2);
+    sender.let_go();
+    receiver.let_go();
     Ok(())
 }
 
@@ -94,9 +106,11 @@ fn a_receiver_that_stops_over_an_end_closes(rt: HostRuntime) -> Result<(), Fail>
     look(&rt, &mut receiver);
     store_waker(&rt, &mut receiver, AnyWaker::Thread(5));
     assert!(rt; matches!(begin_drop(&rt, &mut sender), AnyWaker::Thread(5)));
-    assert_same(&rt, sender.swap(2), 1);
+    finish(&rt, &mut sender, 2, 1);
     stop_over_the_end(&rt, &mut receiver);
     assert_same(&rt, receiver.peek(), 2);
+    sender.let_go();
+    receiver.let_go();
     Ok(())
 }
 
@@ -139,7 +153,8 @@ fn stop(rt: &impl Abort, receiver: &mut ReceiverSide<u8, u8, u8>) -> AnyWaker<u8
 
 fn stop_too_late(rt: &impl Abort, receiver: &mut ReceiverSide<u8, u8, u8>)
     requires { ReceiverCan receiver.old (Swap 3) }
-    ensures { ReceiverCan receiver.new Load }
+    ensures at { receiver_at receiver.new.log ≡ overdue }
+    ensures loads { ReceiverCan receiver.new Load }
 {
     let found = receiver.swap(3);
     assert!(rt; found == 1);
@@ -149,6 +164,7 @@ fn stop_too_late(rt: &impl Abort, receiver: &mut ReceiverSide<u8, u8, u8>)
 
 fn stop_over_the_message(rt: &impl Abort, receiver: &mut ReceiverSide<u8, u8, u8>) -> u8
     requires { ReceiverCan receiver.old (Swap 3) }
+    ensures { ReceiverIsOver (receiver_at receiver.new.log) }
 {
     let found = receiver.swap(3);
     assert!(rt; found == 4);
@@ -159,6 +175,7 @@ fn stop_over_the_message(rt: &impl Abort, receiver: &mut ReceiverSide<u8, u8, u8
 
 fn stop_over_the_end(rt: &impl Abort, receiver: &mut ReceiverSide<u8, u8, u8>)
     requires { ReceiverCan receiver.old (Swap 3) }
+    ensures { ReceiverIsOver (receiver_at receiver.new.log) }
 {
     let found = receiver.swap(3);
     assert!(rt; found == 2);
@@ -189,8 +206,28 @@ fn begin_drop(rt: &impl Abort, sender: &mut SenderSide<u8, u8, u8>) -> AnyWaker<
     sender.take_waker()
 }
 
+// Leaves the sender's last word over `found`.
+fn finish(rt: &impl Abort, sender: &mut SenderSide<u8, u8, u8>, last: u8, found: u8)
+    requires { SenderCan sender.old (Swap last) }
+    ensures { (by : By) × SenderIsOver by (sender_at sender.new.log) }
+{
+    let word = sender.swap(last);
+    assert!(rt; word == found);
+}
+
+fn find_it_gone(rt: &impl Abort, receiver: &mut ReceiverSide<u8, u8, u8>)
+    requires at { receiver_at receiver.old.log ≡ overdue }
+    requires loads { ReceiverCan receiver.old Load }
+    ensures { ReceiverIsOver (receiver_at receiver.new.log) }
+{
+    let found = receiver.load();
+    assert!(rt; found == 2);
+}
+
 fn receive(rt: &impl Abort, receiver: &mut ReceiverSide<u8, u8, u8>) -> u8
-    requires { ReceiverCan receiver.old Load }
+    requires waits { (receiver_at receiver.old.log ≡ waits blocked) ⊎ (receiver_at receiver.old.log ≡ overdue) }
+    requires loads { ReceiverCan receiver.old Load }
+    ensures { ReceiverIsOver (receiver_at receiver.new.log) }
 {
     let found = receiver.load();
     assert!(rt; found == 4);

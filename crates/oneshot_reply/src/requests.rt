@@ -4,7 +4,7 @@ ghost use Rattle.std.specs.Prelude.{◌≡◌, true, IfErr};
 
 use crate::answer::Answer;
 use crate::asked::Asked;
-use oneshot_ends::{SendError, Sender};
+use oneshot_ends::{Message, SendError, Sender};
 use std::marker::Model;
 
 /// A question, with the sender of its reply.
@@ -61,7 +61,7 @@ impl<Q: Eq, A: Answer<Q>> Request<Q, A> {
     }
 }
 
-impl<Q: Eq + Drop, A: Answer<Q> + Drop> Request<Q, A> {
+impl<Q: Eq + Drop, A: Answer<Q> + Message> Request<Q, A> {
     /// Answers with a reply that fits, and wakes a waiting ticket. It never blocks and does not allocate.
     ///
     /// - `Ok`: the ticket was there. It may still be dropped before it takes the reply.

@@ -12,7 +12,7 @@ ghost use Rattle.oneshot_ends.specs.Taken.{Takes};
 
 use crate::answer::Answer;
 use crate::asked::Asked;
-use oneshot_ends::{AsyncReceiver, Receiver};
+use oneshot_ends::{AsyncReceiver, Message, Receiver};
 use oneshot_errors::{RecvError, RecvTimeoutError, TryRecvError};
 use std::marker::Model;
 use std::sync::Wait;
@@ -92,7 +92,7 @@ impl<Q: Eq, A: Answer<Q> + Drop, Rt: Drop> Ticket<Q, A, Rt> {
     }
 }
 
-impl<Q: Eq, A: Answer<Q> + Drop, Rt: Wait + Clock + Drop> Ticket<Q, A, Rt> {
+impl<Q: Eq, A: Answer<Q> + Message, Rt: Wait + Clock + Drop> Ticket<Q, A, Rt> {
     /// Blocks until the request is answered or dropped, and consumes the ticket. It does not allocate.
     ///
     /// - `Ok`: the reply.
@@ -108,7 +108,9 @@ impl<Q: Eq, A: Answer<Q> + Drop, Rt: Wait + Clock + Drop> Ticket<Q, A, Rt> {
         let Ticket { replies } = self;
         replies.recv()
     }
+}
 
+impl<Q: Eq, A: Answer<Q> + Drop, Rt: Wait + Clock + Drop> Ticket<Q, A, Rt> {
     /// Blocks until the request is answered or dropped, or until the runtime's clock has advanced by more
     /// than `timeout`. It does not allocate.
     ///

@@ -28,8 +28,8 @@ pub record ReceiverRuns (T : Type 0) (form : Form) (took : Option T) (ys : List 
   pub order : Reaches xs ys word
   -- it is the log of some calls
   pub calls : HasCalls T form ys
-  -- whichever calls these were, and whichever message is sent, so also the one that the receiver took: a run of the
-  -- model has these logs and this word, and exactly these calls
+  -- whichever calls these were, and whichever message is sent: a run of the model has these logs and this word, and
+  -- exactly these calls
   pub runs : (message : T) (calls : List (ReceiverStart × Reply)) → ReceiverCalled T Waking form calls ys
       → RunsCalls message calls xs ys word
   -- exactly one of them returned the message if the receiver took one, and otherwise none

@@ -18,8 +18,8 @@ use oneshot_reply::{Answer, Ticket};
 
 /// For a receiver between two of its calls, whatever a program did with it and wherever the sender is, some
 /// run of the model has this receiver's log, and exactly its calls with the replies that the program got.
-/// The run keeps every law of a trace. If the receiver took a message, such a run sends that one, and exactly
-/// one call returned it; otherwise none did. If `T` has no values, there is no run: the log is that of some
+/// The run keeps every law of a trace. Whichever message it sends, exactly one call returned it if the receiver took
+/// one, and otherwise none did. If `T` has no values, there is no run: the log is that of some
 /// calls, and belongs to an order of both ends' operations.
 pub fn a_receiver_runs<T, Rt, P: Promise<T>>(receiver: &Receiver<T, Rt, P>)
     ensures { ReceiverRuns T as_receiver receiver.now.took receiver.now.log }

@@ -53,7 +53,7 @@ pub use Rattle.oneshot_word.specs.declared.any_waker.AnyWaker.{AnyWaker}
 pub use Rattle.oneshot_word.specs.declared.rule.Role.{Role}
 pub use Rattle.oneshot_word.specs.declared.rule.Role.TheVariants.{Maker, Dealer}
 pub use Rattle.oneshot_word.specs.declared.rule.Slot.{Slot}
-pub use Rattle.oneshot_word.specs.declared.rule.Slot.TheVariants.{Message, Empty, Thread, Task, Nobody}
+pub use Rattle.oneshot_word.specs.declared.rule.Slot.TheVariants.{Message, Empty, Thread, Task}
 pub use Rattle.oneshot_word.specs.declared.rule.View.{View}
 pub use Rattle.std.proofs.Common.{sym, ap, ◌∙◌, subst, ◌++◌, ◌&&◌, ◌≢◌, ◌+◌, ◌%◌, ◌^◌, bit_xor, ◌⊎◌, inl, inr, not, ◌||◌, true≢false, get_or, set, zero, suc, ◌≤◌, rules, T}
 pub use Rattle.std.proofs.Crossing.{frees}

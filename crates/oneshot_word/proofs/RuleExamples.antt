@@ -35,17 +35,14 @@ module _ {T H K : Type 0} where
   waker_not_senders : (k : AnyWaker H K) → IsSenders {T = T} (has_waker k) → ⊥
   waker_not_senders (R.Thread half) is = elim is [ ]
   waker_not_senders (R.Task copy) is = elim is [ ]
-  waker_not_senders R.Nobody is = elim is [ ]
 
   waker_not_receivers : (k : AnyWaker H K) → IsReceivers {T = T} (has_waker k) → ⊥
   waker_not_receivers (R.Thread half) is = elim is [ ]
   waker_not_receivers (R.Task copy) is = elim is [ ]
-  waker_not_receivers R.Nobody is = elim is [ ]
 
   bare_has_no_waker : (k : AnyWaker H K) → has_waker {T = T} k ≢ bare
   bare_has_no_waker (R.Thread half) e = cc
   bare_has_no_waker (R.Task copy) e = cc
-  bare_has_no_waker R.Nobody e = cc
 
   bare_not_words : {k : Home T H K} → IsWords k → k ≢ bare
   bare_not_words (waker_at_home k) = bare_has_no_waker k

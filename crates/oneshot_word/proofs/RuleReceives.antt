@@ -3,11 +3,12 @@
 use Rattle.std.proofs.Common.{◌≡◌, ℕ, List, [], ◌∷◌, Option, Some, refl}
 use mathlib.Core.Option as maybe
 use Rattle.oneshot_word.proofs.Names.{sym, ap, ◌∙◌, subst, Load, Add, Noted, has_made, nothing_made, sender_makes, receiver_makes, has_row, head, tail, View, both_views, ReceivedIsSent}
-use Rattle.oneshot_word.proofs.Names.{MessagesThatPass, MessagesThatDoNot, Home, has_message, lies_out, lies_bare, lies_filled, IsTaken, took_none, took_it, Tied, opened, dealt, runs, view, Swap}
+use Rattle.oneshot_word.proofs.Names.{MessagesThatPass, MessagesThatDoNot, Home, has_message, lies_out, lies_bare, lies_filled, IsTaken, took_none, took_it, Tied, opened, dealt, runs, view}
+use Rattle.oneshot_word.proofs.Names.{Swap, Exchange}
 use Rattle.oneshot_word.proofs.Names.{Word, Reaches, AnyWaker, Share, Held, away, held, waker_of, with_waker, bare, has_waker, Lies, IsPut, IsClaimed, claimed_none, claimed_it, WokenIsPut}
 use Rattle.oneshot_word.proofs.Names.{WakersThatPass, WakersThatDoNot, RECEIVING, EMPTY, MESSAGE}
 use Rattle.oneshot_word.specs.declared.any_waker.AnyWaker.TheVariants as R
-use Rattle.oneshot_word.specs.Examples.{waits}
+use Rattle.oneshot_word.specs.Examples.{waits, polled}
 use Rattle.oneshot_word.proofs.SlotReads.{reads_back}
 use Rattle.oneshot_word.specs.declared.rule.Role.TheVariants.{Sender, Receiver}
 use Rattle.oneshot_word.proofs.RuleKeeps.{lies_so}
@@ -32,7 +33,6 @@ unmade (claimed_it x same made) new is = let e = sym (ap has_made new) ∙ made 
 bare_no : {T H K : Type 0} (k : AnyWaker H K) → ◌≡◌ {A = Home T H K} bare (has_waker k) → ⊥
 bare_no (R.Thread half) e = cc e
 bare_no (R.Task copy) e = cc e
-bare_no R.Nobody e = cc e
 
 waker_in_home : {T H K : Type 0} → Held (AnyWaker H K) → Home T H K → Held (AnyWaker H K)
 waker_in_home otherwise maybe.none = otherwise
@@ -175,6 +175,10 @@ module _ {T P : Type 0} (H K : Type 0) (keeps : P → T → Type 0) where
   begins_to_wait : Reaches [] waits RECEIVING
   begins_to_wait = receiver_makes (Swap RECEIVING) looks (has_row (tail (tail (tail head))))
 
+  polls_and_waits : Reaches [] polled RECEIVING
+  polls_and_waits =
+      receiver_makes (Exchange EMPTY RECEIVING) looks (has_row (tail (tail (tail (tail (tail (tail head)))))))
+
   pub wakers_that_pass : WakersThatPass H K keeps
   wakers_that_pass =
       record {
@@ -185,6 +189,10 @@ module _ {T P : Type 0} (H K : Type 0) (keeps : P → T → Type 0) where
         was_used = λ q m k kept.
             runs _ _
             (sender_makes (Swap MESSAGE) (sender_makes Add begins_to_wait (has_row (tail head))) (has_row head))
+            (lies_filled m (kept, refl)) lies_bare took_none (claimed_it k refl refl);
+        was_used_of_a_future = λ q m k kept.
+            runs _ _
+            (sender_makes (Swap MESSAGE) (sender_makes Add polls_and_waits (has_row (tail head))) (has_row head))
             (lies_filled m (kept, refl)) lies_bare took_none (claimed_it k refl refl);
       }
 

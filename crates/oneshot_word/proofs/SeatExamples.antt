@@ -122,7 +122,6 @@ is_for_waker : {s : Kept} {seen : Held (AnyWaker ℕ ℕ)} → WakerSlot s seen 
 is_for_waker slot_vacant = refl
 is_for_waker (slot_held (R.Thread h) k) = refl
 is_for_waker (slot_held (R.Task h) k) = refl
-is_for_waker (slot_held R.Nobody k) = refl
 
 -- the number of the slot in front, or 2 if there is none
 abbrev in_front : Carries → ℕ

@@ -1,6 +1,6 @@
 -- What a seat carries is what its end sees, and which content fits each slot.
 use Rattle.std.proofs.Common.{◌≡◌, Bool, List, Option, refl}
-use Rattle.oneshot_word.proofs.Names.{sym, subst, Me, Noted, Held, vacant, held, AnyWaker, Slot, Empty, Message, Thread, Task, Nobody, View, Role, Keeps, held_keeps, with_waker, Carried, message_of}
+use Rattle.oneshot_word.proofs.Names.{sym, subst, Me, Noted, Held, vacant, held, AnyWaker, Slot, Empty, Message, Thread, Task, View, Role, Keeps, held_keeps, with_waker, Carried, message_of}
 use Rattle.oneshot_word.proofs.Names.{waker_of, message_in, waker_in, SlotOf, MessageSlot, WakerSlot, any, slot_vacant, slot_held, not_carried, carried, Front, message_first, waker_first, SeatOf}
 use Rattle.oneshot_word.proofs.Names.{seat_of, IsOrdered, SeatIs}
 use Rattle.oneshot_word.specs.declared.any_waker.AnyWaker.TheVariants as R
@@ -8,7 +8,6 @@ use Rattle.oneshot_word.specs.declared.any_waker.AnyWaker.TheVariants as R
 pub reads_back : (T : Type 0) {H K : Type 0} (k : AnyWaker H K) → waker_of (with_waker {T = T} k) ≡ held k
 reads_back T (R.Thread half) = refl
 reads_back T (R.Task copy) = refl
-reads_back T R.Nobody = refl
 
 module _ {T H K : Type 0} where
   pub message_reads : {kept : T → Type 0} {s : Slot T H K} {m : Held T} → MessageSlot kept s m → message_of s ≡ m
@@ -32,7 +31,6 @@ module _ {T H K : Type 0} where
   fits_waker (Message x) e = absurd (cc)
   fits_waker (Thread half) e = slot_held (R.Thread half) tt
   fits_waker (Task copy) e = slot_held (R.Task copy) tt
-  fits_waker Nobody e = slot_held R.Nobody tt
 
   -- the slots in what a seat carries are those that its end sees
   abbrev pub Reads : Carried T H K → Held T → Held (AnyWaker H K) → Type 0

@@ -8,7 +8,7 @@ use Rattle.oneshot_machine.specs.Noted.{Noted}
 use Rattle.oneshot_word.specs.declared.any_waker.AnyWaker.{AnyWaker}
 use Rattle.oneshot_word.specs.declared.rule.Role.TheVariants.{Sender, Receiver}
 use Rattle.oneshot_word.specs.declared.rule.View.{View}
-use Rattle.oneshot_word.specs.Examples.{waits, claims, sent_over}
+use Rattle.oneshot_word.specs.Examples.{waits, polled, claims, sent_over}
 use Rattle.oneshot_word.specs.Rule.{Home, out, bare, has_message, has_waker, Tied}
 use Rattle.oneshot_word.specs.Seats.{view}
 
@@ -80,6 +80,10 @@ module _ {T P : Type 0} (H K : Type 0) (keeps : P → T → Type 0) where
     pub was_used : (q : P) (m : T) (k : AnyWaker H K) → keeps q m
         → Tied {H = H} {K = K} keeps q (MESSAGE ∷ []) (has_message m ∷ bare ∷ [])
         (both_views q (sent_over UNPARKING) (Some m) (Some k) waits None (Some k))
+    -- and the same of a future that a poll left waiting
+    pub was_used_of_a_future : (q : P) (m : T) (k : AnyWaker H K) → keeps q m
+        → Tied {H = H} {K = K} keeps q (MESSAGE ∷ []) (has_message m ∷ bare ∷ [])
+        (both_views q (sent_over UNPARKING) (Some m) (Some k) polled None (Some k))
 
   pub record WakersThatDoNot : Type 0 where
     pub took_another : {q : P} {words : List ℕ} {homes : List (Home T H K)} {xs ys : List Noted}

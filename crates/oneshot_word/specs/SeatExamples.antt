@@ -13,7 +13,7 @@ use Rattle.oneshot_word.specs.declared.any_waker.AnyWaker.TheVariants as R
 use Rattle.oneshot_word.specs.declared.rule.Role.{Role}
 use Rattle.oneshot_word.specs.declared.rule.Role.TheVariants.{Sender, Receiver}
 use Rattle.oneshot_word.specs.declared.rule.Slot.{Slot}
-use Rattle.oneshot_word.specs.declared.rule.Slot.TheVariants.{Empty, Message, Thread, Task, Nobody}
+use Rattle.oneshot_word.specs.declared.rule.Slot.TheVariants.{Empty, Message, Thread, Task}
 use Rattle.oneshot_word.specs.declared.rule.View.{View}
 use Rattle.oneshot_word.specs.Seats.{view, any, with_waker, Carried, message_of, waker_of, message_in, waker_in, MessageSlot, WakerSlot, Part, message_first, waker_first, carried_as, SeatOf, IsAt}
 use Rattle.oneshot_word.specs.Seats.{GivesOnce, HoldsTaken, SenderSeat, ReceiverSeat, gave, took}
@@ -26,7 +26,7 @@ abbrev pub Kept : Type 0
 Kept = Slot ℕ ℕ ℕ
 
 abbrev pub each_slot : List Kept
-each_slot = Empty ∷ Message 7 ∷ Thread 1 ∷ Task 2 ∷ Nobody ∷ []
+each_slot = Empty ∷ Message 7 ∷ Thread 1 ∷ Task 2 ∷ []
 
 abbrev pub message : ℕ → Kept
 message m = Message m
@@ -102,9 +102,9 @@ table words slots block =
     }
 
 pub record SlotsAsSeen : Type 0 where
-  pub as_messages : map message_of each_slot ≡ vacant ∷ held 7 ∷ vacant ∷ vacant ∷ vacant ∷ []
+  pub as_messages : map message_of each_slot ≡ vacant ∷ held 7 ∷ vacant ∷ vacant ∷ []
   pub as_wakers : map waker_of each_slot
-      ≡ vacant ∷ vacant ∷ held (R.Thread 1) ∷ held (R.Task 2) ∷ held R.Nobody ∷ []
+      ≡ vacant ∷ vacant ∷ held (R.Thread 1) ∷ held (R.Task 2) ∷ []
   pub messages_in : map message_in some_carried ≡ away ∷ vacant ∷ away ∷ held 7 ∷ away ∷ held 7 ∷ held 7 ∷ []
   pub wakers_in : map waker_in some_carried
       ≡ away ∷ away ∷ vacant ∷ away ∷ held (R.Thread 1) ∷ held (R.Thread 1) ∷ held (R.Task 2) ∷ []

@@ -14,7 +14,7 @@ use Rattle.oneshot_word.specs.declared.rule.Role.TheVariants.{Sender, Receiver}
 use Rattle.oneshot_word.specs.declared.any_waker.AnyWaker.{AnyWaker}
 use Rattle.oneshot_word.specs.declared.any_waker.AnyWaker.TheVariants as R
 use Rattle.oneshot_word.specs.declared.rule.Slot.{Slot}
-use Rattle.oneshot_word.specs.declared.rule.Slot.TheVariants.{Empty, Message, Thread, Task, Nobody}
+use Rattle.oneshot_word.specs.declared.rule.Slot.TheVariants.{Empty, Message, Thread, Task}
 use Rattle.oneshot_word.specs.declared.rule.View.{View}
 use Rattle.oneshot_machine.specs.declared.states.TheConstants.{MESSAGE}
 
@@ -40,7 +40,6 @@ module _ {T H K : Type 0} where
   abbrev pub with_waker : AnyWaker H K → Slot T H K
   with_waker (R.Thread half) = Thread half
   with_waker (R.Task copy) = Task copy
-  with_waker R.Nobody = Nobody
 
   -- a slot that a seat carries, as its end sees it
   abbrev pub message_of : Slot T H K → Held T
@@ -48,14 +47,12 @@ module _ {T H K : Type 0} where
   message_of (Message m) = held m
   message_of (Thread half) = vacant
   message_of (Task copy) = vacant
-  message_of Nobody = vacant
 
   abbrev pub waker_of : Slot T H K → Held (AnyWaker H K)
   waker_of Empty = vacant
   waker_of (Message m) = vacant
   waker_of (Thread half) = held (R.Thread half)
   waker_of (Task copy) = held (R.Task copy)
-  waker_of Nobody = held R.Nobody
 
   abbrev pub message_in : Carried T H K → Held T
   message_in [] = away

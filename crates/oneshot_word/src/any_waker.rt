@@ -7,6 +7,4 @@ pub enum AnyWaker<H, K> {
     Thread(H),
     /// A clone of a task's waker.
     Task(K),
-    /// A waker that wakes nobody.
-    Nobody,
 }

@@ -14,7 +14,7 @@ mod table;
 
 pub use any_waker::AnyWaker;
 pub use looks::Peek;
-pub use opening::open;
+pub use opening::{discard, open};
 pub use promise::Promise;
 pub use receiver::ReceiverSide;
 pub use rule::{Role, Slot, View, WordRule};

@@ -45,6 +45,17 @@ pub fn open<T: Send + Drop, H: Send + Drop, K: Send + Drop, P: Promise<T>>(
     }
 }
 
+/// Releases both sides of a new table, of which no end was made.
+pub fn discard<T: Drop, H: Drop, K: Drop, P: Promise<T>>(
+    sender: SenderSide<T, H, K, P>,
+    receiver: ReceiverSide<T, H, K, P>,
+)
+    requires { (about : P) × AreEnds about sender receiver }
+{
+    let SenderSide { table: _, seat: _ } = sender;
+    let ReceiverSide { table: _, seat: _ } = receiver;
+}
+
 // A table, with the sender's seat and the receiver's.
 type Seated<T, H, K, P> = (
     WordTable<T, H, K, P>,

@@ -2,6 +2,7 @@
 
 ghost use Rattle.std.specs.Prelude.{◌≡◌, ◌≢◌, Some};
 ghost use Rattle.oneshot_machine.specs.declared.states.Op.TheVariants.{Load, Store, Swap, Exchange};
+ghost use Rattle.oneshot_machine.specs.Over.{ReceiverIsOver};
 ghost use Rattle.oneshot_machine.specs.Phases.{receiver_at};
 ghost use Rattle.oneshot_machine.specs.Slots.{ReceiverOwns, away, vacant, held};
 ghost use Rattle.oneshot_word.specs.declared.any_waker.AnyWaker.{AnyWaker};
@@ -86,7 +87,7 @@ impl<T, H, K, P: Promise<T>> ReceiverSide<T, H, K, P> {
     }
 }
 
-impl<T: Drop, H: Drop, K: Drop, P: Promise<T>> ReceiverSide<T, H, K, P> {
+impl<T, H: Drop, K: Drop, P: Promise<T>> ReceiverSide<T, H, K, P> {
     /// Takes the message out of its slot, which must be the receiver's and full, and returns it.
     pub fn take_message(&mut self) -> T
         requires { (message : T) × (self.old.message ≡ held message) }
@@ -103,7 +104,8 @@ impl<T: Drop, H: Drop, K: Drop, P: Promise<T>> ReceiverSide<T, H, K, P> {
         requires { self.old.waker ≡ vacant }
         ensures { self.new ≡ record self.old { waker = held waker } }
     {
-        self.trade_waker(Slot::of(waker));
+        let old = self.trade_waker(Slot::of(waker));
+        let Slot::Empty = old else { unreachable!() };
     }
 
     /// Takes the waker back out of its slot, which must be the receiver's and full, and returns it.
@@ -144,9 +146,12 @@ impl<T, H, K, P: Promise<T>> ReceiverSide<T, H, K, P> {
     }
 }
 
-// Written by hand: a derived `Drop` would require one of `P`, and a side has no value of `P`.
-impl<T: Drop, H: Drop, K: Drop, P: Promise<T>> Drop for ReceiverSide<T, H, K, P> {
-    fn drop(self) {
+// It has no `Drop`, so that none can be forgotten.
+impl<T: Drop, H: Drop, K: Drop, P: Promise<T>> ReceiverSide<T, H, K, P> {
+    /// Releases the side's share of the table. Its receiver has received or has left.
+    pub fn let_go(self)
+        requires { ReceiverIsOver (receiver_at self.log) }
+    {
         let ReceiverSide { table: _, seat: _ } = self;
     }
 }

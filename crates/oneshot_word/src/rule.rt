@@ -24,8 +24,6 @@ pub enum Slot<T, H, K> {
     Thread(H),
     /// A clone of a task's waker.
     Task(K),
-    /// A waker that wakes nobody.
-    Nobody,
 }
 
 impl<T, H, K> Slot<T, H, K> {
@@ -36,12 +34,11 @@ impl<T, H, K> Slot<T, H, K> {
         match waker {
             AnyWaker::Thread(half) => Slot::Thread(half),
             AnyWaker::Task(copy) => Slot::Task(copy),
-            AnyWaker::Nobody => Slot::Nobody,
         }
     }
 }
 
-impl<T: Drop, H: Drop, K: Drop> Slot<T, H, K> {
+impl<T, H: Drop, K: Drop> Slot<T, H, K> {
     /// The message of a slot that holds one.
     pub(crate) fn into_message(self) -> T
         requires { (message : T) × (message_of self ≡ held message) }
@@ -49,7 +46,7 @@ impl<T: Drop, H: Drop, K: Drop> Slot<T, H, K> {
     {
         match self {
             Slot::Message(message) => message,
-            _ => unreachable!(),
+            Slot::Empty | Slot::Thread(_) | Slot::Task(_) => unreachable!(),
         }
     }
 
@@ -61,8 +58,8 @@ impl<T: Drop, H: Drop, K: Drop> Slot<T, H, K> {
         match self {
             Slot::Thread(half) => AnyWaker::Thread(half),
             Slot::Task(copy) => AnyWaker::Task(copy),
-            Slot::Nobody => AnyWaker::Nobody,
-            _ => unreachable!(),
+            Slot::Empty => unreachable!(),
+            Slot::Message(_message) => unreachable!(),
         }
     }
 }

@@ -3,6 +3,8 @@
 ghost use Rattle.std.specs.Prelude.{◌≡◌, ◌≢◌, Some};
 ghost use Rattle.std.specs.Arc.{arc_value};
 ghost use Rattle.oneshot_machine.specs.declared.states.Op.TheVariants.{Swap, Add, Xor};
+ghost use Rattle.oneshot_machine.specs.Over.{SenderIsOver};
+ghost use Rattle.oneshot_machine.specs.Phases.{By, sender_at};
 ghost use Rattle.oneshot_machine.specs.Slots.{away, vacant, held};
 ghost use Rattle.oneshot_word.specs.declared.any_waker.AnyWaker.{AnyWaker};
 ghost use Rattle.oneshot_word.specs.Seats.{IsAt, HoldsClaimed, Keeps, MessageSlot, SenderSeat, WakerSlot, message_of, waker_of};
@@ -92,14 +94,15 @@ impl<T, H, K, P: Promise<T>> SenderSide<T, H, K, P> {
     }
 }
 
-impl<T: Drop, H: Drop, K: Drop, P: Promise<T>> SenderSide<T, H, K, P> {
+impl<T, H: Drop, K: Drop, P: Promise<T>> SenderSide<T, H, K, P> {
     /// Puts `message`, which must keep the promise, into its slot, which must be the sender's and empty.
     pub fn write_message(&mut self, message: T)
         requires slot { self.old.message ≡ vacant }
         requires kept { P.keeps self.old.about message }
         ensures { self.new ≡ record self.old { message = held message } }
     {
-        self.trade_message(Slot::Message(message));
+        let old = self.trade_message(Slot::Message(message));
+        let Slot::Empty = old else { unreachable!() };
     }
 
     /// Takes the message back out of its slot, which must be the sender's and full, and returns it.
@@ -151,9 +154,12 @@ impl<T, H, K, P: Promise<T>> SenderSide<T, H, K, P> {
     }
 }
 
-// Written by hand: a derived `Drop` would require one of `P`, and a side has no value of `P`.
-impl<T: Drop, H: Drop, K: Drop, P: Promise<T>> Drop for SenderSide<T, H, K, P> {
-    fn drop(self) {
+// It has no `Drop`, so that none can be forgotten.
+impl<T: Drop, H: Drop, K: Drop, P: Promise<T>> SenderSide<T, H, K, P> {
+    /// Releases the side's share of the table. Its sender's call is over.
+    pub fn let_go(self)
+        requires { (by : By) × SenderIsOver by (sender_at self.log) }
+    {
         let SenderSide { table: _, seat: _ } = self;
     }
 }

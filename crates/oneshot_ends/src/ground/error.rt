@@ -3,7 +3,8 @@
 ghost use Rattle.std.specs.Prelude.{◌≡◌, false, true};
 ghost use Rattle.oneshot_machine.specs.Slots.{away, held};
 ghost use Rattle.oneshot_machine.specs.Phases.{sender_at};
-ghost use Rattle.oneshot_drive.specs.BetweenCalls.{IsError, IsLate};
+ghost use Rattle.oneshot_machine.specs.Over.{IsLate};
+ghost use Rattle.oneshot_drive.specs.BetweenCalls.{IsError};
 ghost use Rattle.oneshot_ends.specs.Ends.{SenderIsOrdered, WasRefused, channel_at};
 ghost use Rattle.oneshot_ends.specs.Grounds.{state_of};
 
@@ -24,7 +25,7 @@ pub(crate) struct Refused<T, H, K, P: Promise<T>> {
 
 impl<T, H, K, P: Promise<T>> Model for Refused<T, H, K, P> {
     ghost use Rattle.oneshot_machine.specs.Phases.{sender_at};
-    ghost use Rattle.oneshot_drive.specs.BetweenCalls.{IsLate};
+    ghost use Rattle.oneshot_machine.specs.Over.{IsLate};
     ghost use Rattle.oneshot_ends.specs.Ends.{Failed, WasRefused, channel_at};
 
     ghost Value = { Failed T P };
@@ -83,7 +84,7 @@ pub(crate) struct RefusedSender<T, H, K, P: Promise<T>> {
 impl<T, H, K, P: Promise<T>> Model for RefusedSender<T, H, K, P> {
     ghost use Rattle.oneshot_machine.specs.Phases.{sender_at};
     ghost use Rattle.oneshot_machine.specs.Slots.{vacant};
-    ghost use Rattle.oneshot_drive.specs.BetweenCalls.{IsLate};
+    ghost use Rattle.oneshot_machine.specs.Over.{IsLate};
     ghost use Rattle.oneshot_word.specs.Side.{Side};
     ghost use Rattle.oneshot_word.specs.declared.any_waker.AnyWaker.{AnyWaker};
     ghost use Rattle.oneshot_ends.specs.Grounds.{unless_freed, slot_of};
@@ -132,15 +133,16 @@ impl<T: Drop, P: Promise<T>> ErrorGround<T, AnyWaker<WakingHalf, Waker>>
     }
 }
 
-// It is let go only once it has freed the block, before which it has given its message up.
+// It is released only once it has freed the block, before which it has given its message up.
 impl<T: Drop, H: Drop, K: Drop, P: Promise<T>> Drop for RefusedSender<T, H, K, P> {
     fn drop(self)
         requires { self.message ≡ away }
     {
         let RefusedSender {
             message: _,
-            side: _,
+            side,
             freed: _,
         } = self;
+        side.let_go();
     }
 }

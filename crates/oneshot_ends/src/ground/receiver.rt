@@ -3,24 +3,24 @@
 ghost use Rattle.std.specs.Prelude.{◌≡◌, false, true, [], ◌∷◌};
 ghost use Rattle.oneshot_machine.specs.declared.machine.Step.TheVariants.{WriteWaker};
 ghost use Rattle.oneshot_machine.specs.Logs.{Grows, handed, receiver_of};
-ghost use Rattle.oneshot_machine.specs.Slots.{vacant, held};
-ghost use Rattle.oneshot_drive.specs.BetweenCalls.{FoundTheEnd, HasLeft};
+ghost use Rattle.oneshot_machine.specs.Slots.{away, vacant, held};
+ghost use Rattle.oneshot_machine.specs.Over.{FoundTheEnd, HasLeft};
 ghost use Rattle.oneshot_ends.specs.Ends.{ReceiverIsOrdered};
 
 use crate::freed::Freed;
 use crate::token::WakingHalf;
 use futures::task::Waker;
-use oneshot_drive::ReceiverGround;
+use oneshot_drive::{DropGround, ReceiverGround};
 use oneshot_word::laws::a_receiver_is_in_an_order;
 use oneshot_word::{AnyWaker, Promise, ReceiverSide};
 use std::marker::Model;
 
 /// The ground of a channel's receiver.
-pub(crate) type ChannelReceiver<T, P> = SharedReceiver<T, WakingHalf, Waker, P>;
+pub type ChannelReceiver<T, P> = SharedReceiver<T, WakingHalf, Waker, P>;
 
-// It has no `Drop`: it is let go by `received` or `dropped`, which require that the last call is over.
+// It has no `Drop`: it is released by `received` or `dropped`, which require that the last call is over.
 /// The receiver's ground, between its calls too: its side, with whether it has freed the block.
-pub(crate) struct SharedReceiver<T, H, K, P: Promise<T>> {
+pub struct SharedReceiver<T, H, K, P: Promise<T>> {
     pub(super) side: ReceiverSide<T, H, K, P>,
     freed: Freed,
 }
@@ -57,35 +57,42 @@ impl<T, H, K, P: Promise<T>> SharedReceiver<T, H, K, P> {
 impl<T: Drop, H: Drop, K: Drop, P: Promise<T>> SharedReceiver<T, H, K, P> {
     ghost use Rattle.oneshot_ends.specs.Grounds.{state_of};
 
-    /// Lets the receiver go after its last receive.
+    /// Releases the receiver after its last receive, which leaves no message to it.
     pub(crate) fn received(self)
-        requires { FoundTheEnd (receiver_of (state_of self).log) }
+        requires found { FoundTheEnd (receiver_of (state_of self).log) }
+        requires freed { self.message ≡ away }
     {
-        let SharedReceiver { side: _, freed: _ } = self;
+        let SharedReceiver { side, freed: _ } = self;
+        side.let_go();
     }
 
-    /// Lets the receiver go after its drop.
+    /// Releases the receiver after its drop.
     pub(crate) fn dropped(self)
         requires { HasLeft (receiver_of (state_of self).log) }
     {
-        let SharedReceiver { side: _, freed: _ } = self;
+        let SharedReceiver { side, freed: _ } = self;
+        side.let_go();
     }
 }
 
-impl<T: Drop, P: Promise<T>> SharedReceiver<T, WakingHalf, Waker, P> {
+impl<T, P: Promise<T>> SharedReceiver<T, WakingHalf, Waker, P> {
+    ghost use Rattle.oneshot_machine.specs.Phases.{receiver_at};
     ghost use Rattle.oneshot_ends.specs.Grounds.{state_of};
+    ghost use Rattle.oneshot_ends.specs.OwnWakers.{is_waiting};
 
-    /// Writes `waker` into its slot.
+    /// Writes `waker` into its slot. The receiver does not wait then.
     pub(super) fn give(&mut self, waker: AnyWaker<WakingHalf, Waker>)
         requires { self.old.waker ≡ vacant }
         ensures log { Grows (state_of self.old).log (state_of self.new).log (handed WriteWaker waker ∷ []) }
+        ensures idle { is_waiting (receiver_at self.old.log) ≡ false }
         ensures rest { self.new ≡ record self.old { waker = held waker } }
     {
+        self.side.owns_its_slots();
         self.side.write_waker(waker);
     }
 }
 
-impl<T: Drop, P: Promise<T>> ReceiverGround<T, AnyWaker<WakingHalf, Waker>>
+impl<T, P: Promise<T>> ReceiverGround<T, AnyWaker<WakingHalf, Waker>>
     for SharedReceiver<T, WakingHalf, Waker, P> {
     ghost use Rattle.std.proofs.Common.{subst, Some};
     ghost use Rattle.oneshot_ends.specs.Grounds.{state_of};
@@ -101,8 +108,6 @@ impl<T: Drop, P: Promise<T>> ReceiverGround<T, AnyWaker<WakingHalf, Waker>>
 
     // No call on the ground alone gives a waker: one lends it with what it waits by.
     ghost has = { λ _ _. ⊥ };
-
-    ghost has_on = { λ _ _ _ _ none. none };
 
     ghost gives = { λ s message. P.keeps s.about message };
 
@@ -132,10 +137,6 @@ impl<T: Drop, P: Promise<T>> ReceiverGround<T, AnyWaker<WakingHalf, Waker>>
         self.side.take_message()
     }
 
-    fn drop_message(&mut self) {
-        self.side.take_message();
-    }
-
     fn withdraw(&mut self) -> AnyWaker<WakingHalf, Waker> {
         self.side.take_waker()
     }
@@ -143,5 +144,12 @@ impl<T: Drop, P: Promise<T>> ReceiverGround<T, AnyWaker<WakingHalf, Waker>>
     fn free(&mut self) {
         self.side.owns_its_slots();
         self.freed = Freed::of(true);
+    }
+}
+
+impl<T: Drop, P: Promise<T>> DropGround<T, AnyWaker<WakingHalf, Waker>>
+    for SharedReceiver<T, WakingHalf, Waker, P> {
+    fn drop_message(&mut self) {
+        self.side.take_message();
     }
 }

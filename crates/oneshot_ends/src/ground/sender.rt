@@ -52,9 +52,9 @@ impl<T, P: Promise<T>> Unsent<T, WakingHalf, Waker, P> {
     }
 }
 
-// It has no `Drop`: it is let go by `sent`, by `dropped` or as an error, which require that the call is over.
+// It has no `Drop`: it is released by `sent`, by `dropped` or as an error, which require that the call is over.
 /// The ground of the sender's one call: its side, with evidence of whom the call has woken.
-pub(crate) struct SharedSender<T, P: Promise<T>> {
+pub struct SharedSender<T, P: Promise<T>> {
     side: SenderSide<T, WakingHalf, Waker, P>,
     // Whether `free` was called, for proofs alone: the block is freed with the last of both shares.
     freed: Freed,
@@ -91,28 +91,34 @@ impl<T, P: Promise<T>> SharedSender<T, P> {
 impl<T: Drop, P: Promise<T>> SharedSender<T, P> {
     ghost use Rattle.oneshot_ends.specs.Woken.{HasEnded, phase};
 
-    /// Lets the sender go after a `send` to a receiver that was there.
+    /// Releases the sender after a `send` to a receiver that was there.
     pub(crate) fn sent(self)
         requires ended { HasEnded sending self }
         requires sent { phase self ≡ finished sending }
     {
         let SharedSender {
-            side: _,
+            side,
             freed: _,
             given: _,
         } = self;
+        side.let_go();
     }
 
-    /// Lets the sender go after its drop.
+    /// Releases the sender after its drop.
     pub(crate) fn dropped(self)
         requires { HasEnded dropping self }
     {
         let SharedSender {
-            side: _,
+            side,
             freed: _,
             given: _,
         } = self;
+        side.let_go();
     }
+}
+
+impl<T, P: Promise<T>> SharedSender<T, P> {
+    ghost use Rattle.oneshot_ends.specs.Woken.{HasEnded};
 
     /// Takes the message out of its slot, and returns it with the side.
     pub(crate) fn into_refused(self) -> (T, SenderSide<T, WakingHalf, Waker, P>)
@@ -133,7 +139,7 @@ impl<T: Drop, P: Promise<T>> SharedSender<T, P> {
     }
 }
 
-impl<T: Drop, P: Promise<T>> SenderGround<T, AnyWaker<WakingHalf, Waker>> for SharedSender<T, P> {
+impl<T, P: Promise<T>> SenderGround<T, AnyWaker<WakingHalf, Waker>> for SharedSender<T, P> {
     ghost use Rattle.oneshot_ends.specs.Grounds.{state_of};
     ghost use Rattle.oneshot_ends.specs.Woken.{IsWoken, HasEnded};
     ghost use Rattle.std.proofs.Common.{◌∙◌};

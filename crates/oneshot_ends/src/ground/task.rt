@@ -1,11 +1,11 @@
 //! The ground of a poll: the future's ground, with the poll's task and the copies of wakers.
 
-ghost use Rattle.std.specs.Prelude.{◌≡◌, ⊤, true, false, [], ◌∷◌, IfSome, IfNone};
+ghost use Rattle.std.specs.Prelude.{◌≡◌, true, false, [], ◌∷◌, Some, IfSome, IfNone, IsSome, IsSomeAnd};
 ghost use Rattle.futures.specs.Task.{IsArmed, Hears, Keeps};
 ghost use Rattle.oneshot_machine.specs.Logs.{Grows, copied};
-ghost use Rattle.oneshot_ends.specs.Copies.{HasMade, HasNoneOf};
+ghost use Rattle.oneshot_word.specs.declared.any_waker.AnyWaker.TheVariants.{Task};
+ghost use Rattle.oneshot_ends.specs.Copies.{HasMade, HasNoneOf, HasCopyFor};
 ghost use Rattle.oneshot_ends.specs.Keeps.{KeepsPolled, polled_stays, polled_stays_on};
-ghost use Rattle.oneshot_ends.specs.OwnWakers.{IsNoThread};
 ghost use Rattle.oneshot_ends.specs.Polling.{polled_state, token_of};
 
 use super::ChannelReceiver;
@@ -32,6 +32,7 @@ pub(crate) struct Polling<'g, 'c, 'x, G> {
 
 impl<'g, 'c, 'x, T: Drop, P: Promise<T>> ReceiverGround<T, Copied>
     for Polling<'g, 'c, 'x, ChannelReceiver<T, P>> {
+    ghost use Rattle.oneshot_ends.specs.Copies.{PollHas};
     ghost use Rattle.oneshot_ends.specs.Polling.{polled_state};
     ghost use Rattle.std.proofs.Common.{subst, Some};
 
@@ -46,9 +47,8 @@ impl<'g, 'c, 'x, T: Drop, P: Promise<T>> ReceiverGround<T, Copied>
 
     ghost keeps_on = { λ _ _ _ f g. polled_stays_on f g };
 
-    ghost has = { λ _ _. ⊤ };
-
-    ghost has_on = { λ _ _ _ _ _. tt };
+    // A copy that was made is in hand, and it, or the one that was given last, wakes the poll's task.
+    ghost has = { λ b hand. PollHas b.cx.now b.copies.now b.ground.now hand };
 
     ghost gives = { λ b message. P.keeps b.ground.now.about message };
 
@@ -78,10 +78,6 @@ impl<'g, 'c, 'x, T: Drop, P: Promise<T>> ReceiverGround<T, Copied>
         self.ground.take_message()
     }
 
-    fn drop_message(&mut self) {
-        self.ground.drop_message();
-    }
-
     fn withdraw(&mut self) -> Copied {
         let copy = self.ground.withdraw();
         keep(self.copies, copy);
@@ -96,7 +92,7 @@ impl<'g, 'c, 'x, T: Drop, P: Promise<T>> ReceiverGround<T, Copied>
 impl<'g, 'c, 'x, T: Drop, P: Promise<T>> WaitGround<T, Copied>
     for Polling<'g, 'c, 'x, ChannelReceiver<T, P>> {
     fn write_waker(&mut self, _: Copied) {
-        let copy = given(self.copies, self.cx);
+        let copy = given(self.copies);
         self.ground.give(copy);
     }
 }
@@ -106,6 +102,8 @@ impl<'g, 'c, 'x, T: Drop, P: Promise<T>> TaskGround<T, Copied>
     ghost use Rattle.std.proofs.Common.{subst};
 
     ghost heard = { λ b. IsArmed b.cx.now × Hears b.cx.now b.source.now.id };
+
+    ghost woke_own = { λ b. b.cx.now.is_woken ≡ true };
 
     ghost heard_on = { λ a b h k. (k.task _ h.0, subst (λ id. Hears b.cx.now id) k.source (k.task _ h.1)) };
 
@@ -121,6 +119,7 @@ impl<'g, 'c, 'x, T: Drop, P: Promise<T>> TaskGround<T, Copied>
         ensures message { self.new.ground.now.message ≡ self.old.ground.now.message }
         ensures waker { token_of self.new.ground.now.waker ≡ token_of self.old.ground.now.waker }
         ensures heard { IfSome result (λ _. IsArmed self.new.cx.now × Hears self.new.cx.now self.new.source.now.id) }
+        ensures has { IfSome result (λ _. HasCopyFor self.new.cx.now self.new.copies.now) }
         ensures keeps { KeepsPolled self.old.ground.now self.new.ground.now self.old.cx.now self.new.cx.now
             self.old.source.now.id self.new.source.now.id }
         ensures made { IfSome result (λ _. HasMade self.old.cx.now self.new.cx.now self.new.copies.now) }
@@ -154,23 +153,21 @@ fn register(copies: &mut Copies<Waker>, cx: &mut Context<'_>, source: &Source) -
     copies.keep_made(task, place)
 }
 
-/// Returns the copy that was made.
-fn given(copies: &mut Copies<Waker>, cx: &mut Context<'_>) -> ChannelWaker
-    ensures kept { Keeps cx.old cx.new }
-    ensures no_thread { IsNoThread result }
+/// Returns the copy in hand.
+fn given(copies: &mut Copies<Waker>) -> ChannelWaker
+    requires { IsSome copies.old.hand }
+    ensures { IsSomeAnd copies.old.hand (λ copy. result ≡ Task copy.waker) }
 {
-    match copies.give() {
-        Some(waker) => ChannelWaker::Task(waker),
-        // No driver stores a copy that it has not made.
-        None => {
-            let _again: Poll<()> = cx.yield_now();
-            ChannelWaker::Nobody
-        }
-    }
+    let Some(waker) = copies.give() else {
+        unreachable!()
+    };
+    ChannelWaker::Task(waker)
 }
 
-/// Keeps a copy that was taken back.
-fn keep(copies: &mut Copies<Waker>, copy: ChannelWaker) {
+/// Keeps a copy that was taken back, beside the one in hand.
+fn keep(copies: &mut Copies<Waker>, copy: ChannelWaker)
+    ensures { IfSome copies.old.hand (λ made. copies.new.hand ≡ Some made) }
+{
     if let ChannelWaker::Task(waker) = copy {
         copies.take_back(waker);
     }

@@ -1,11 +1,10 @@
-//! The ground of a call that blocks: the receiver's ground, with its parker, clock and deadline.
+//! The ground of a call that blocks: the receiver's ground, with its parker, clock and patience.
 
-ghost use Rattle.std.specs.Prelude.{◌≡◌, ◌↔◌, true, false, IsTrue};
-ghost use Rattle.oneshot_ends.specs.Spins.{MaySpin};
+ghost use Rattle.std.specs.Prelude.{◌≡◌};
 
 use super::ChannelReceiver;
-use crate::deadline::{Deadline, NextReading, Reading};
-use crate::spin::{SPINS, spin};
+use crate::deadline::Deadline;
+use crate::patience::Patience;
 use crate::token::ParkingHalf;
 use crate::waker::ChannelWaker;
 use oneshot_drive::{BlockGround, ReceiverGround, WaitGround};
@@ -21,75 +20,49 @@ pub(crate) struct Blocking<'g, 'p, 'r, G, Rt> {
     ground: &'g mut G,
     parker: &'p mut ParkingHalf,
     rt: &'r Rt,
-    deadline: Deadline,
-    next: NextReading,
-    /// The last reading of the clock; `None` if it failed, or before the first.
-    reading: Reading,
-    /// How often it spun, since it began to wait or since its deadline was over.
-    spins: u32,
-    /// Whether it slept without a deadline.
-    slept: bool,
+    patience: Patience,
 }
 
 impl<'g, 'p, 'r, G, Rt> Blocking<'g, 'p, 'r, G, Rt> {
-    /// Lends `ground` for a call with this deadline. `next`: its first reading of the clock.
+    /// Lends `ground` for a call with this patience.
     pub(crate) fn lend(
         ground: &'g mut G,
         parker: &'p mut ParkingHalf,
         rt: &'r Rt,
-        deadline: Deadline,
-        next: NextReading,
+        patience: Patience,
     ) -> Blocking<'g, 'p, 'r, G, Rt>
         ensures ground { result.ground ≡ ground.entry }
         ensures parker { result.parker ≡ parker.entry }
-        ensures spins { result.spins ≡ 0 }
-        ensures slept { result.slept ≡ false }
+        ensures patience { result.patience ≡ patience }
     {
         Blocking {
             ground,
             parker,
             rt,
-            deadline,
-            next,
-            reading: None,
-            spins: 0,
-            slept: false,
+            patience,
         }
-    }
-
-    /// Whether a park may spin instead of sleeping.
-    fn may_spin(&self, timed: bool) -> bool
-        ensures { IsTrue result ↔ MaySpin timed self.now.spins self.now.deadline self.now.reading }
-    {
-        self.spins < SPINS && (!timed || self.deadline.is_far(self.reading))
     }
 }
 
-impl<'g, 'p, 'r, T: Drop, Rt, P: Promise<T>> ReceiverGround<T, ChannelWaker>
+impl<'g, 'p, 'r, T, Rt, P: Promise<T>> ReceiverGround<T, ChannelWaker>
     for Blocking<'g, 'p, 'r, ChannelReceiver<T, P>, Rt> {
-    ghost use Rattle.std.specs.Prelude.{[], ◌∷◌, IfSome};
-    ghost use Rattle.std.proofs.Common.{sym, subst, Some};
+    ghost use Rattle.std.specs.Prelude.{[], ◌∷◌};
+    ghost use Rattle.std.proofs.Common.{subst, Some};
     ghost use Rattle.oneshot_ends.specs.Grounds.{lent};
     ghost use Rattle.oneshot_ends.specs.Keeps.{KeepsLent, lent_stays, lent_stays_on};
-    ghost use Rattle.oneshot_ends.specs.OwnWakers.{IsHalfOf, WaitsByHalvesOf};
+    ghost use Rattle.oneshot_ends.specs.OwnWakers.{BlockHas};
 
     // The state's channel also names what was lent, so that a caller recognizes it.
     ghost state = { λ b. lent (b.ground.ghost_name ∷ b.parker.ghost_name ∷ []) b.ground.now };
 
-    ghost keeps = { λ a b. KeepsLent a.ground.now b.ground.now
-        (record { spins = a.spins; slept = a.slept; taken = a.parker.now.taken })
-        (record { spins = b.spins; slept = b.slept; taken = b.parker.now.taken })
-        a.parker.now.parker b.parker.now.parker };
+    ghost keeps = { λ a b. KeepsLent a.ground.now b.ground.now a.patience b.patience a.parker.now b.parker.now };
 
     ghost keeps_same = { λ _. lent_stays };
 
     ghost keeps_on = { λ _ _ _ e f. lent_stays_on e f };
 
     // Its wakers, with the one beside it, are those of its parker.
-    ghost has = { λ b hand. WaitsByHalvesOf b.parker.now.parker b.ground.now × IfSome hand (IsHalfOf b.parker.now.parker) };
-
-    ghost has_on = { λ _ _ hand k h.
-        (k.halves h.0, subst (λ parker. IfSome hand (IsHalfOf parker)) (sym k.parker) h.1) };
+    ghost has = { λ b hand. BlockHas b.parker.now.parker b.ground.now hand };
 
     ghost gives = { λ b message. P.keeps b.ground.now.about message };
 
@@ -119,10 +92,6 @@ impl<'g, 'p, 'r, T: Drop, Rt, P: Promise<T>> ReceiverGround<T, ChannelWaker>
         self.ground.take_message()
     }
 
-    fn drop_message(&mut self) {
-        self.ground.drop_message();
-    }
-
     fn withdraw(&mut self) -> ChannelWaker {
         self.ground.withdraw()
     }
@@ -132,37 +101,36 @@ impl<'g, 'p, 'r, T: Drop, Rt, P: Promise<T>> ReceiverGround<T, ChannelWaker>
     }
 }
 
-impl<'g, 'p, 'r, T: Drop, Rt, P: Promise<T>> WaitGround<T, ChannelWaker>
+impl<'g, 'p, 'r, T, Rt, P: Promise<T>> WaitGround<T, ChannelWaker>
     for Blocking<'g, 'p, 'r, ChannelReceiver<T, P>, Rt> {
     fn write_waker(&mut self, waker: ChannelWaker) {
         self.ground.give(waker);
     }
 }
 
-impl<'g, 'p, 'r, T: Drop, Rt: Wait + Clock, P: Promise<T>> BlockGround<T, ChannelWaker>
+impl<'g, 'p, 'r, T, Rt: Wait + Clock, P: Promise<T>> BlockGround<T, ChannelWaker>
     for Blocking<'g, 'p, 'r, ChannelReceiver<T, P>, Rt> {
-    ghost use Rattle.oneshot_ends.specs.Spins.{MaySpin, Parked};
-    ghost use Rattle.std.specs.Prelude.{[], ◌∷◌};
-    ghost use Rattle.oneshot_machine.specs.Logs.{Grows, clocked};
-    ghost use Rattle.oneshot_ends.specs.Grounds.{lent};
-    ghost use Rattle.oneshot_ends.specs.Keeps.{KeepsLent};
+    ghost use Rattle.oneshot_ends.specs.Keeps.{has_lent_on, has_lent_back};
+    ghost use Rattle.oneshot_ends.specs.Patience.{Parked, Reads};
 
-    ghost parks = { λ timed a b. Parked (MaySpin timed a.spins a.deadline a.reading) timed
-        (record { spins = a.spins; slept = a.slept; taken = a.parker.now.taken })
-        (record { spins = b.spins; slept = b.slept; taken = b.parker.now.taken }) };
+    ghost parks = { λ timed a b. Parked timed a.patience b.patience a.parker.now b.parker.now };
+
+    ghost reads = { λ over a b. Reads over a.patience b.patience };
+
+    ghost has_on = { λ _ _ hand k h. has_lent_on hand k h };
+
+    ghost has_back = { λ _ _ waker slot k h. has_lent_back waker slot k h };
 
     fn park(&mut self, timed: bool) {
-        if self.may_spin(timed) {
-            self.spins += 1;
-            // This park ends without the token: the receiver then checks whether the sender has acted.
-            spin(self.spins);
+        // A park that spins ends without the token: the receiver then checks whether the sender has acted. If the token
+        // was taken, it has, which the next load finds.
+        if self.patience.spins(timed) || self.parker.has_taken() {
             return;
         }
         if !timed {
-            self.slept = true;
             return self.parker.park(self.rt);
         }
-        match self.deadline {
+        match self.patience.deadline() {
             Deadline::At(end) => {
                 let _in_time = self.parker.park_until(self.rt, end);
             },
@@ -171,24 +139,7 @@ impl<'g, 'p, 'r, T: Drop, Rt: Wait + Clock, P: Promise<T>> BlockGround<T, Channe
         }
     }
 
-    /// As in any `BlockGround`. The wait past the deadline, for a sender about to finish, spins again.
-    fn over(&mut self) -> bool
-        ensures log { Grows (lent (self.old.ground.ghost_name ∷ self.old.parker.ghost_name ∷ []) self.old.ground.now).log
-            (lent (self.new.ground.ghost_name ∷ self.new.parker.ghost_name ∷ []) self.new.ground.now).log
-            (clocked result ∷ []) }
-        ensures message { self.new.ground.now.message ≡ self.old.ground.now.message }
-        ensures waker { self.new.ground.now.waker ≡ self.old.ground.now.waker }
-        ensures keeps { KeepsLent self.old.ground.now self.new.ground.now
-            (record { spins = self.old.spins; slept = self.old.slept; taken = self.old.parker.now.taken })
-            (record { spins = self.new.spins; slept = self.new.slept; taken = self.new.parker.now.taken })
-            self.old.parker.now.parker self.new.parker.now.parker }
-        ensures spins { result ≡ true → self.new.spins ≡ 0 }
-    {
-        self.reading = self.next.take(self.rt);
-        let over = self.deadline.is_over(self.reading);
-        if over {
-            self.spins = 0;
-        }
-        over
+    fn over(&mut self) -> bool {
+        self.patience.is_over(self.rt)
     }
 }

@@ -36,7 +36,7 @@ returns-in-Message g c =
       hand = hands (rw c.in-Message.is at c.find.ensures.hand) closed_itself over.phase;
       endless = search rules;
       given = gives _ _ _ c.find.ensures.keeps (gives _ _ _ c.store.ensures.keeps c.take_message.ensures.given);
-      has = g.G.ReceiverGround.has_on _ _ _ (on _ _ _ c.store.ensures.keeps c.take_message.ensures.keeps)
+      has = g.met.G.BlockGround.has_on _ _ _ (on _ _ _ c.store.ensures.keeps c.take_message.ensures.keeps)
           c.find.ensures.has;
       had = c.take_message.ensures.had;
       keeps = on _ _ _ c.find.ensures.keeps (on _ _ _ c.store.ensures.keeps c.take_message.ensures.keeps);
@@ -76,7 +76,7 @@ returns-in-Unclosed g c =
       hand = hands (rw c.in-Unclosed.is at c.find.ensures.hand) closed_itself over.phase;
       endless = search rules;
       given = search rules;
-      has = g.G.ReceiverGround.has_on _ _ _ c.store-in-Unclosed.ensures.keeps c.find.ensures.has;
+      has = g.met.G.BlockGround.has_on _ _ _ c.store-in-Unclosed.ensures.keeps c.find.ensures.has;
       had = search rules;
       keeps = g.G.ReceiverGround.keeps_on _ _ _ c.find.ensures.keeps c.store-in-Unclosed.ensures.keeps;
     }

@@ -1,7 +1,7 @@
 -- Proofs of the goals that `recv` leaves.
 use Rattle.oneshot_drive.proofs.Names.{refl, ◌∙◌, [], ◌∷◌, did, took, by_value, is_in, is_room}
 use Rattle.oneshot_machine.specs.declared.machine.Step.TheVariants as Steps
-use Rattle.oneshot_drive.specs.BetweenCalls.{FoundTheEnd}
+use Rattle.oneshot_machine.specs.Over.{FoundTheEnd}
 use Rattle.oneshot_drive.proofs.EndsOver.{found, stays_at}
 use Rattle.oneshot_drive.proofs.Receives.{has_message, full_freed, gone, gone_freed, hand_back}
 use Rattle.oneshot_drive.proofs.blocking.recv.Goals as goal
@@ -19,6 +19,7 @@ returns-in_default g c =
           c.find.ensures.ends) (c.find.ensures.path by_value) c.free.ensures.log;
       found = stays_at FoundTheEnd (did Steps.Free ∷ []) refl c.free.ensures.log
           (found c.find.result (g.G.ReceiverGround.state c.find.new.g) c.find.ensures.ends);
+      freed = c.free.ensures.message;
       stays = λ _. refl;
       hand = hand_back
           (g.G.ReceiverGround.state c.find.new.g) c.find.result c.find.ensures.ends c.find.ensures.hand;

@@ -25,4 +25,4 @@ returns-clause-keeps g c =
     g.G.ReceiverGround.keeps_on _ _ _ c.over.ensures.keeps c.receive.ensures.keeps
 
 pub receive-requires-clause-has : goal.receive-requires-clause-has
-receive-requires-clause-has g c = g.G.ReceiverGround.has_on _ _ _ c.over.ensures.keeps c.requires.has
+receive-requires-clause-has g c = g.met.G.BlockGround.has_on _ _ _ c.over.ensures.keeps c.requires.has

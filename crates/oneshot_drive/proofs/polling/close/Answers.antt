@@ -2,7 +2,7 @@
 use Rattle.oneshot_drive.proofs.Names.{rules, refl, ◌∙◌, [], ◌∷◌, did, AsyncDrop, AsyncSwap, is_in, is_room, DISCONNECTED, MESSAGE}
 use Rattle.oneshot_machine.specs.declared.machine.Step.TheVariants as Steps
 use Rattle.oneshot_drive.proofs.LastSwap.{swapped_full, swapped_over, swapped_open, swapped_none, row_at, dropped_message, dropped_open, dropped_last}
-use Rattle.oneshot_drive.specs.BetweenCalls.{HasLeft}
+use Rattle.oneshot_machine.specs.Over.{HasLeft}
 use Rattle.oneshot_drive.proofs.EndsOver.{dropped, stays_at}
 use Rattle.oneshot_drive.proofs.polling.close.Goals as goal
 

@@ -1,6 +1,6 @@
 -- Proofs of the goals that `leave` leaves.
-use Rattle.oneshot_drive.proofs.Names.{is_in}
-use Rattle.oneshot_drive.proofs.LeftCopies.{leave_asks, left, left_waits, left_there, none_left, withdrew_full, withdrew_over, leave_waits, leave_full, leave_over}
+use Rattle.oneshot_drive.proofs.Names.{inl, is_in}
+use Rattle.oneshot_drive.proofs.LeftCopies.{leave_asks, left, left_waits, left_phase, left_there, none_left, withdrew_full, withdrew_over, leave_waits, leave_full, leave_over}
 use Rattle.oneshot_drive.proofs.OwnCopies.{wrote_none, on_word, on_withdraw, on_write}
 use Rattle.oneshot_drive.proofs.polling.leave.Goals as goal
 
@@ -18,6 +18,14 @@ pub returns-then-word-eq-EMPTY-clause-ends : goal.returns-then-word-eq-EMPTY-cla
 returns-then-word-eq-EMPTY-clause-ends g c =
     left_waits (left c.exchange-word.result c.exchange-word.ensures.finds c.exchange-word.ensures.log)
     c.if-word-eq-EMPTY.true
+
+pub returns-then-word-eq-EMPTY-clause-task : goal.returns-then-word-eq-EMPTY-clause-task
+returns-then-word-eq-EMPTY-clause-task g c = λ nothing.
+    inl (
+      left_phase (left c.exchange-word.result c.exchange-word.ensures.finds c.exchange-word.ensures.log)
+          c.if-word-eq-EMPTY.true,
+      c.exchange-word.ensures.has _ c.write_waker.ensures.has,
+    )
 
 pub returns-then-word-eq-EMPTY-clause-own : goal.returns-then-word-eq-EMPTY-clause-own
 returns-then-word-eq-EMPTY-clause-own g c =
@@ -39,6 +47,7 @@ returns-then-word-eq-MESSAGE g c =
       ends = withdrew_full found c.withdraw.ensures.log c.withdraw.ensures.message c.withdraw.ensures.waker
           c.if-word-eq-MESSAGE.true;
       heard = λ nothing. absurd (cc);
+      task = λ nothing. absurd (cc);
       own = on_write c.args.copy c.write_waker.ensures.log (on_word _ c.exchange-word.result c.exchange-word.ensures.log
           (on_withdraw c.withdraw.result c.withdraw.ensures.log (wrote_none _)));
       keeps = on _ _ _ c.write_waker.ensures.keeps (on _ _ _ c.exchange-word.ensures.keeps c.withdraw.ensures.keeps);
@@ -55,6 +64,7 @@ returns-else-word-eq-MESSAGE g c =
       ends = withdrew_over found c.withdraw.ensures.log c.withdraw.ensures.message c.withdraw.ensures.waker
           c.if-word-eq-EMPTY.false c.if-word-eq-MESSAGE.false;
       heard = λ nothing. absurd (cc);
+      task = λ nothing. absurd (cc);
       own = on_write c.args.copy c.write_waker.ensures.log (on_word _ c.exchange-word.result c.exchange-word.ensures.log
           (on_withdraw c.withdraw.result c.withdraw.ensures.log (wrote_none _)));
       keeps = on _ _ _ c.write_waker.ensures.keeps (on _ _ _ c.exchange-word.ensures.keeps c.withdraw.ensures.keeps);

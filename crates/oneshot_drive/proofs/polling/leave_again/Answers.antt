@@ -1,9 +1,11 @@
 -- Proofs of the goals that `leave_again` leaves.
-use Rattle.oneshot_drive.proofs.Names.{◌≡◌, ℕ, Some, rules, refl, subst, Exchange, Future, AgainCopy, AgainExchange, Path, Found, poll_end, EndsPoll, receiver_of, receiver_row, receiver_moves, waits}
+use Rattle.std.specs.Prelude.{IfSome}
+use Rattle.oneshot_drive.proofs.Names.{◌≡◌, ℕ, Some, None, rules, refl, subst, inr, Exchange, Future, AgainCopy, AgainExchange, Path}
+use Rattle.oneshot_drive.proofs.Names.{Found, poll_end, EndsPoll, receiver_of, receiver_row, receiver_moves, waits}
 use Rattle.oneshot_drive.proofs.Names.{again, landings, leaves_its_copy, leaves_claimed, is_in, RECEIVING, DISCONNECTED, EMPTY, MESSAGE}
 use Rattle.oneshot_machine.specs.declared.machine.Seen.TheVariants.{Word}
 use Rattle.oneshot_drive.specs.declared.found.Found.TheVariants as F
-use Rattle.oneshot_drive.specs.Polls.{WritesItsCopy}
+use Rattle.oneshot_drive.specs.Polls.{WritesItsCopy, LeavesTask}
 use Rattle.oneshot_drive.proofs.AfterOperations.{Lands, asks, withdrew_waker}
 use Rattle.oneshot_drive.proofs.LeftCopies.{refused, copied_on, owned_ends, may_leave, again_backed, backed_copy, backed_full, backed_none, backed_sender, backed_other, again_to, again_left}
 use Rattle.oneshot_drive.proofs.LeftCopies.{again_late}
@@ -16,17 +18,18 @@ pub returns-in_default : goal.returns-in_default
 returns-in_default g c =
     record {
       path = refused c.copy.result (search rules) refl refl c.copy.ensures.log c.wake_own.ensures.log;
-      ends = owned_ends leaves_its_copy (copied_on c.copy.result c.requires.open c.copy.ensures.log
+      ends = owned_ends leaves_its_copy (copied_on c.copy.result c.requires c.copy.ensures.log
           c.copy.ensures.message
           c.copy.ensures.waker) c.wake_own.ensures.log c.wake_own.ensures.message c.wake_own.ensures.waker;
       heard = λ nothing. c.wake_own.ensures.heard;
+      task = λ nothing. inr c.wake_own.ensures.woken;
       own = on_refusal c.copy.ensures.log (on_own c.wake_own.ensures.log (wrote_none _));
       keeps = g.G.ReceiverGround.keeps_on _ _ _ c.copy.ensures.keeps c.wake_own.ensures.keeps;
     }
 
 pub exchange-requires : goal.exchange-requires
 exchange-requires g c =
-    asks (Exchange RECEIVING EMPTY) (copied_on c.copy.result c.requires.open c.copy.ensures.log c.copy.ensures.message
+    asks (Exchange RECEIVING EMPTY) (copied_on c.copy.result c.requires c.copy.ensures.log c.copy.ensures.message
     c.copy.ensures.waker) refl
 
 -- where the exchange leads
@@ -34,7 +37,7 @@ backed : (g : given.Over) (c : After-exchange g)
     → Lands receiver_of c.exchange.result (g.G.ReceiverGround.state c.exchange.new.self)
     (landings (Exchange RECEIVING EMPTY) (receiver_moves (waits again)))
 backed g c =
-    again_backed c.copy.result c.exchange.result c.requires.open c.copy.ensures.log c.copy.ensures.message
+    again_backed c.copy.result c.exchange.result c.requires c.copy.ensures.log c.copy.ensures.message
     c.copy.ensures.waker c.exchange.ensures.finds c.exchange.ensures.log
 
 -- an exchange that found the sender's last word
@@ -46,6 +49,8 @@ ended : (g : given.Over) (c : After-exchange g) (word : ℕ) (f : Found)
           (g.G.ReceiverGround.state c.exchange.new.self).log;
       ends : EndsPoll f (g.G.ReceiverGround.state c.exchange.new.self);
       heard : f ≡ F.Nothing → g.G.TaskGround.heard c.exchange.new.self;
+      task : f ≡ F.Nothing → LeavesTask (receiver_of (g.G.ReceiverGround.state c.exchange.new.self).log)
+          (g.G.ReceiverGround.has c.exchange.new.self None) (g.G.TaskGround.woke_own c.exchange.new.self);
       own : WritesItsCopy (g.G.ReceiverGround.state c.args.g.now).log
           (g.G.ReceiverGround.state c.exchange.new.self).log;
       keeps : g.G.ReceiverGround.keeps c.args.g.now c.exchange.new.self;
@@ -56,6 +61,7 @@ ended g c word f leads e some ends =
           c.exchange.ensures.log;
       ends = ends;
       heard = λ nothing. absurd (some nothing);
+      task = λ nothing. absurd (some nothing);
       own = on_copy c.in-Some.copy c.in-Some.is c.copy.ensures.log
           (on_word _ c.exchange.result c.exchange.ensures.log (wrote_none _));
       keeps = g.G.ReceiverGround.keeps_on _ _ _ c.copy.ensures.keeps c.exchange.ensures.keeps;
@@ -79,6 +85,7 @@ returns-in-0 g c =
           c.withdraw-stored.result c.in-0.is c.exchange.ensures.log c.withdraw-stored.ensures.log c.leave.ensures.path;
       ends = c.leave.ensures.ends;
       heard = c.leave.ensures.heard;
+      task = c.leave.ensures.task;
       own = on_copy c.in-Some.copy c.in-Some.is c.copy.ensures.log
           (on_word _ c.exchange.result c.exchange.ensures.log
           (on_withdraw c.withdraw-stored.result c.withdraw-stored.ensures.log c.leave.ensures.own));
@@ -106,6 +113,7 @@ returns-in-1 g c =
       ends = owned_ends leaves_claimed late c.wake_own-in-1.ensures.log
           c.wake_own-in-1.ensures.message c.wake_own-in-1.ensures.waker;
       heard = λ nothing. c.wake_own-in-1.ensures.heard;
+      task = λ nothing. inr c.wake_own-in-1.ensures.woken;
       own = on_copy c.in-Some.copy c.in-Some.is c.copy.ensures.log (on_word _ c.exchange.result c.exchange.ensures.log
           (on_own c.wake_own-in-1.ensures.log (wrote_none _)));
       keeps = on _ _ _ c.copy.ensures.keeps
@@ -114,12 +122,13 @@ returns-in-1 g c =
 
 pub leave-requires-clause-has : goal.leave-requires-clause-has
 leave-requires-clause-has g c =
-    let on = g.G.ReceiverGround.keeps_on in
-    g.G.ReceiverGround.has_on _ _ _ (on _ _ _ c.exchange.ensures.keeps c.withdraw-stored.ensures.keeps)
-    (subst (λ hand. g.G.ReceiverGround.has c.copy.new.self hand) c.in-Some.is (c.copy.ensures.has c.requires.has))
+    c.withdraw-stored.ensures.has _
+    (c.exchange.ensures.has _
+    (subst (λ hand. IfSome hand (λ copy. g.G.ReceiverGround.has c.copy.new.self (Some copy))) c.in-Some.is
+    c.copy.ensures.has))
 
 pub unreachable-requires : goal.unreachable-requires
 unreachable-requires g c =
-    backed_other (again_backed c.copy.result c.exchange.result c.requires.open c.copy.ensures.log c.copy.ensures.message
+    backed_other (again_backed c.copy.result c.exchange.result c.requires c.copy.ensures.log c.copy.ensures.message
     c.copy.ensures.waker c.exchange.ensures.finds c.exchange.ensures.log) (search rules) (search rules) (search rules)
     (search rules)

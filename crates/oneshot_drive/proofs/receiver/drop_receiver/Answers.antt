@@ -1,10 +1,10 @@
 -- Proofs of the goals that `drop_receiver` leaves.
-use Rattle.oneshot_drive.proofs.Names.{rules, refl, ◌∙◌, [], ◌∷◌, did, DropSwap, is_in, is_room, DISCONNECTED, EMPTY, MESSAGE}
+use Rattle.oneshot_drive.proofs.Names.{rules, drop_receiver_few, refl, ◌∙◌, [], ◌∷◌, did, DropSwap, is_in, is_room, DISCONNECTED, EMPTY, MESSAGE}
 use Rattle.oneshot_machine.specs.declared.machine.Step.TheVariants as Steps
 use Rattle.oneshot_machine.specs.declared.machine.receiver.ReceiverPos.TheVariants.{Drop}
 use Rattle.oneshot_drive.proofs.RestLoads.{swap_asks}
 use Rattle.oneshot_drive.proofs.LastSwap.{swapped_full, swapped_over, swapped_none, past_1, row_at, dropped_message, dropped_open, dropped_last}
-use Rattle.oneshot_drive.specs.BetweenCalls.{HasLeft}
+use Rattle.oneshot_machine.specs.Over.{HasLeft}
 use Rattle.oneshot_drive.proofs.EndsOver.{dropped, stays_at}
 use Rattle.oneshot_drive.proofs.receiver.drop_receiver.Goals as goal
 
@@ -39,14 +39,23 @@ returns-in-2-clause-run g c =
     (row_at (Drop DropSwap) DISCONNECTED refl c.in-2.is) c.swap.ensures.log
     c.free-in-2.ensures.log
 
+pub returns-in-4-clause-bounded : goal.returns-in-4-clause-bounded
+returns-in-4-clause-bounded g c = drop_receiver_few (returns-in-4-clause-run g c)
+
 pub returns-in-4-clause-left : goal.returns-in-4-clause-left
 returns-in-4-clause-left g c =
     stays_at HasLeft (did Steps.Free ∷ []) refl c.free.ensures.log
     (stays_at HasLeft (did Steps.DropMessage ∷ []) refl c.drop_message.ensures.log
     (dropped c.swap.result c.swap.ensures.finds c.swap.ensures.log))
 
+pub returns-in-3-clause-bounded : goal.returns-in-3-clause-bounded
+returns-in-3-clause-bounded g c = drop_receiver_few (returns-in-3-clause-run g c)
+
 pub returns-in-3-clause-left : goal.returns-in-3-clause-left
 returns-in-3-clause-left g c = dropped c.swap.result c.swap.ensures.finds c.swap.ensures.log
+
+pub returns-in-2-clause-bounded : goal.returns-in-2-clause-bounded
+returns-in-2-clause-bounded g c = drop_receiver_few (returns-in-2-clause-run g c)
 
 pub returns-in-2-clause-left : goal.returns-in-2-clause-left
 returns-in-2-clause-left g c =

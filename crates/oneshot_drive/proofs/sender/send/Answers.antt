@@ -1,6 +1,6 @@
 -- Proofs of the goals that `send` leaves.
 use Rattle.oneshot_drive.proofs.Names.{[], ◌∷◌, rules, refl, Send, Add, sender_of, sending, fresh, none, filled, Reply, StandsWith, SenderWoke, message_kept, send_few}
-use Rattle.oneshot_drive.specs.BetweenCalls.{SenderIsOver, over_finished}
+use Rattle.oneshot_machine.specs.Over.{SenderIsOver, over_finished}
 use Rattle.oneshot_drive.proofs.AfterOperations.{sender_asks}
 use Rattle.oneshot_drive.proofs.SenderCalls.{left, written, send_owes, added_here, added_waiting, added, added_none, refused, overtaken_error, is_too_late}
 use Rattle.oneshot_drive.proofs.SenderRuns.{send_ran, send_refused, send_woke}

@@ -15,7 +15,7 @@ returns-in-4 g c =
       ends = (at_once, refl, full);
       stays = λ is_closed. never MESSAGE refl c.in-4.is is_closed c.load.ensures.finds;
       hand = returned c.args.hand.now;
-      has = g.G.ReceiverGround.has_on _ _ _ c.load.ensures.keeps c.requires.has;
+      has = g.met.G.BlockGround.has_on _ _ _ c.load.ensures.keeps c.requires.has;
       keeps = c.load.ensures.keeps;
     }
 
@@ -45,7 +45,7 @@ returns-in-2 g c =
       ends = loaded_closed (loaded c.load.result c.requires.rests c.load.ensures.finds c.load.ensures.log) c.in-2.is;
       stays = λ is_closed. refl;
       hand = returned c.args.hand.now;
-      has = g.G.ReceiverGround.has_on _ _ _ c.load.ensures.keeps c.requires.has;
+      has = g.met.G.BlockGround.has_on _ _ _ c.load.ensures.keeps c.requires.has;
       keeps = c.load.ensures.keeps;
     }
 
@@ -55,4 +55,4 @@ unreachable-requires g c =
     (search rules) (search rules)
 
 pub store_and_wait-requires-clause-has : goal.store_and_wait-requires-clause-has
-store_and_wait-requires-clause-has g c = g.G.ReceiverGround.has_on _ _ _ c.load.ensures.keeps c.requires.has
+store_and_wait-requires-clause-has g c = g.met.G.BlockGround.has_on _ _ _ c.load.ensures.keeps c.requires.has

@@ -55,27 +55,28 @@ returns-in-1-clause-keeps g c =
     g.G.ReceiverGround.keeps_on _ _ _ c.swap.ensures.keeps c.wait_late.ensures.keeps
 
 pub wait_late-requires-clause-has : goal.wait_late-requires-clause-has
-wait_late-requires-clause-has g c = g.G.ReceiverGround.has_on _ _ _ c.swap.ensures.keeps c.requires.has
+wait_late-requires-clause-has g c = g.met.G.BlockGround.has_on _ _ _ c.swap.ensures.keeps c.requires.has
 
 pub returns-in-0-clause-has : goal.returns-in-0-clause-has
 returns-in-0-clause-has g c =
-    c.withdraw.ensures.has (g.G.ReceiverGround.has_on _ _ _ c.swap.ensures.keeps c.requires.has)
+    g.met.G.BlockGround.has_back _ _ _ c.withdraw.ensures.was c.withdraw.ensures.keeps
+    (g.met.G.BlockGround.has_on _ _ _ c.swap.ensures.keeps c.requires.has)
 
 pub returns-in-4-clause-has : goal.returns-in-4-clause-has
 returns-in-4-clause-has g c =
     subst (λ hand. g.G.ReceiverGround.has c.swap.new.self hand) (sym c.requires.empty)
-    (g.G.ReceiverGround.has_on _ _ _ c.swap.ensures.keeps c.requires.has)
+    (g.met.G.BlockGround.has_on _ _ _ c.swap.ensures.keeps c.requires.has)
 
 pub returns-in-2-clause-has : goal.returns-in-2-clause-has
 returns-in-2-clause-has g c =
     subst (λ hand. g.G.ReceiverGround.has c.swap.new.self hand) (sym c.requires.empty)
-    (g.G.ReceiverGround.has_on _ _ _ c.swap.ensures.keeps c.requires.has)
+    (g.met.G.BlockGround.has_on _ _ _ c.swap.ensures.keeps c.requires.has)
 
 pub returns-in-1-clause-has : goal.returns-in-1-clause-has
 returns-in-1-clause-has g c =
     let on = g.G.ReceiverGround.keeps_on in
     subst (λ hand. g.G.ReceiverGround.has c.wait_late.new.g hand) (sym c.requires.empty)
-    (g.G.ReceiverGround.has_on _ _ _ (on _ _ _ c.swap.ensures.keeps c.wait_late.ensures.keeps) c.requires.has)
+    (g.met.G.BlockGround.has_on _ _ _ (on _ _ _ c.swap.ensures.keeps c.wait_late.ensures.keeps) c.requires.has)
 
 pub unreachable-requires : goal.unreachable-requires
 unreachable-requires g c =

@@ -60,8 +60,8 @@ returns-then-word-eq-MESSAGE g c =
           c.withdraw.ensures.waker c.args.timed c.if-word-eq-MESSAGE.true;
       hand = back c.in-Some.waker c.withdraw.result is (waker_kept c.swap-word.ensures.finds c.write_waker.ensures.waker
           (stored_there found c.if-word-eq-EMPTY.false)) c.withdraw.ensures.was;
-      has = c.withdraw.ensures.has
-          (g.G.ReceiverGround.has_on _ _ _ c.swap-word.ensures.keeps c.write_waker.ensures.has);
+      has = g.met.G.BlockGround.has_back _ _ _ c.withdraw.ensures.was c.withdraw.ensures.keeps
+          (g.met.G.BlockGround.has_on _ _ _ c.swap-word.ensures.keeps c.write_waker.ensures.has);
       keeps = on _ _ _ c.write_waker.ensures.keeps (on _ _ _ c.swap-word.ensures.keeps c.withdraw.ensures.keeps);
     }
 
@@ -80,11 +80,11 @@ returns-else-word-eq-MESSAGE g c =
           c.withdraw.ensures.waker c.args.timed c.if-word-eq-EMPTY.false c.if-word-eq-MESSAGE.false;
       hand = back c.in-Some.waker c.withdraw.result is (waker_kept c.swap-word.ensures.finds c.write_waker.ensures.waker
           (stored_there found c.if-word-eq-EMPTY.false)) c.withdraw.ensures.was;
-      has = c.withdraw.ensures.has
-          (g.G.ReceiverGround.has_on _ _ _ c.swap-word.ensures.keeps c.write_waker.ensures.has);
+      has = g.met.G.BlockGround.has_back _ _ _ c.withdraw.ensures.was c.withdraw.ensures.keeps
+          (g.met.G.BlockGround.has_on _ _ _ c.swap-word.ensures.keeps c.write_waker.ensures.has);
       keeps = on _ _ _ c.write_waker.ensures.keeps (on _ _ _ c.swap-word.ensures.keeps c.withdraw.ensures.keeps);
     }
 
 pub wait-requires-clause-has : goal.wait-requires-clause-has
 wait-requires-clause-has g c =
-    g.G.ReceiverGround.has_on _ _ _ c.swap-word.ensures.keeps c.write_waker.ensures.has
+    g.met.G.BlockGround.has_on _ _ _ c.swap-word.ensures.keeps c.write_waker.ensures.has

@@ -57,7 +57,7 @@ decided g c by e =
           c.park.ensures.waker c.load.result c.load.ensures.finds c.load.ensures.log) c.args.timed by e;
       hand = c.loop.invariant.hand;
       has = subst (λ hand. g.G.ReceiverGround.has c.load.new.self hand)
-          (sym (c.loop.invariant.hand ∙ c.requires.empty)) (g.G.ReceiverGround.has_on _ _ _ keeps c.requires.has);
+          (sym (c.loop.invariant.hand ∙ c.requires.empty)) (g.met.G.BlockGround.has_on _ _ _ keeps c.requires.has);
       keeps = keeps;
     }
 
@@ -91,12 +91,12 @@ stop-requires-clause-empty g c = c.loop.invariant.hand ∙ c.requires.empty
 pub stop-requires-clause-has : goal.stop-requires-clause-has
 stop-requires-clause-has g c =
     let on = g.G.ReceiverGround.keeps_on in
-    g.G.ReceiverGround.has_on _ _ _ (on _ _ _ c.loop.invariant.keeps c.is_over.ensures.keeps) c.requires.has
+    g.met.G.BlockGround.has_on _ _ _ (on _ _ _ c.loop.invariant.keeps c.is_over.ensures.keeps) c.requires.has
 
 pub park-requires-clause-has : goal.park-requires-clause-has
 park-requires-clause-has g c =
     let on = g.G.ReceiverGround.keeps_on in
-    g.G.ReceiverGround.has_on _ _ _ (on _ _ _ c.loop.invariant.keeps c.is_over.ensures.keeps) c.requires.has
+    g.met.G.BlockGround.has_on _ _ _ (on _ _ _ c.loop.invariant.keeps c.is_over.ensures.keeps) c.requires.has
 
 pub unreachable-requires : goal.unreachable-requires
 unreachable-requires g c =

@@ -65,7 +65,7 @@ loop-preserved g c =
     }
 
 pub park-requires-clause-has : goal.park-requires-clause-has
-park-requires-clause-has g c = g.G.ReceiverGround.has_on _ _ _ c.loop.invariant.keeps c.requires.has
+park-requires-clause-has g c = g.met.G.BlockGround.has_on _ _ _ c.loop.invariant.keeps c.requires.has
 
 pub unreachable-requires : goal.unreachable-requires
 unreachable-requires g c =

@@ -6,6 +6,7 @@ use Rattle.oneshot_machine.proofs.FutureExampleRuns.{logs_of_future, future_runs
 use Rattle.oneshot_machine.proofs.CountedExamples.{counts_that_are, counts_that_are_not}
 use Rattle.oneshot_machine.proofs.LogExamples.{logs_that_grow, logs_that_do_not}
 use Rattle.oneshot_machine.proofs.RowExamples.{rows_that_lead, slots_that_are, slots_that_are_not}
+use Rattle.oneshot_machine.proofs.OverExamples.{ends_that_are_over, ends_that_are_not_over}
 use Rattle.oneshot_machine.proofs.OrderedExamples.{orders_that_are, orders_that_are_not}
 use Rattle.oneshot_machine.proofs.laws.examples_are_so.Goals as goal
 
@@ -30,4 +31,6 @@ returns c =
       rows = rows_that_lead;
       slots = slots_that_are;
       no_slots = slots_that_are_not;
+      over = ends_that_are_over;
+      not_over = ends_that_are_not_over;
     }

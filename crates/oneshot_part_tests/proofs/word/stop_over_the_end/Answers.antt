@@ -6,6 +6,7 @@ use Rattle.oneshot_machine.specs.Phases.{blocked, waits, stopping, unclosed, rec
 use Rattle.oneshot_machine.specs.Slots.{Held, vacant, is_vacant, gets_room, head, tail, may, finds, ReceiverFinds}
 use Rattle.oneshot_word.specs.Side.{ReceiverDid}
 use Rattle.oneshot_part_tests.proofs.Shown.{Plain, stops_only, ReceiverIs, receiver_can, receiver_told, receiver_went, receiver_is}
+use Rattle.oneshot_part_tests.proofs.Released.{closed_at}
 use Rattle.oneshot_part_tests.proofs.word.stop_over_the_end.Goals as goal
 
 module _ {T W : Type 0} where
@@ -24,3 +25,9 @@ pub store-found-requires : goal.store-found-requires
 store-found-requires g c =
     receiver_can (Store DISCONNECTED) (stops (stops_only c.requires) c.swap-found.ensures (search rules))
     (may head is_vacant is_vacant)
+
+pub returns : goal.returns
+returns g c =
+    closed_at c.store-found.new.self
+    (receiver_went (Store DISCONNECTED) EMPTY (stops (stops_only c.requires) c.swap-found.ensures (search rules))
+    c.store-found.ensures (search rules))

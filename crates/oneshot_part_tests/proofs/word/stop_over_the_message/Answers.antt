@@ -6,6 +6,7 @@ use Rattle.oneshot_machine.specs.Phases.{blocked, waits, stopping, swapped, full
 use Rattle.oneshot_machine.specs.Slots.{Held, vacant, held, gets_thing, gets_room, head, tail, finds, ReceiverFinds}
 use Rattle.oneshot_word.specs.Side.{ReceiverDid}
 use Rattle.oneshot_part_tests.proofs.Shown.{Plain, stops_only, ReceiverIs, receiver_can, receiver_told, receiver_went, receiver_is, closes, keeps_message}
+use Rattle.oneshot_part_tests.proofs.Released.{closed_at}
 use Rattle.oneshot_part_tests.proofs.word.stop_over_the_message.Goals as goal
 
 module _ {T W : Type 0} where
@@ -31,3 +32,10 @@ pub take_message-requires : goal.take_message-requires
 take_message-requires g c =
     let it = stops (stops_only c.requires) c.swap-found.ensures (search rules) in
     (it.0, keeps_message (receiver_told (Store DISCONNECTED) EMPTY it.1 c.store-found.ensures (search rules)))
+
+pub returns : goal.returns
+returns g c =
+    let it = stops (stops_only c.requires) c.swap-found.ensures (search rules) in
+    let over = closed_at c.store-found.new.self
+      (receiver_went (Store DISCONNECTED) EMPTY it.1 c.store-found.ensures (search rules)) in
+    search (rules, over)

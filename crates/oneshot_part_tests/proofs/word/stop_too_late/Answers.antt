@@ -34,7 +34,12 @@ pub load-found-requires : goal.load-found-requires
 load-found-requires g c =
     receiver_can Load (stops (stops_only c.requires) c.swap-found.ensures (search rules)) (may head is_away is_away)
 
-pub returns : goal.returns
-returns g c =
+pub returns-clause-at : goal.returns-clause-at
+returns-clause-at g c =
+    (waits_on (stops (stops_only c.requires) c.swap-found.ensures (search rules)) c.load-found.ensures
+    (search rules)).at
+
+pub returns-clause-loads : goal.returns-clause-loads
+returns-clause-loads g c =
     receiver_can Load (waits_on (stops (stops_only c.requires) c.swap-found.ensures (search rules)) c.load-found.ensures
     (search rules)) (may head is_away is_away)

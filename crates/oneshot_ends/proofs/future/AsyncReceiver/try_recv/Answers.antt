@@ -3,10 +3,11 @@ use Rattle.std.proofs.Common.{refl, ◌∙◌}
 use Rattle.oneshot_machine.specs.declared.machine.receiver.ReceiverStart.TheVariants.{AsyncTryRecv}
 use Rattle.oneshot_drive.specs.Polls.{LeavesTried}
 use Rattle.oneshot_ends.proofs.CallsAnswered.{one_answered}
-use Rattle.oneshot_ends.proofs.EndViews.{future_steps, future_about, future_took, kept_about}
+use Rattle.oneshot_ends.proofs.EndViews.{future_steps, future_about, future_took, future_registered, kept_about}
 use Rattle.oneshot_ends.proofs.GrewByRuns.{words_of, grew_by, closed_before, at_end, async_try_recv_few}
 use Rattle.oneshot_ends.proofs.PolledEnds.{closed_tried, open_tried, registered_by}
 use Rattle.oneshot_ends.proofs.Taken.{polled_so, taken_by, tried_takes}
+use Rattle.oneshot_ends.proofs.TaskWakers.{same_registered}
 use Rattle.oneshot_ends.proofs.future.AsyncReceiver.try_recv.Goals as goal
 
 pub invariant_of-self : goal.invariant_of-self
@@ -38,6 +39,14 @@ pub returns-clause-registered : goal.returns-clause-registered
 returns-clause-registered g c =
     registered_by c.async_try_recv.result (words_of _ _ c.self.inside.ground.log ∙ future_steps c.self.view_is)
     (words_of _ _ c.async_try_recv.new.g.log) c.async_try_recv.ensures.registered
+
+pub returns-clause-same_waker : goal.returns-clause-same_waker
+returns-clause-same_waker g c nothing =
+    same_registered c.self.inside.ground c.async_try_recv.new.g c.self.invariant.rests c.self.invariant.no_thread
+    c.async_try_recv.ensures.keeps
+    (registered_by c.async_try_recv.result (words_of _ _ c.self.inside.ground.log)
+    (words_of _ _ c.async_try_recv.new.g.log) c.async_try_recv.ensures.registered nothing)
+    ∙ future_registered c.self.view_is
 
 pub returns-clause-closes : goal.returns-clause-closes
 returns-clause-closes g c = closed_tried (returns-clause-leaves g c)

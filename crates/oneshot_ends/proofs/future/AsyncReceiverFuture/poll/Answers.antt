@@ -1,5 +1,5 @@
 -- Proofs of the goals that `poll` of `AsyncReceiver` as a `Future` leaves.
-use Rattle.std.proofs.Common.{[], ◌∷◌, refl, ◌∙◌}
+use Rattle.std.proofs.Common.{[], ◌∷◌, refl, ◌∙◌, rules}
 use Rattle.oneshot_machine.specs.declared.machine.receiver.ReceiverStart.TheVariants as C
 use Rattle.oneshot_drive.specs.Polls.{LeavesPolled}
 use Rattle.oneshot_ends.proofs.CallsAnswered.{one_answered}
@@ -8,10 +8,11 @@ use Rattle.oneshot_ends.proofs.GrewByRuns.{grew_by, closed_before, at_end, poll_
 use Rattle.oneshot_ends.proofs.PolledEnds.{closed_polled, open_polled}
 use Rattle.oneshot_ends.proofs.PollingTokens.{stands_by_tokens, stands_as_told}
 use Rattle.oneshot_ends.proofs.Taken.{polled_so, taken_by, poll_takes}
+use Rattle.oneshot_ends.proofs.TaskWakers.{woken_by}
 use Rattle.oneshot_ends.proofs.future.AsyncReceiverFuture.poll.Goals as goal
 
-pub poll-requires-clause-rests : goal.poll-requires-clause-rests
-poll-requires-clause-rests g c = stands_by_tokens (_ ∷ _ ∷ _ ∷ []) c.self.inside.ground c.self.invariant.rests
+pub poll-requires : goal.poll-requires
+poll-requires g c = stands_by_tokens (_ ∷ _ ∷ _ ∷ []) c.self.inside.ground c.self.invariant.rests
 
 pub invariant_of-self : goal.invariant_of-self
 invariant_of-self g c =
@@ -41,6 +42,11 @@ returns-clause-closes g c = closed_polled c.poll.result (returns-clause-leaves g
 
 pub returns-clause-stays_open : goal.returns-clause-stays_open
 returns-clause-stays_open g c = open_polled (returns-clause-leaves g c)
+
+pub returns-clause-woken : goal.returns-clause-woken
+returns-clause-woken g c =
+    let woken = woken_by c.poll.result c.poll.new.g.cx.now c.poll.new.g.ground.now c.poll.ensures.task in
+    search (rules, woken)
 
 pub returns-clause-bounded : goal.returns-clause-bounded
 returns-clause-bounded g c = poll_few (returns-clause-run g c)

@@ -1,7 +1,8 @@
 -- Proofs of the goals that `recv` of `Receiver` leaves.
-use Rattle.std.proofs.Common.{ap}
+use Rattle.std.proofs.Common.{refl, ap, rules}
 use Rattle.oneshot_ends.proofs.EndViews.{same_steps}
 use Rattle.oneshot_ends.proofs.GrewByRuns.{closed_before}
+use Rattle.oneshot_ends.proofs.Over.{has_received, over_idle}
 use Rattle.oneshot_ends.proofs.OwnWakers.{has_lent}
 use Rattle.oneshot_ends.proofs.receiver.Receiver.recv.Goals as goal
 
@@ -14,3 +15,8 @@ pub returns-clause-stays_closed : goal.returns-clause-stays_closed
 returns-clause-stays_closed g c closed =
     c.recv-result.ensures.stays
     (closed_before _ (ap (λ r. r.now) c.lend-lent.ensures.ground) (same_steps c.self.view_is) closed)
+
+pub let_go-requires : goal.let_go-requires
+let_go-requires g c =
+    let idle = over_idle (has_received c.recv-result.new.g.ground.now refl c.recv-result.ensures.found) in
+    search (rules, idle)

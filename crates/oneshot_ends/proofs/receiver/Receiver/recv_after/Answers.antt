@@ -25,9 +25,9 @@ invariant_of-self g c =
       ready = ready_timed c.recv_timeout.result c.self.inside.hand c.recv_timeout.new.hand _ _
           (hand_lent c.self.inside.hand (ap (λ r. r.now) c.lend-lent.ensures.ground) c.self.invariant.ready)
           c.recv_timeout.ensures.stays c.recv_timeout.ensures.leaves c.recv_timeout.ensures.hand;
-      calls = one_answered (RecvTimeout c.has_end.result) refl c.self.invariant.calls
+      calls = one_answered (RecvTimeout c.has_end-has_end.result) refl c.self.invariant.calls
           (grew_by (ap (λ r. r.now) c.lend-lent.ensures.ground) refl c.recv_timeout.new.g.ground.now
-          (RecvTimeout c.has_end.result) c.recv_timeout.ensures.run);
+          (RecvTimeout c.has_end-has_end.result) c.recv_timeout.ensures.run);
       halves = c.recv_timeout.ensures.has.0;
       half = c.recv_timeout.ensures.has.1;
       took = c.recv_timeout.ensures.keeps.taken.found
@@ -37,11 +37,12 @@ invariant_of-self g c =
 pub returns-clause-run : goal.returns-clause-run
 returns-clause-run g c =
     record {
-      has_end = c.has_end.result;
-      held = subst (λ ends. IsTrue ends ↔ HasEnd c.args.timeout c.args.reading) (sym c.has_end.ensures)
-          (ends_where_held c.args.timeout c.args.reading c.after-deadline.result c.after-deadline.ensures);
+      has_end = c.has_end-has_end.result;
+      held = subst (λ ends. IsTrue ends ↔ HasEnd c.args.timeout c.args.reading.instant) (sym c.has_end-has_end.ensures)
+          (ends_where_held c.args.timeout c.args.reading.instant c.after-patience.result.deadline
+          c.after-patience.ensures.deadline);
       grew = grew_by (ap (λ r. r.now) c.lend-lent.ensures.ground) (same_steps c.self.view_is)
-          c.recv_timeout.new.g.ground.now (RecvTimeout c.has_end.result) c.recv_timeout.ensures.run;
+          c.recv_timeout.new.g.ground.now (RecvTimeout c.has_end-has_end.result) c.recv_timeout.ensures.run;
     }
 
 pub returns-clause-leaves : goal.returns-clause-leaves

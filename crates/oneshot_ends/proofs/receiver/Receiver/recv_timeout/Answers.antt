@@ -4,7 +4,11 @@ use Rattle.oneshot_ends.proofs.receiver.Receiver.recv_timeout.Goals as goal
 
 pub returns-clause-run : goal.returns-clause-run
 returns-clause-run g c =
-    record { reading = c.read-reading.result; readable = c.read-reading.ensures; ran = c.recv_after.ensures.run }
+    record {
+      reading = c.read-reading.result.instant;
+      readable = c.read-reading.ensures;
+      ran = c.recv_after.ensures.run;
+    }
 
 pub returns-clause-closes : goal.returns-clause-closes
 returns-clause-closes g c = closed_in_time c.recv_after.ensures.leaves

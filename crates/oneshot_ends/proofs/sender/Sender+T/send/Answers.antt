@@ -1,7 +1,7 @@
 -- Proofs of the goals that `send` of `Sender` leaves.
 use Rattle.std.proofs.Common.{refl, sym, subst}
 use Rattle.oneshot_machine.specs.Phases.{sender_at}
-use Rattle.oneshot_drive.specs.BetweenCalls.{IsLate}
+use Rattle.oneshot_machine.specs.Over.{IsLate}
 use Rattle.oneshot_ends.proofs.CallsAnswered.{was_refused}
 use Rattle.oneshot_ends.proofs.EndViews.{sent_steps}
 use Rattle.oneshot_ends.proofs.GrewByRuns.{words_of, send_refused}

@@ -10,3 +10,6 @@ trade_waker-requires-clause-handed g c = claims_none
 pub returns-clause-handed : goal.returns-clause-handed
 returns-clause-handed g c =
     claims_so c.trade_waker.ensures.taken (sym (waker_reads c.trade_waker.ensures.was) ∙ c.into_waker.ensures)
+
+pub into_waker-requires : goal.into_waker-requires
+into_waker-requires g c = (c.requires.0, waker_reads c.trade_waker.ensures.was ∙ c.requires.1)

@@ -3,6 +3,7 @@ use Rattle.std.proofs.Common.{refl, [], ◌∷◌}
 use Rattle.oneshot_machine.specs.declared.states.Op.TheVariants.{Exchange}
 use Rattle.oneshot_ends.proofs.LentGrounds.{polling_keeps}
 use Rattle.oneshot_ends.proofs.PollingTokens.{told, token_can, token_found}
+use Rattle.oneshot_ends.proofs.TaskWakers.{has_polled}
 use Rattle.oneshot_ends.proofs.ground.task.PollingChannelReceiverReceiverGroundCopied.exchange.Goals as goal
 
 pub exchange-requires : goal.exchange-requires
@@ -19,3 +20,8 @@ returns-clause-finds g c =
 
 pub returns-clause-keeps : goal.returns-clause-keeps
 returns-clause-keeps g c = polling_keeps c.exchange.ensures.keeps
+
+pub returns-clause-has : goal.returns-clause-has
+returns-clause-has g c =
+    λ hand has.
+    has_polled c.args.self.now.cx.now c.args.self.now.copies.now hand c.exchange.ensures.keeps has

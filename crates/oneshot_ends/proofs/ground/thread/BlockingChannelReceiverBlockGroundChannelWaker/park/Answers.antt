@@ -1,26 +1,24 @@
 -- Proofs of the goals that `park` of `Blocking` as a `BlockGround` leaves.
-use Rattle.std.proofs.Common.{ap, ◌∙◌}
+use Rattle.std.proofs.Common.{◌≡◌, false, true, sym, ap, ◌∙◌}
 use Rattle.oneshot_ends.specs.Tokens.{ParkingView}
-use Rattle.std.proofs.lemmas.Bool.{or_right}
 use Rattle.oneshot_ends.proofs.OwnWakers.{parked}
 use Rattle.oneshot_ends.proofs.ground.thread.BlockingChannelReceiverBlockGroundChannelWaker.park.Goals as goal
 
 pub returns-then-not-timed-clause-keeps : goal.returns-then-not-timed-clause-keeps
 returns-then-not-timed-clause-keeps g c =
     let takes = c.park.ensures.takes in
-    parked c.args.self.now.ground.now (λ has slept. ap (λ (p : ParkingView). p.taken) takes)
-    (ap (λ (p : ParkingView). p.parker) takes)
+    parked c.args.self.now.ground.now (c.spins.ensures.rests c.if-spins.false)
+    (λ _. ap (λ (p : ParkingView). p.taken) takes) (ap (λ (p : ParkingView). p.parker) takes)
 
 pub returns-in-Never-clause-keeps : goal.returns-in-Never-clause-keeps
 returns-in-Never-clause-keeps g c =
     let takes = c.park-in-Never.ensures.takes in
-    parked c.args.self.now.ground.now (λ has slept. ap (λ (p : ParkingView). p.taken) takes)
-    (ap (λ (p : ParkingView). p.parker) takes)
+    parked c.args.self.now.ground.now (c.spins.ensures.rests c.if-spins.false)
+    (λ _. ap (λ (p : ParkingView). p.taken) takes) (ap (λ (p : ParkingView). p.parker) takes)
 
 pub returns-in-At-clause-keeps : goal.returns-in-At-clause-keeps
 returns-in-At-clause-keeps g c =
     let takes = c.park_until-in_time.ensures.takes in
-    parked c.args.self.now.ground.now
-    (λ has slept. ap (λ (p : ParkingView). p.taken) takes
-    ∙ or_right c.park_until-in_time.result c.args.self.now.parker.now.taken (has slept))
+    parked c.args.self.now.ground.now (c.spins.ensures.rests c.if-spins.false)
+    (λ took. let e : false ≡ true = sym c.if-has_taken.false ∙ c.has_taken.ensures ∙ took in absurd (cc e))
     (ap (λ (p : ParkingView). p.parker) takes)
