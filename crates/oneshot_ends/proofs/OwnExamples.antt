@@ -124,6 +124,7 @@ uses_that_are =
       stopped_in_time = refl;
       is_new = refl;
       gives_its_own = gives_its_own;
+      has_given_its_own = λ s half logs slot gave. (gives_its_own s half logs slot gave, tt);
       ended = λ s half given logs took is same.
           record {
             over = subst (SenderIsOver sending) (sym (shows_phase s logs)) over_finished;
@@ -188,6 +189,7 @@ uses_that_are_not =
           let woken = used (shows_waiting s logs) in let e = sym none ∙ woken.1.0 in absurd (cc e);
       a_task = λ parker own. own;
       of_another = λ parker half other own. other own;
+      has_a_task = λ s parker has. has.1;
       left_a_task = λ s parker logs gave owned.
           same_put (IsHalfOf parker) (owned.gave (ap (λ xs. is_waiting (receiver_at xs)) logs)) gave;
       a_thread_is_no_task = λ cx half its. its;

@@ -1,13 +1,21 @@
 -- The examples of receives that wait, computed.
-use Rattle.std.proofs.Common.{◌≡◌, None, true, false, refl, ap, arith}
+use Rattle.std.proofs.Common.{◌≡◌, Option, Some, None, true, false, refl, ap, arith}
 use Rattle.oneshot_ends.specs.declared.patience.Patience.{Patience}
 use Rattle.oneshot_ends.specs.Tokens.{ParkingView}
 use Rattle.oneshot_ends.specs.declared.deadline.Deadline.TheVariants.{Never}
-use Rattle.oneshot_ends.specs.Patience.{MaySpin}
+use Rattle.oneshot_ends.specs.declared.deadline.NextReading.{NextReading}
+use Rattle.oneshot_ends.specs.declared.deadline.NextReading.TheVariants.{Due, Taken}
+use Rattle.oneshot_ends.specs.declared.deadline.Reading.{Reading}
+use Rattle.oneshot_ends.specs.Patience.{MaySpin, instant_of}
 use Rattle.oneshot_ends.specs.PatienceExamples.{in_time, WaitsThatAre, WaitsThatAreNot}
 
 took_of : {half next : ParkingView} → half ≡ next → half.taken ≡ next.taken
 took_of e = ap (λ (half : ParkingView). half.taken) e
+
+-- the reading that a receive has taken
+abbrev reading_of : NextReading → Option Reading
+reading_of (Taken reading) = Some reading
+reading_of Due = None
 
 pub waits_that_are : WaitsThatAre
 waits_that_are =
@@ -40,14 +48,40 @@ waits_that_are =
           };
       reads_in_time = λ end now e.
           record {
+            first = λ reading taken. absurd (cc taken);
+            due = refl;
             told = (λ over. absurd (cc), λ past. absurd (omega arith));
             deadline = refl;
             spins = refl;
             late = refl;
           };
       reads_past_it = λ end now e.
-          record { told = (λ _. e, λ _. refl); deadline = refl; spins = refl; late = refl };
-      reads_nothing = λ end. record { told = (λ _. tt, λ _. refl); deadline = refl; spins = refl; late = refl };
+          record {
+            first = λ reading taken. absurd (cc taken);
+            due = refl;
+            told = (λ _. e, λ _. refl);
+            deadline = refl;
+            spins = refl;
+            late = refl;
+          };
+      uses_its_reading = λ end now e.
+          record {
+            first = λ reading taken. ap reading_of taken;
+            due = refl;
+            told = (λ over. absurd (cc), λ past. absurd (omega arith));
+            deadline = refl;
+            spins = refl;
+            late = refl;
+          };
+      reads_nothing = λ end.
+          record {
+            first = λ reading taken. absurd (cc taken);
+            due = refl;
+            told = (λ _. tt, λ _. refl);
+            deadline = refl;
+            spins = refl;
+            late = refl;
+          };
     }
 
 pub waits_that_are_not : WaitsThatAreNot
@@ -67,6 +101,8 @@ waits_that_are_not =
           let e = took_of (parked.sleeps (λ may. let few = may.0 in omega arith) refl) in cc e;
       gives_it_back = λ parker deadline parked.
           let e = took_of (parked.returns (λ may. let few = may.0 in omega arith) refl) in cc e;
+      reads_another = λ end now over reads. let e = ap instant_of (reads.first (record { instant = Some now }) refl) in cc e;
+      uses_it_twice = λ end now over reads. let e = reads.due in cc e;
       over_at_once = λ end now e reads. let past = reads.told.0 refl in omega arith;
       never_over = λ end now e reads. let over : false ≡ true = reads.told.1 e in cc over;
       unread = λ end reads. reads.told;

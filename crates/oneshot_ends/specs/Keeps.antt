@@ -111,7 +111,8 @@ module _ {T P : Type 0} where
 
   -- what a call that blocks has, it has after such a step, and a waker that it takes back is its own
   abbrev pub has_lent_on : {a b : Side T RealWaker P} {p q : Patience} {half next : ParkingView}
-      (hand : Option RealWaker) → KeepsLent a b p q half next → BlockHas half.parker a hand → BlockHas next.parker b hand
+      (hand : Option RealWaker) → KeepsLent a b p q half next → BlockHas half.parker a hand
+      → BlockHas next.parker b hand
   has_lent_on hand k h = (k.halves h.0, subst (λ parker. IfSome hand (IsHalfOf parker)) (sym k.parker) h.1)
 
   abbrev pub has_lent_back : {a b : Side T RealWaker P} {p q : Patience} {half next : ParkingView}

@@ -24,7 +24,7 @@ use Rattle.oneshot_ends.specs.Ends.{FutureEndOf, WillBeWoken, registered_by}
 use Rattle.oneshot_ends.specs.Keeps.{KeepsOwn, KeepsLent, KeepsPolled}
 use Rattle.oneshot_ends.specs.Moments.{AtOneMoment}
 use Rattle.oneshot_ends.specs.NoLostWakeup.{SleepsOn, ParkerAt, HasGivenTokenOf, HasTokenThere, HasUsed, HasUsedWakerOf}
-use Rattle.oneshot_ends.specs.OwnWakers.{RealWaker, IsTaskOf, WaitsForTask, IsHalfOf, IsNoThread, WaitsByNoThread, WaitsByHalvesOf, is_waiting}
+use Rattle.oneshot_ends.specs.OwnWakers.{RealWaker, IsTaskOf, WaitsForTask, IsHalfOf, IsNoThread, WaitsByNoThread, WaitsByHalvesOf, BlockHas, is_waiting}
 use Rattle.oneshot_ends.specs.declared.patience.Patience.{Patience}
 use Rattle.oneshot_ends.specs.PatienceExamples.{in_time, half_of}
 use Rattle.oneshot_ends.specs.Tokens.{ParkingView}
@@ -88,6 +88,8 @@ pub record UsesThatAre : Type 0 where
   pub is_new : is_waiting (receiver_at []) ≡ false
   pub gives_its_own : (s : Side ⊤ (AnyWaker WakingHalf ℕ) ⊤) (half : WakingHalf) → s.log ≡ blocks → s.waker ≡ away
       → s.handed ≡ Some (Thread half) → WaitsByHalvesOf half.pass.table_id s
+  pub has_given_its_own : (s : Side ⊤ (AnyWaker WakingHalf ℕ) ⊤) (half : WakingHalf) → s.log ≡ blocks
+      → s.waker ≡ away → s.handed ≡ Some (Thread half) → BlockHas half.pass.table_id s None
   pub ended : (s : Sending ⊤ (AnyWaker WakingHalf ℕ) ⊤) (half : WakingHalf) (given : Given) → s.side.log ≡ sent_to_it
       → s.side.handed ≡ Some (Thread half) → s.given ≡ Some given → IsSamePass half.pass given.pass
       → HasEnded sending s
@@ -128,6 +130,7 @@ pub record UsesThatAreNot : Type 0 where
   pub a_task : (parker : TableId) → IsHalfOf {K = ℕ} parker (Task 5) → ⊥
   pub of_another : (parker : TableId) (half : WakingHalf) → (half.pass.table_id ≡ parker → ⊥)
       → IsHalfOf {K = ℕ} parker (Thread half) → ⊥
+  pub has_a_task : (s : Side ⊤ (AnyWaker WakingHalf ℕ) ⊤) (parker : TableId) → BlockHas parker s (Some (Task 5)) → ⊥
   pub left_a_task : (s : Side ⊤ (AnyWaker WakingHalf ℕ) ⊤) (parker : TableId) → s.log ≡ blocks
       → s.handed ≡ Some (Task 5) → WaitsByHalvesOf parker s → ⊥
   -- a future that gave a thread's waker, or a copy for another task, and a poll that left its task without either

@@ -3,6 +3,7 @@ use Rattle.std.specs.Prelude.{◌≡◌, ◌↔◌, ℕ, ◌+◌, ◌<◌, max, 
 use Rattle.std.specs.declared.time.Instant.{Instant}
 use Rattle.oneshot_ends.specs.declared.deadline.Deadline.{Deadline}
 use Rattle.oneshot_ends.specs.declared.deadline.NextReading.{NextReading}
+use Rattle.oneshot_ends.specs.declared.deadline.NextReading.TheVariants.{Due, Taken}
 use Rattle.oneshot_ends.specs.declared.deadline.Reading.{Reading}
 use Rattle.oneshot_ends.specs.declared.patience.Patience.{Patience}
 use Rattle.oneshot_ends.specs.Deadlines.{IsFar, IsOver}
@@ -12,9 +13,11 @@ use Rattle.oneshot_ends.specs.Tokens.{ParkingView}
 abbrev pub waits_until : Deadline → NextReading → Patience
 waits_until deadline next = record { deadline = deadline; next = next; reading = None; spins = 0; late = false }
 
--- The clock was read, and the deadline is over or not by that reading. Once it is over, 17 spins are left, or those
--- that were left before.
+-- The clock was read, or the reading that the call took for its deadline is used once; the deadline is over or not by
+-- that reading. Once it is over, 17 spins are left, or those that were left before.
 pub record Reads (over : Bool) (before after : Patience) : Type 0 where
+  pub first : (reading : Reading) → before.next ≡ Taken reading → after.reading ≡ Some reading
+  pub due : after.next ≡ Due
   pub told : IsSomeAnd after.reading (λ reading. IsTrue over ↔ IsOver before.deadline reading.instant)
   pub deadline : after.deadline ≡ before.deadline
   pub spins : after.spins ≡ (if over then max before.spins 17 else before.spins)

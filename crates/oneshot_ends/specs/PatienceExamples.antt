@@ -5,7 +5,7 @@ use Rattle.std.specs.Time.{instant_nanos}
 use Rattle.atomic_table.specs.Seated.{TableId}
 use Rattle.oneshot_ends.specs.declared.deadline.Deadline.{Deadline}
 use Rattle.oneshot_ends.specs.declared.deadline.Deadline.TheVariants.{At, Passed, Never}
-use Rattle.oneshot_ends.specs.declared.deadline.NextReading.TheVariants.{Due}
+use Rattle.oneshot_ends.specs.declared.deadline.NextReading.TheVariants.{Due, Taken}
 use Rattle.oneshot_ends.specs.declared.deadline.Reading.{Reading}
 use Rattle.oneshot_ends.specs.declared.patience.Patience.{Patience}
 use Rattle.oneshot_ends.specs.Patience.{MaySpin, Parked, Reads, waits_until}
@@ -26,6 +26,10 @@ read now = Some (record { instant = Some now })
 abbrev pub failed : Option Reading
 failed = Some (record { instant = None })
 
+-- a receive that took this reading for its deadline, and has checked nothing yet
+abbrev pub has_taken : Instant → Instant → Patience
+has_taken end now = waits_until (At end) (Taken (record { instant = Some now }))
+
 -- a half of this parker, which has taken its token or not
 abbrev pub half_of : TableId → Bool → ParkingView
 half_of parker taken = record { taken = taken; parker = parker }
@@ -45,6 +49,8 @@ pub record WaitsThatAre : Type 0 where
       → Reads false (in_time (At end) None 3) (in_time (At end) (read now) 3)
   pub reads_past_it : (end now : Instant) → instant_nanos end < instant_nanos now
       → Reads true (in_time (At end) None 3) (past_it (At end) (read now) 17)
+  pub uses_its_reading : (end now : Instant) → instant_nanos now ≤ instant_nanos end
+      → Reads false (has_taken end now) (in_time (At end) (read now) 0)
   pub reads_nothing : (end : Instant) → Reads true (in_time (At end) None 17) (past_it (At end) failed 17)
 
 pub record WaitsThatAreNot : Type 0 where
@@ -66,6 +72,10 @@ pub record WaitsThatAreNot : Type 0 where
   pub gives_it_back : (parker : TableId) (deadline : Deadline)
       → Parked true (in_time deadline None 17) (in_time deadline None 17) (half_of parker true) (half_of parker false)
       → ⊥
+  -- a first check that reads the clock again, and one whose reading is used twice
+  pub reads_another : (end now : Instant) (over : Bool) → Reads over (has_taken end now) (in_time (At end) failed 0) → ⊥
+  pub uses_it_twice : (end now : Instant) (over : Bool)
+      → Reads over (has_taken end now) (record (has_taken end now) { reading = read now }) → ⊥
   -- a reading that is over too early, or never, that is none, or that leaves its spins
   pub over_at_once : (end now : Instant) → instant_nanos now ≤ instant_nanos end
       → Reads true (in_time (At end) None 17) (past_it (At end) (read now) 17) → ⊥

@@ -37,8 +37,13 @@ pub(crate) enum NextReading {
 }
 
 impl NextReading {
+    ghost use Rattle.oneshot_ends.specs.declared.deadline.NextReading.TheVariants.{Due, Taken};
+
     /// Returns the reading. The one after it is due.
-    pub(crate) fn take(&mut self, clock: &impl Clock) -> Reading {
+    pub(crate) fn take(&mut self, clock: &impl Clock) -> Reading
+        ensures taken { (reading : Reading) → self.old ≡ Taken reading → result ≡ reading }
+        ensures due { self.new ≡ Due }
+    {
         let reading = match *self {
             NextReading::Taken(reading) => reading,
             NextReading::Due => read(clock),

@@ -124,6 +124,7 @@ pub(crate) fn parker(alloc: Global) -> Result<(ParkingHalf, WakingHalf), AllocEr
 
 impl ParkingHalf {
     ghost use Rattle.oneshot_machine.specs.Phases.{receiver_at};
+    ghost use Rattle.oneshot_ends.specs.NoLostWakeup.{SleepsOn};
     ghost use Rattle.oneshot_ends.specs.OwnWakers.{is_waiting};
 
     /// Releases the half's share of the parker. Its receiver does not wait.
@@ -145,20 +146,28 @@ impl ParkingHalf {
         self.has_taken
     }
 
-    /// Blocks until the token is there, and takes it, which it has not before.
-    pub(crate) fn park<R: Wait>(&mut self, rt: &R)
-        requires { self.old.taken ≡ false }
+    /// Blocks until the token is there, and takes it. The receiver sleeps as `no_wakeup_is_lost` assumes.
+    pub(crate) fn park<R: Wait, T, P: Promise<T>>(&mut self, rt: &R, receiver: &ChannelReceiver<T, P>)
+        requires { SleepsOn self.old receiver.now }
         ensures takes { self.new ≡ record self.old { taken = true } }
     {
+        let _ground = receiver;
         self.parker.park_as::<Takes, R>(rt, &mut self.pass);
         self.has_taken = true;
     }
 
-    /// Blocks until the token is there, and takes it, or until `deadline`. Returns whether it took the token.
-    pub(crate) fn park_until<R: Wait + Clock>(&mut self, rt: &R, deadline: Instant) -> bool
-        requires { self.old.taken ≡ false }
+    /// Blocks until the token is there, and takes it, or until `deadline`. Returns whether it took the token. The
+    /// receiver sleeps as `no_wakeup_is_lost` assumes.
+    pub(crate) fn park_until<R: Wait + Clock, T, P: Promise<T>>(
+        &mut self,
+        rt: &R,
+        deadline: Instant,
+        receiver: &ChannelReceiver<T, P>,
+    ) -> bool
+        requires { SleepsOn self.old receiver.now }
         ensures takes { self.new ≡ record self.old { taken = result } }
     {
+        let _ground = receiver;
         let in_time = self
             .parker
             .park_deadline_as::<Takes, R>(rt, &mut self.pass, deadline);

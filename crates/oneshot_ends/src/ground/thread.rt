@@ -128,14 +128,14 @@ impl<'g, 'p, 'r, T, Rt: Wait + Clock, P: Promise<T>> BlockGround<T, ChannelWaker
             return;
         }
         if !timed {
-            return self.parker.park(self.rt);
+            return self.parker.park(self.rt, self.ground);
         }
         match self.patience.deadline() {
             Deadline::At(end) => {
-                let _in_time = self.parker.park_until(self.rt, end);
+                let _in_time = self.parker.park_until(self.rt, end, self.ground);
             },
             Deadline::Passed => {}
-            Deadline::Never => self.parker.park(self.rt),
+            Deadline::Never => self.parker.park(self.rt, self.ground),
         }
     }
 
