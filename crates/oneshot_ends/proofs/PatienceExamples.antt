@@ -101,7 +101,8 @@ waits_that_are_not =
           let e = took_of (parked.sleeps (λ may. let few = may.0 in omega arith) refl) in cc e;
       gives_it_back = λ parker deadline parked.
           let e = took_of (parked.returns (λ may. let few = may.0 in omega arith) refl) in cc e;
-      reads_another = λ end now over reads. let e = ap instant_of (reads.first (record { instant = Some now }) refl) in cc e;
+      reads_another = λ end now over reads.
+          let e = ap instant_of (reads.first (record { instant = Some now }) refl) in cc e;
       uses_it_twice = λ end now over reads. let e = reads.due in cc e;
       over_at_once = λ end now e reads. let past = reads.told.0 refl in omega arith;
       never_over = λ end now e reads. let over : false ≡ true = reads.told.1 e in cc over;

@@ -147,7 +147,11 @@ impl ParkingHalf {
     }
 
     /// Blocks until the token is there, and takes it. The receiver sleeps as `no_wakeup_is_lost` assumes.
-    pub(crate) fn park<R: Wait, T, P: Promise<T>>(&mut self, rt: &R, receiver: &ChannelReceiver<T, P>)
+    pub(crate) fn park<R: Wait, T, P: Promise<T>>(
+        &mut self,
+        rt: &R,
+        receiver: &ChannelReceiver<T, P>,
+    )
         requires { SleepsOn self.old receiver.now }
         ensures takes { self.new ≡ record self.old { taken = true } }
     {
