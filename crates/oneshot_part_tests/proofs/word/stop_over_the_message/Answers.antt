@@ -37,5 +37,5 @@ pub returns : goal.returns
 returns g c =
     let it = stops (stops_only c.requires) c.swap-found.ensures (search rules) in
     let over = closed_at c.store-found.new.self
-      (receiver_went (Store DISCONNECTED) EMPTY it.1 c.store-found.ensures (search rules)) in
+    (receiver_went (Store DISCONNECTED) EMPTY it.1 c.store-found.ensures (search rules)) in
     search (rules, over)
