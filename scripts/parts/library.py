@@ -1,0 +1,172 @@
+"""A copy of this library in a temporary folder, and calls of its scripts that add it to another folder there."""
+import collections
+import hashlib
+import os
+import pathlib
+import shutil
+import subprocess
+import sys
+import tempfile
+
+from parts.compare import none_of
+from parts.sources import CRATES
+
+TOP = CRATES.parent
+CALLED = ("add-to", "release", "parts/copies.py", "parts/names.py", "parts/places.py", "parts/sources.py")
+FILES = ("crates.txt", "HANDLES", "LICENSE-APACHE", "LICENSE-MIT", "CHANGELOG.md")
+VERSION = "0.2.0"
+Ran = collections.namedtuple("Ran", "status output errors")
+
+# Runs a script up to its Nth write below a folder, which ends it as a loss of power does, or fails with this error.
+STOPPED = """
+import os, runpy, sys
+left, error, folder, script = int(sys.argv[1]), int(sys.argv[2]), sys.argv[3], sys.argv[4]
+def stop(event, given):
+    global left
+    writes = event in ("os.mkdir", "os.rename", "os.remove", "os.rmdir") or event == "open" and given[2] & 3
+    if writes and str(given[0]).startswith(folder):
+        left -= 1
+        if left < 0 and not error:
+            os._exit(9)
+        if left < 0:
+            raise OSError(error, os.strerror(error), str(given[0]))
+sys.argv = sys.argv[4:]
+sys.path.insert(0, os.path.dirname(script))
+sys.addaudithook(stop)
+runpy.run_path(script, run_name="__main__")
+"""
+
+
+class Compared:
+    """What was compared, and what differed."""
+
+    def __init__(self):
+        self.count, self.wrong = 0, []
+
+    def same(self, what, found, expected):
+        self.count += 1
+        if found != expected:
+            self.wrong.append(f"{what}: {str(found)[:300]}, in place of {str(expected)[:300]}")
+
+    def says(self, what, text, words):
+        self.count += 1
+        if words not in text:
+            self.wrong.append(f"{what}: it does not say: {words}\n{text[:300]}")
+
+    def same_files(self, what, found, expected):
+        for name in sorted({*found, *expected}):
+            self.same(f"{what}: {name}", found.get(name, "not there"), expected.get(name, "not there"))
+
+    def refused(self, what, ran, words):
+        """It ended with status 2 and one sentence that has these words, and not with an error's number or a trace."""
+        self.same(f"{what}: status", ran.status, 2)
+        self.says(what, ran.errors, words)
+        self.same(f"{what}: lines of errors", [len(ran.errors.splitlines()), "Errno" in ran.errors], [1, False])
+
+    def told(self, what, least):
+        """How many things were compared, of which at least so many have to be."""
+        none_of(self.wrong)
+        none_of([f"{what}: {self.count} compared, fewer than {least}"] if self.count < least else [])
+        return f"{what}: {self.count} compared"
+
+
+def files_in(folder):
+    """The files and links in a folder, by their names from there on."""
+    names = [pathlib.Path(at, name) for at, folders, files in os.walk(folder) for name in [*files, *folders]]
+    return {name.relative_to(folder).as_posix(): f"a link to {os.readlink(name)}" if name.is_symlink()
+            else name.read_bytes() for name in names if name.is_symlink() or name.is_file()}
+
+
+def brought_by(crate):
+    """The crates that a call for this one has to bring."""
+    lines = (TOP / "scripts" / "parts" / "added.txt").read_text().splitlines()
+    return next(line.split(": ")[1].split(" ") for line in lines if line.startswith(f"{crate}: "))
+
+
+class Library:
+    """A copy of this library: whole, or `small`, with one source file a crate. Nothing is proved of it, but some crates
+    have a folder out/ as if it were."""
+
+    def __init__(self, small=True):
+        self.room = tempfile.TemporaryDirectory()
+        self.top, self.mine = pathlib.Path(self.room.name, "library"), pathlib.Path(self.room.name, "mine")
+        for name in CALLED:
+            # As text, so that a difference that is planted in it is in the copy.
+            self.put(f"scripts/{name}", (TOP / "scripts" / name).read_text())
+        for name in ("add-to", "release"):
+            (self.top / "scripts" / name).chmod(0o755)
+        for name in FILES:
+            self.put(name, (TOP / name).read_text())
+        for crate in [*brought_by("oneshot"), "hello"]:
+            self.copy_crate(crate, small)
+        self.put("crates/oneshot_machine/out/rlib/stamp", "proved")
+        self.put("crates/oneshot_machine/out/incremental/a/b.oantt", "kept")
+        self.put("bin/rt", "#!/bin/sh\necho \"rt $* in $(basename \"$PWD\")\" >> \"$ASKED\"\nexit \"$RT_STATUS\"\n")
+        (self.top / "bin" / "rt").chmod(0o755)
+
+    def __enter__(self):
+        return self
+
+    def __exit__(self, *_):
+        self.room.cleanup()
+
+    def put(self, name, text):
+        (self.top / name).parent.mkdir(parents=True, exist_ok=True)
+        (self.top / name).write_text(text)
+
+    def copy_crate(self, crate, small):
+        if small:
+            root = "main.rt" if (CRATES / crate / "src" / "main.rt").exists() else "lib.rt"
+            self.put(f"crates/{crate}/src/{root}", (CRATES / crate / "src" / root).read_text())
+            self.put(f"crates/{crate}/must-fail/first.edit", "left out")
+        else:
+            shutil.copytree(CRATES / crate, self.top / "crates" / crate, ignore=shutil.ignore_patterns("out"))
+
+    def call(self, script, *words, before=(), toolchain=None):
+        """Calls a script; with `toolchain`, a status, a stand-in for `rt` that ends with it and tells of its calls."""
+        environment = {**os.environ, "ASKED": f"{self.room.name}/asked", "RT_STATUS": str(toolchain)}
+        if toolchain is not None:
+            environment["PATH"] = f"{self.top}/bin:{os.environ['PATH']}"
+        called = [*before, str(self.top / "scripts" / script), *map(str, words)]
+        ran = subprocess.run(called, capture_output=True, text=True, env=environment, cwd=self.room.name,
+                             stdin=subprocess.DEVNULL)
+        return Ran(ran.returncode, ran.stdout, ran.stderr)
+
+    def add(self, *words, **options):
+        return self.call("add-to", self.mine, *words, toolchain=options.pop("toolchain", 0), **options)
+
+    def add_up_to(self, writes, *words, error=0):
+        """Adds to the folder up to so many writes, and is stopped there, or meets this error."""
+        before = [sys.executable, "-c", STOPPED, str(writes), str(error), str(self.mine)]
+        return self.add(*words, before=before)
+
+    def lines_of(self, names):
+        lines = (self.top / "crates.txt").read_text().splitlines()
+        return [line for line in lines for name in names if line.startswith((f"{name}:", f"{name} "))]
+
+    def files_of(self, names):
+        """The files of these crates but the must-fail edits, by their names from the top on."""
+        found = {f"crates/{name}/{file}": text for name in names
+                 for file, text in files_in(self.top / "crates" / name).items()}
+        return {name: text for name, text in found.items() if "/must-fail/" not in name}
+
+    def expected(self, crate, program=None):
+        """All files that have to be there after a call for a crate, and a program."""
+        names = brought_by(crate)
+        found, lines = self.files_of(names), self.lines_of(names)
+        for name in ("LICENSE-APACHE", "LICENSE-MIT"):
+            found[f"hekotumi/{name}"] = (self.top / name).read_bytes()
+        found["hekotumi/files.txt"] = self.record_of(found, lines)
+        found[".gitignore"] = b"crates/*/out/\n"
+        found["HANDLES"] = b"Handles allowed: Threads, Wait.\n"
+        if program:
+            found[f"crates/{program}/src/main.rt"] = (self.top / "crates" / "hello" / "src" / "main.rt").read_bytes()
+            lines.append(f"{program} may_wait=1: oneshot_channel")
+        found["crates.txt"] = "".join(f"{line}\n" for line in lines).encode()
+        return found
+
+    def record_of(self, files, lines):
+        sums = {name: text for name, text in files.items() if "/out/" not in name}
+        sums |= {f"crates.txt:{line.replace(':', ' ').split(' ')[0]}": line.encode() for line in lines}
+        told = [f"{hashlib.sha256(sums[name]).hexdigest()}  {name}\n" for name in sorted(sums)]
+        return f"Hekotumi {VERSION}, of no commit\n{''.join(told)}".encode()
