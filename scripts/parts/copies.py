@@ -186,9 +186,10 @@ class Copies:
     def copy_proofs(self, crate):
         """Copies what is proved of a crate, so that it is not proved again."""
         source, there = self.top / "crates" / crate / "out", self.folder / "crates" / crate / "out"
-        for old in there.iterdir():
-            shutil.rmtree(old) if old.is_dir() and not old.is_symlink() else old.unlink()
-        shutil.copytree(source, there / "part", symlinks=True)
+        for old in [*there.iterdir(), *(there / "part").iterdir()]:
+            if old != there / "part":
+                shutil.rmtree(old) if old.is_dir() and not old.is_symlink() else old.unlink()
+        shutil.copytree(source, there / "part", symlinks=True, dirs_exist_ok=True)
         for new in (there / "part").iterdir():
             new.rename(there / new.name)
         (there / "part").rmdir()

@@ -3,21 +3,22 @@ import collections
 import hashlib
 import os
 import pathlib
+import re
 import shutil
 import subprocess
 import sys
 import tempfile
 
-from parts.compare import none_of
+from parts.compare import Differs, none_of
 from parts.sources import CRATES
 
 TOP = CRATES.parent
 CALLED = ("add-to", "release", "parts/copies.py", "parts/names.py", "parts/places.py", "parts/sources.py")
 FILES = ("crates.txt", "HANDLES", "LICENSE-APACHE", "LICENSE-MIT", "CHANGELOG.md")
-VERSION = "0.2.0"
 Ran = collections.namedtuple("Ran", "status output errors")
 
-# Runs a script up to its Nth write below a folder, which ends it as a loss of power does, or fails with this error.
+# Runs a script up to its Nth write below a folder. There it is killed, in the middle of the file that it writes, or the
+# write fails with this error.
 STOPPED = """
 import os, runpy, sys
 left, error, folder, script = int(sys.argv[1]), int(sys.argv[2]), sys.argv[3], sys.argv[4]
@@ -27,6 +28,9 @@ def stop(event, given):
     if writes and str(given[0]).startswith(folder):
         left -= 1
         if left < 0 and not error:
+            left = 9
+            if event == "open":
+                open(given[0], "w").write("half of it")
             os._exit(9)
         if left < 0:
             raise OSError(error, os.strerror(error), str(given[0]))
@@ -38,24 +42,29 @@ runpy.run_path(script, run_name="__main__")
 
 
 class Compared:
-    """What was compared, and what differed."""
+    """How many things were compared. The first that differs ends the comparison."""
 
     def __init__(self):
-        self.count, self.wrong = 0, []
+        self.count = 0
 
     def same(self, what, found, expected):
         self.count += 1
         if found != expected:
-            self.wrong.append(f"{what}: {str(found)[:300]}, in place of {str(expected)[:300]}")
+            raise Differs(f"{what}: {str(found)[:300]}, in place of {str(expected)[:300]}")
+
+    def works(self, what, ran):
+        self.same(what, [ran.status, ran.errors], [0, ""])
 
     def says(self, what, text, words):
         self.count += 1
         if words not in text:
-            self.wrong.append(f"{what}: it does not say: {words}\n{text[:300]}")
+            raise Differs(f"{what}: it does not say: {words}\n{text[:300]}")
 
     def same_files(self, what, found, expected):
-        for name in sorted({*found, *expected}):
-            self.same(f"{what}: {name}", found.get(name, "not there"), expected.get(name, "not there"))
+        names = sorted({*found, *expected})
+        self.count += len(names)
+        none_of([f"{what}: {name}: {str(found.get(name, 'not there'))[:200]}, in place of "
+                 f"{str(expected.get(name, 'not there'))[:200]}" for name in names if found.get(name) != expected.get(name)])
 
     def refused(self, what, ran, words):
         """It ended with status 2 and one sentence that has these words, and not with an error's number or a trace."""
@@ -65,8 +74,8 @@ class Compared:
 
     def told(self, what, least):
         """How many things were compared, of which at least so many have to be."""
-        none_of(self.wrong)
-        none_of([f"{what}: {self.count} compared, fewer than {least}"] if self.count < least else [])
+        if self.count < least:
+            raise Differs(f"{what}: {self.count} compared, fewer than {least}")
         return f"{what}: {self.count} compared"
 
 
@@ -97,10 +106,12 @@ class Library:
             (self.top / "scripts" / name).chmod(0o755)
         for name in FILES:
             self.put(name, (TOP / name).read_text())
+        self.version = re.search(r"(?m)^## ([0-9.]+)", (TOP / "CHANGELOG.md").read_text())[1]
         for crate in [*brought_by("oneshot"), "hello"]:
             self.copy_crate(crate, small)
         self.put("crates/oneshot_machine/out/rlib/stamp", "proved")
         self.put("crates/oneshot_machine/out/incremental/a/b.oantt", "kept")
+        self.put("crates/oneshot_errors/out/rlib/stamp", "proved")
         self.put("bin/rt", "#!/bin/sh\necho \"rt $* in $(basename \"$PWD\")\" >> \"$ASKED\"\nexit \"$RT_STATUS\"\n")
         (self.top / "bin" / "rt").chmod(0o755)
 
@@ -169,4 +180,4 @@ class Library:
         sums = {name: text for name, text in files.items() if "/out/" not in name}
         sums |= {f"crates.txt:{line.replace(':', ' ').split(' ')[0]}": line.encode() for line in lines}
         told = [f"{hashlib.sha256(sums[name]).hexdigest()}  {name}\n" for name in sorted(sums)]
-        return f"Hekotumi {VERSION}, of no commit\n{''.join(told)}".encode()
+        return f"Hekotumi {self.version}, of no commit\n{''.join(told)}".encode()
