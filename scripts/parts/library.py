@@ -64,7 +64,8 @@ class Compared:
         names = sorted({*found, *expected})
         self.count += len(names)
         none_of([f"{what}: {name}: {str(found.get(name, 'not there'))[:200]}, in place of "
-                 f"{str(expected.get(name, 'not there'))[:200]}" for name in names if found.get(name) != expected.get(name)])
+                 f"{str(expected.get(name, 'not there'))[:200]}"
+                 for name in names if found.get(name) != expected.get(name)])
 
     def refused(self, what, ran, words):
         """It ended with status 2 and one sentence that has these words, and not with an error's number or a trace."""

@@ -29,7 +29,9 @@ def told(error):
     if isinstance(error, shutil.Error):
         source, _, reason = error.args[0][0]
         return f"{source} could not be copied: {re.sub(r'^.Errno [0-9]+. ', '', str(reason))}"
-    place = error.filename2 or error.filename or "a file"
+    place = error.filename2 or error.filename
+    if not place:
+        return REASONS.get(error.errno, str(error))
     return f"{place}: {REASONS.get(error.errno, error.strerror or str(error))}"
 
 
