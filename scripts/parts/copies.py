@@ -51,7 +51,7 @@ class Copies:
         self.list, self.part = folder / "hekotumi" / "files.txt", folder / "hekotumi" / "part"
         self.look_at_places()
         self.known = self.read_record()
-        self.planned = {}
+        self.planned, self.head = {}, f"Hekotumi {version_of(top)}, {commit_of(top)}"
 
     def look_at_places(self):
         look_above(self.folder)
@@ -123,7 +123,7 @@ class Copies:
 
     def record(self, entries, state):
         lines = "".join(f"{total}  {name}\n" for name in sorted(entries) for total in sorted(entries[name]))
-        self.write(self.list, f"Hekotumi {version_of(self.top)}, {commit_of(self.top)}{state}\n{lines}")
+        self.write(self.list, f"{self.head}{state}\n{lines}")
 
     def write(self, file, text):
         """Writes a file as a whole, or not at all."""

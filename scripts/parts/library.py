@@ -4,10 +4,11 @@ import hashlib
 import os
 import pathlib
 import re
+import runpy
 import shutil
-import subprocess
 import sys
 import tempfile
+import traceback
 
 from parts.compare import Differs, none_of
 from parts.sources import CRATES
@@ -15,30 +16,29 @@ from parts.sources import CRATES
 TOP = CRATES.parent
 CALLED = ("add-to", "release", "parts/copies.py", "parts/names.py", "parts/places.py", "parts/sources.py")
 FILES = ("crates.txt", "HANDLES", "LICENSE-APACHE", "LICENSE-MIT", "CHANGELOG.md")
+KILLED = 9
 Ran = collections.namedtuple("Ran", "status output errors")
 
-# Runs a script up to its Nth write below a folder. There it is killed, in the middle of the file that it writes, or the
-# write fails with this error.
-STOPPED = """
-import os, runpy, sys
-left, error, folder, script = int(sys.argv[1]), int(sys.argv[2]), sys.argv[3], sys.argv[4]
-def stop(event, given):
-    global left
-    writes = event in ("os.mkdir", "os.rename", "os.remove", "os.rmdir") or event == "open" and given[2] & 3
-    if writes and str(given[0]).startswith(folder):
-        left -= 1
-        if left < 0 and not error:
-            left = 9
-            if event == "open":
-                open(given[0], "w").write("half of it")
-            os._exit(9)
-        if left < 0:
+
+def stop_at(writes, error, folder):
+    """Has this process killed at its Nth write below a folder, in the middle of the file that it writes; or has the write
+    fail with this error."""
+    left = [writes]
+
+    def stop(event, given):
+        writes = event in ("os.mkdir", "os.rename", "os.remove", "os.rmdir") or event == "open" and given[2] & 3
+        if not writes or not str(given[0]).startswith(folder):
+            return
+        left[0] -= 1
+        if left[0] < 0 and error:
             raise OSError(error, os.strerror(error), str(given[0]))
-sys.argv = sys.argv[4:]
-sys.path.insert(0, os.path.dirname(script))
-sys.addaudithook(stop)
-runpy.run_path(script, run_name="__main__")
-"""
+        if left[0] < 0:
+            left[0] = 9
+            if event == "open":
+                pathlib.Path(given[0]).write_text("half of it")
+            os._exit(KILLED)
+
+    sys.addaudithook(stop)
 
 
 class Compared:
@@ -78,6 +78,11 @@ class Compared:
         if self.count < least:
             raise Differs(f"{what}: {self.count} compared, fewer than {least}")
         return f"{what}: {self.count} compared"
+
+
+def read_from(stream):
+    stream.seek(0)
+    return stream.read()
 
 
 def files_in(folder):
@@ -134,23 +139,49 @@ class Library:
         else:
             shutil.copytree(CRATES / crate, self.top / "crates" / crate, ignore=shutil.ignore_patterns("out"))
 
-    def call(self, script, *words, before=(), toolchain=None):
+    def call(self, script, *words, stop=None, toolchain=None):
         """Calls a script; with `toolchain`, a status, a stand-in for `rt` that ends with it and tells of its calls."""
-        environment = {**os.environ, "ASKED": f"{self.room.name}/asked", "RT_STATUS": str(toolchain)}
-        if toolchain is not None:
-            environment["PATH"] = f"{self.top}/bin:{os.environ['PATH']}"
-        called = [*before, str(self.top / "scripts" / script), *map(str, words)]
-        ran = subprocess.run(called, capture_output=True, text=True, env=environment, cwd=self.room.name,
-                             stdin=subprocess.DEVNULL)
-        return Ran(ran.returncode, ran.stdout, ran.stderr)
+        sys.stdout.flush()
+        with tempfile.TemporaryFile("w+") as output, tempfile.TemporaryFile("w+") as errors:
+            # A child has Python and its modules loaded, which saves most of the time of a call.
+            child = os.fork()
+            if child == 0:
+                os.dup2(output.fileno(), 1)
+                os.dup2(errors.fileno(), 2)
+                self.become(self.top / "scripts" / script, words, stop, toolchain)
+            status = os.waitstatus_to_exitcode(os.waitpid(child, 0)[1])
+            return Ran(status, read_from(output), read_from(errors))
+
+    def become(self, script, words, stop, toolchain):
+        """Runs a script in place of this process."""
+        status = 1
+        try:
+            os.chdir(self.room.name)
+            os.environ |= {"ASKED": f"{self.room.name}/asked", "RT_STATUS": str(toolchain)}
+            if toolchain is not None:
+                os.environ["PATH"] = f"{self.top}/bin:{os.environ['PATH']}"
+            for name in [name for name in sys.modules if name.split(".")[0] == "parts"]:
+                del sys.modules[name]
+            sys.path[0], sys.argv = str(script.parent), [str(script), *map(str, words)]
+            if stop:
+                stop_at(*stop, str(self.mine))
+            runpy.run_path(str(script), run_name="__main__")
+            status = 0
+        except SystemExit as end:
+            status = end.code
+        except BaseException:
+            traceback.print_exc()
+        finally:
+            sys.stdout.flush()
+            sys.stderr.flush()
+            os._exit(status)
 
     def add(self, *words, **options):
         return self.call("add-to", self.mine, *words, toolchain=options.pop("toolchain", 0), **options)
 
     def add_up_to(self, writes, *words, error=0):
-        """Adds to the folder up to so many writes, and is stopped there, or meets this error."""
-        before = [sys.executable, "-c", STOPPED, str(writes), str(error), str(self.mine)]
-        return self.add(*words, before=before)
+        """Adds to the folder up to so many writes, and is killed there, or meets this error."""
+        return self.add(*words, stop=(writes, error))
 
     def lines_of(self, names):
         lines = (self.top / "crates.txt").read_text().splitlines()
