@@ -21,7 +21,7 @@ Ran = collections.namedtuple("Ran", "status output errors")
 
 
 def stop_at(writes, error, folder):
-    """Has this process killed at its Nth write below a folder, in the middle of the file that it writes; or has the write
+    """Kills this process at its Nth write below a folder, in the middle of the file that it writes; or has the write
     fail with this error."""
     left = [writes]
 
