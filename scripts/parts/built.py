@@ -1,11 +1,14 @@
 """The compiled programs: those that `rt ci` left in out/, or built now; and the scheduler."""
+import hashlib
 import os
 import pathlib
+import re
 import shutil
 import subprocess
 import sys
 
 from parts.compare import Differs
+from parts.groups import run
 from parts.sources import CRATES, beneath
 
 SCHEDULER = CRATES.parent / "scripts" / "parts" / "schedules"
@@ -13,13 +16,22 @@ SCHEDULER = CRATES.parent / "scripts" / "parts" / "schedules"
 ENDINGS = {"llvm": "", "rattle": ".by-rattle"}
 
 
-def newest_source(crate):
-    """When what a program is built from was last written: its crate's sources and those beneath it, the list of the
-    crates, and the toolchain."""
+def sources_of(crate):
+    """What a program is built from: its crate's sources and those beneath it, the list of the crates, and the
+    toolchain."""
     files = [file for name in beneath(crate) for part in ("src", "specs", "proofs")
-             for file in (CRATES / name / part).rglob("*") if file.is_file()]
+             for file in sorted((CRATES / name / part).rglob("*"))]
     files += [CRATES.parent / "crates.txt", CRATES / crate / "args", pathlib.Path(shutil.which("rt") or "").resolve()]
-    return max(file.stat().st_mtime for file in files if file.is_file())
+    return [file for file in files if file.is_file()]
+
+
+def digest_of(*files):
+    """A digest of files, each with its path."""
+    digest = hashlib.sha256()
+    for file in files:
+        digest.update(f"{os.path.relpath(file, CRATES)}\0{file.stat().st_size}\0".encode())
+        digest.update(file.read_bytes())
+    return digest.hexdigest()
 
 
 def build_program(crate, compiler):
@@ -29,8 +41,7 @@ def build_program(crate, compiler):
     kept = made.read_bytes() if made != program and made.exists() else None
     words = (folder / "args").read_text().split() if (folder / "args").exists() else []
     with open(folder / "stdin" if (folder / "stdin").exists() else os.devnull) as given:
-        subprocess.run(["rt", "run", "--backend", compiler, "--", *words], cwd=folder, stdin=given,
-                       stdout=subprocess.DEVNULL)
+        run(["rt", "run", "--backend", compiler, "--", *words], cwd=folder, stdin=given, stdout=subprocess.DEVNULL)
     if made != program and made.exists():
         shutil.move(made, program)
     if kept:
@@ -50,7 +61,19 @@ def find_program(crate, compiler="llvm"):
 
 
 def is_new(program, crate):
-    return program.exists() and program.stat().st_mtime >= newest_source(crate)
+    """Whether a program is built from what its sources are now. A record beside it has the digests of both. A program
+    that no record is of was built by `rt`, which writes none: it has to be newer than each source, and gets one."""
+    if not program.exists():
+        return False
+    record, sources = program.with_name(f"{program.name}.sources"), sources_of(crate)
+    made, told = digest_of(program), digest_of(*sources)
+    recorded = record.read_text().split() if record.exists() else []
+    if recorded[:1] == [made]:
+        return recorded[1:] == [told]
+    is_newer = program.stat().st_mtime >= max(file.stat().st_mtime for file in sources)
+    if is_newer:
+        record.write_text(f"{made} {told}\n")
+    return is_newer
 
 
 def compile_library(made, files, *flags):
@@ -62,5 +85,12 @@ def compile_library(made, files, *flags):
     return str(made)
 
 
+def codes():
+    """The codes that the scheduler reads, for the C compiler."""
+    found = re.findall(r"(?m)^pub const (\w+): u64 = (\d+);$", (CRATES / "oneshot_codes/src/lib.rt").read_text())
+    return [f"-D{name}={number}" for name, number in found if int(number) < 100]
+
+
 def compile_scheduler(folder):
-    return compile_library(folder / "schedules.so", sorted(SCHEDULER.glob("*.c")), "-ftls-model=initial-exec")
+    files = sorted(SCHEDULER.glob("*.c"))
+    return compile_library(folder / "schedules.so", files, "-ftls-model=initial-exec", *codes())

@@ -30,6 +30,10 @@ def try_program(crate, given, *flags, environment=None):
     return ran.stdout.decode(), ran.stderr.decode(errors="replace")
 
 
+# What the cases of each program wrote: they run once, however many differences are planted in what they have to write.
+RAN = {}
+
+
 class Cases:
     """Cases of one program, in their order, and what they have to write."""
 
@@ -46,12 +50,14 @@ class Cases:
         self.output.append(f"== {name}\n{output}")
         self.errors += ([error] if error else []) + [f"{name}: status {status}"]
 
-    def run(self, crate, *flags, **options):
-        written, said = try_program(crate, self.given, *flags, **options)
+    def compare(self, name, run):
+        """Compares what the cases wrote and how they ended with what they have to. `run` runs them."""
+        if name not in RAN:
+            RAN[name] = run(self.given)
+        written, said = RAN[name]
         # What is left are the program's own lines, and how each case ended.
         told = [re.sub(r"^case=(\S+) run=ended status=(\d+) .*", r"\1: status \2", line) for line in said.splitlines()
                 if not re.match(r"(allocations|rt): |cases=", line)]
-        page = f"scripts/faults, {crate.name}"
-        same_lines("statuses and errors", page, told, self.errors)
-        same_lines("output", page, written.split("\n"), "".join(self.output).split("\n"))
-        return f"{crate.name}: {len(self.output)} cases"
+        same_lines("statuses and errors", f"scripts/faults, {name}", told, self.errors)
+        same_lines("output", f"scripts/faults, {name}", written.split("\n"), "".join(self.output).split("\n"))
+        return {f"cases of {name}": len(self.output)}

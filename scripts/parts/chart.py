@@ -77,9 +77,3 @@ def draw():
              "third quartile. Each step doubles."),
         *scale, *body, "</svg>", "",
     ])
-
-
-def compare_chart():
-    if CHART.read_text() != draw():
-        raise Differs(f"docs/benchmarks.svg: it is not the chart of {PAGE}; scripts/benchmark --chart draws it")
-    return "1 chart"

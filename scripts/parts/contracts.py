@@ -1,9 +1,9 @@
 """The contracts, traits and types that docs/CALLING.md and docs/MODEL.md print, and which of them users need.
 
 Users call what the exporting crates of a page export: a function by its own name, or those of a type that are public or
-that are of a trait and have a clause. CALLING prints each exported trait whole. MODEL also prints the laws of an
-exported module, what an `EntryLine` shows as (its `ghost output`), and the types of `oneshot_replay` whose variants or
-fields users name.
+that are of a trait and have a clause. CALLING prints each exported trait whole, and no contract that repeats another's.
+MODEL also prints the laws of an exported module, what an `EntryLine` and a `CalledLine` show as (their `ghost output`),
+and the types of `oneshot_replay` whose variants or fields users name, each with its module in `oneshot`.
 """
 import collections
 import re
@@ -11,11 +11,13 @@ import textwrap
 
 from parts.compare import Differs
 from parts.pages import fold
-from parts.sources import code_of, functions, sources
+from parts.restated import restated
+from parts.sources import CRATES, code_of, functions, sources
 
 Page = collections.namedtuple("Page", "exporting beneath")
 Contract = collections.namedtuple("Contract", "name owner text")
-CALLING = Page(["oneshot_channel", "oneshot_reply"], ["oneshot_ends", "oneshot_errors", "oneshot_word"])
+CALLING = Page(["oneshot_channel", "oneshot_reply", "oneshot_watch"],
+               ["oneshot_ends", "oneshot_errors", "oneshot_word"])
 MODEL = Page(["oneshot_replay", "oneshot_text"], ["oneshot_world"])
 
 
@@ -53,8 +55,8 @@ def own(text):
 
 
 def written(page):
-    """Each function of the page's crates, and what an `EntryLine` shows as."""
-    impl = r"(?ms)^(impl \S+ for (EntryLine)) \{(?:(?!^\}).)*?(^ *ghost output .*?;)"
+    """Each function of the page's crates, and what an entry's lines show as."""
+    impl = r"(?ms)^(impl \S+ for (EntryLine|CalledLine)) \{(?:(?!^\}).)*?(^ *ghost output .*?;)"
     for file in files(page):
         for name, owner, head, _ in functions(code_of(file)):
             if "trait " not in owner:
@@ -109,6 +111,12 @@ def items(body):
             item += letter
 
 
+def module_of(file):
+    """The module of `oneshot` that has the types of a file of the model."""
+    crate, _, *path = file.relative_to(CRATES).with_suffix("").parts
+    return {"oneshot_machine": path[0], "oneshot_text": "text"}.get(crate, "replay")
+
+
 def declared():
     """Each public enum, and each struct whose fields are all public, with its line."""
     for file in sources("oneshot_machine", *MODEL.beneath, *MODEL.exporting):
@@ -117,7 +125,7 @@ def declared():
             listed = list(items(body))
             if kind == "enum" or all(item.startswith("pub ") for item in listed):
                 parts = ", ".join(f"`{re.sub('^pub ', '', item).replace(', }', ' }')}`" for item in listed)
-                yield name, f"- `{name}{generics}`: {parts}"
+                yield name, f"- `{module_of(file)}::{name}{generics}`: {parts}"
 
 
 def types(*names):
@@ -137,7 +145,8 @@ def needed(page, names):
 
 def listed_in_calling():
     names = exported(CALLING.exporting)
-    return [*needed(CALLING, names), *(("trait", name) for _, name in traits(CALLING) if name in names)]
+    printed = [(kind, name) for kind, name in needed(CALLING, names) if name not in restated()]
+    return [*printed, *(("trait", name) for _, name in traits(CALLING) if name in names)]
 
 
 def listed_in_model():

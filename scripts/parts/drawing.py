@@ -3,10 +3,15 @@
 A text that is no whole trace is refused: where a line or its step is none of a trace, where the entries are not
 numbered from 1 on, where the word or a place is not as the entries before left it, and where the last two lines are not
 there or do not fit the entries.
+
+With the input of the run each call is named where it begins, since a trace does not show which look, receive or drop a
+step belongs to. A trace that is not of that input's calls is refused: where an end moves whose script is finished, or
+is idle before, and where a reply is none of the call's.
 """
 import re
 
 from parts.compare import Differs
+from parts.reference import calls_of
 
 WORDS = {
     "0": "0 RECEIVING", "1": "1 UNPARKING", "2": "2 DISCONNECTED", "3": "3 EMPTY", "4": "4 MESSAGE", "-": "no word",
@@ -22,6 +27,12 @@ FOUND = {
 }
 ENTRY = re.compile(r"([1-9]\d*) ([SR]) (?:(idle)|(\S+) ([0-4-])>([0-4-])((?: [^ =]\S*)*)(?: = (.+))?)")
 MOVE = re.compile(r"(m|p|w\d+@\d+):(\w+)>(\w+)")
+# The replies of a call, by its word in a script; any other word is that of a receive.
+REPLIES = {
+    "closed": "true|false", "full": "true|false", "send": "Ok|Err", "inner": r"\d+", "into": r"\d+", "drop": "dropped",
+    "future": "future", "poll": r"Pending|Ready\(.*\)",
+}
+RECEIVED = r"Ok\(\d+\)|Err\(\w+\)"
 HEAD = """sequenceDiagram
     participant S as sender
     participant W as word
@@ -33,10 +44,51 @@ class Refused(Differs):
     """Why a line is none of this trace."""
 
 
+def scripts_of(text):
+    """The calls of both ends that an input asks for, each by its words."""
+    lines = text.split("\n")[:2]
+    try:
+        if [line[:1] for line in lines] == ["S", "R"]:
+            return {line[0]: [word if number is None else f"{word} {number}" for word, number, _ in calls_of(line)]
+                    for line in lines}
+    except (IndexError, KeyError, ValueError):
+        pass
+    raise Refused("the input has no two scripts that oneshot-run reads")
+
+
+class Calls:
+    """The call that each end has under way, and those that its script has left."""
+
+    def __init__(self, left):
+        self.left, self.under_way = left, dict.fromkeys("SR")
+
+    def begins(self, side):
+        """The call that begins with this end's step, if one does."""
+        if self.under_way[side]:
+            return None
+        if not self.left[side]:
+            raise Refused(f"the script of {side} has no call left")
+        self.under_way[side] = self.left[side].pop(0)
+        return self.under_way[side]
+
+    def ends(self, side, reply):
+        call, self.under_way[side] = self.under_way[side], None
+        if not re.fullmatch(REPLIES.get(call.split(" ")[0], RECEIVED), reply):
+            raise Refused(f"{call} does not reply {reply}")
+        # A send that was not refused has no error, which would have the calls that are left.
+        if reply == "Ok":
+            self.left[side] = []
+
+    def is_idle(self, side):
+        if self.under_way[side] or self.left[side]:
+            raise Refused(f"the script of {side} is not finished")
+
+
 class Drawing:
     """What the entries drew so far, and how they left the word, the message and each waker."""
 
-    def __init__(self):
+    def __init__(self, calls):
+        self.calls = calls
         self.lines = [HEAD]
         self.entries = 0
         self.word = "3"
@@ -57,6 +109,8 @@ class Drawing:
         if self.rest is not None or int(number) != self.entries:
             raise Refused(f"no entry {number} comes here")
         if idle:
+            if self.calls:
+                self.calls.is_idle(side)
             self.note(side, f"{number} idle")
             return
         if step not in STEPS:
@@ -64,10 +118,14 @@ class Drawing:
         if before != self.word:
             raise Refused(f"the word is {WORDS[self.word]}")
         self.word = after
+        if call := self.calls and self.calls.begins(side):
+            self.note(side, f"calls {call}")
         told, notes = self.fields(side, fields.split())
         self.lines.append(f"    {arrow(number, side, step, before, after)}{told}")
         for lane, text in notes + ([(side, f"replies {reply}")] if reply else []):
             self.note(lane, text)
+        if self.calls and reply:
+            self.calls.ends(side, reply)
 
     def fields(self, side, fields):
         """What is told behind the arrow, and the notes below it."""
@@ -118,8 +176,9 @@ def arrow(number, side, step, before, after):
     return f"{side}{'-)R' if step == 'wake' else f'->>{side}'}: {number} {step}, {word}{then}"
 
 
-def draw(trace):
-    drawing = Drawing()
+def draw(trace, scripts=None):
+    """The diagram of a trace, with the calls of the scripts if the text of a run's input is given."""
+    drawing = Drawing(None if scripts is None else Calls(scripts_of(scripts)))
     lines = trace.split("\n")[:-1] if trace.endswith("\n") else trace.split("\n")
     for number, line in enumerate(lines, 1):
         try:

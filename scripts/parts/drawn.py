@@ -47,14 +47,14 @@ def digest_of(sender, receiver):
     return state
 
 
-def compare_digests(sender, receiver, digest):
+def hold_digests(sender, receiver, digest):
     """The reference's texts of a pair have the digest of the tests."""
     if digest_of(sender, receiver) != digest:
         raise Differs(f"{sender} beside {receiver}: parts/reference.py has another digest than drawn.rt")
     return f"{sender} beside {receiver}: the digest of drawn.rt"
 
 
-def compare_program(program, sender, receiver):
+def hold_program(program, sender, receiver):
     """A program prints the reference's text for each input of a pair; else the first line of the first that differs."""
     for seed in SEEDS:
         given = f"{SENDING[sender]}\n{RECEIVING[receiver]}\nX {schedule(seed)}\n"

@@ -10,31 +10,33 @@ import threading
 import time
 from concurrent.futures import ThreadPoolExecutor
 
+from parts.groups import finish, start
 from parts.pairs import arguments_of, may_miss, name_of, scripts_of
 
 RUNS = re.compile(r"(?m)^runs (\d+) operations (\d+) stuck (\d+) differ (\d+) met \d+\n"
                   r"orders( at least)? (\d+) missed (\d+)")
-CHOICES = re.compile(r"runs (\d+) pruned (\d+) points (\d+) longest (\d+) complete ([01])")
+CHOICES = re.compile(r"runs (\d+) pruned (\d+) points (\d+) longest (\d+) died (\d+) complete ([01])")
 
 
 class Result:
     """What was counted of a pair, what the programs said, and the status of each."""
 
     def __init__(self, pair, written, said, status, ended):
-        self.pair, self.written, self.said, self.status = pair, written, said, status
+        self.pair, self.written, self.said, self.status, self.ended = pair, written, said, status, ended
         counted, gone = RUNS.search(written), CHOICES.search(said)
         self.is_told = bool(counted and gone and ended == 0)
         counts = counted.groups() if counted else [0, 0, 0, 0, None, 0, 0]
         self.runs, self.operations, self.stuck, self.differ = map(int, counts[:4])
         self.is_whole, self.orders, self.missed = not counts[4], int(counts[5]), int(counts[6])
-        self.complete = bool(gone and gone[5] == "1")
+        # Not where a run died: behind it there may be others, which nothing has gone through.
+        self.complete = bool(gone and gone[6] == "1")
         # The runs that the scheduler counted, also where the other program prints traces.
         self.explored = int(gone[1]) if gone and ended == 0 else 0
 
     def wrong(self):
         """What is wrong with the runs; nothing if they are right."""
         if not self.is_told:
-            return "a program ended early"
+            return f"the program ended early, with status {self.ended}, or the comparing one, with {self.status}"
         if self.status != 0 or self.differ:
             return f"{self.differ} runs differ"
         if self.runs == 0 or self.runs != self.explored:
@@ -65,34 +67,34 @@ class Explorer:
             self.processors.put(processor)
         self.count, self.running, self.stopped = len(processors), set(), threading.Event()
 
-    def explore(self, pair, settings="", shown=()):
-        """Goes through one pair, on a processor that is this thread's alone: two threads of a run take turns."""
+    def explore(self, pair, settings="", shown=(), told=None):
+        """Goes through one pair, on a processor that is this thread's alone: two threads of a run take turns. Its runs
+        are held against the scripts of the pair `told`, if that is given."""
         processor, before = self.processors.get(), os.sched_getaffinity(0)
         os.sched_setaffinity(0, {processor})
         try:
             with tempfile.TemporaryFile() as errors:
-                return self.explore_here(pair, settings, shown, errors)
+                return self.explore_here(pair, settings, shown, told or pair, errors)
         finally:
             os.sched_setaffinity(0, before)
             self.processors.put(processor)
 
-    def explore_here(self, pair, settings, shown, errors):
+    def explore_here(self, pair, settings, shown, told, errors):
         """The programs have the processor of this thread."""
         reads, writes = os.pipe()
-        os.write(writes, scripts_of(pair).encode())
+        os.write(writes, scripts_of(told).encode())
         environment = {"LD_PRELOAD": self.scheduler, "SCHEDULES": f"{pair.settings} {settings}"}
-        explorer = subprocess.Popen([self.program, *arguments_of(pair)], env=environment, stdin=subprocess.DEVNULL,
-                                    stdout=writes, stderr=errors, start_new_session=True)
+        explorer = start([self.program, *arguments_of(pair)], env=environment, stdin=subprocess.DEVNULL,
+                         stdout=writes, stderr=errors)
         os.close(writes)
         self.running.add(explorer)
-        auditor = subprocess.Popen([self.auditor, *shown], stdin=reads, stdout=subprocess.PIPE,
-                                   start_new_session=True)
+        auditor = start([self.auditor, *shown], stdin=reads, stdout=subprocess.PIPE)
         os.close(reads)
         written = auditor.communicate()[0].decode(errors="replace")
-        ended = explorer.wait()
+        ended = finish(explorer)
         self.running.discard(explorer)
         errors.seek(0)
-        return Result(pair, written, errors.read().decode(errors="replace"), auditor.returncode, ended)
+        return Result(pair, written, errors.read().decode(errors="replace"), finish(auditor), ended)
 
     def explore_all(self, pairs, told, seconds=1e9, until=1e18):
         """Goes through pairs, each for so many seconds, and begins none after `until`. Tells each result, also those

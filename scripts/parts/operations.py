@@ -1,13 +1,10 @@
-"""What no contract of the sources says, compared as text:
-- each function of oneshot_word does with the shared table what OPERATIONS says, and no other function reaches it;
-- the looks of oneshot_ends are those of LOOKS, each makes one load, and no other function of that crate makes one;
-- of requests and tickets those of REQUESTS look, once each, and no other call;
-- no function of the channel forgets a value, and its `unsafe` is that of UNSAFE.
-"""
+"""What no contract of the sources says: which functions reach the shared table or look, and what each does there."""
+import collections
+import functools
 import re
 
 from parts.compare import none_of
-from parts.sources import CRATES, code_of, functions, place, sources
+from parts.sources import CRATES, code_of, functions, sources
 
 # What each function of oneshot_word does with the shared table, its seats and the load of a look.
 OPERATIONS = {
@@ -41,7 +38,6 @@ OPERATIONS = {
 }
 
 # What each function of the looks' file does to look.
-LOOKS_FILE = CRATES / "oneshot_ends" / "src" / "ground" / "looks.rt"
 LOOKS = {
     "Unsent::peek": "side.peek",
     "SharedReceiver::peek": "side.peek",
@@ -56,81 +52,58 @@ LOOKS = {
 REQUESTS = {
     "Request::is_cancelled": "self.reply.is_closed",
     "Ticket::is_closed": "self.replies.is_closed",
+    "CancellableRequest::is_cancelled": "self.request.is_cancelled",
+    "CancellableTicket::is_closed": "self.ticket.is_closed",
+    "CancellableReply::is_closed": "self.replies.is_closed",
+    "CancellableReply::has_message": "self.replies.has_message",
 }
 
-# The `unsafe` of the channel: by it a function could let go what it may neither drop nor forget.
-UNSAFE = [
-    "oneshot_word/src/sender.rt: impl<T: Send, H: Send, K: Send, P: Promise<T>> Send for SenderSide<T, H, K, P> {}",
-    "oneshot_word/src/sender.rt: impl<T: Send + Sync, H: Send, K: Send, P: Promise<T>> Sync"
-    " for SenderSide<T, H, K, P> {}",
-    "oneshot_ends/src/freed.rt: impl Send for Freed {}",
-]
-
-CHANNEL = ["oneshot_errors", "oneshot_machine", "oneshot_drive", "oneshot_word", "oneshot_ends", "oneshot_reply"]
-
-
-def uses(words, body):
-    """What a body does with these: each with the fields and calls that follow."""
-    found = re.findall(rf"\b(?:{words})\b(?:\s*\.\s*\w+)*", body)
-    return " ".join(re.sub(r"\s", "", use) for use in found)
-
-
-def differences(found, expected):
-    for name in sorted({*found, *expected}):
-        if found.get(name) != expected.get(name):
-            told = [f"`{of[name]}`" if name in of else "no such function" for of in (found, expected)]
-            yield f"{name}: {told[0]}, in place of {told[1]}"
+# Files, the words by which their functions reach something, what each function does with these, and what may stand
+# beside the functions. A loop is always read, since it would make an operation more than once.
+Reach = collections.namedtuple("Reach", "files words does beside")
+LOOKS_FILE = CRATES / "oneshot_ends" / "src" / "ground" / "looks.rt"
+REACHES = {
+    "functions on the shared table": Reach(
+        lambda: sources("oneshot_word"), "table|seat|made|peek|Peek", OPERATIONS, ""),
+    "functions that look": Reach(
+        lambda: [LOOKS_FILE], r"(?:side|ground)\s*\.\s*\w+|peek|Peek|is_closed|has_message", LOOKS,
+        r"(use [^;]*;|impl[^{}]*\{\s*\}|\s)*"),
+    "calls of requests that look": Reach(
+        lambda: sources("oneshot_reply", "oneshot_watch"), r"(?:\w+\.)*(?:is_closed|has_message|is_cancelled)",
+        REQUESTS, ""),
+}
 
 
-def compare_table():
-    found = {}
-    for file in sources("oneshot_word"):
-        for function in functions(code_of(file)):
-            if use := uses("table|seat|made|peek|Peek|for|while|loop", function.body):
-                found[function.name] = found.get(function.name, "") + use
-    none_of(list(differences(found, OPERATIONS)))
-    return f"{len(found)} functions on the shared table"
-
-
-def compare_looks():
-    rest, found = code_of(LOOKS_FILE), {}
-    for name, _, head, body in functions(rest):
-        use = uses(r"(?:side|ground)\s*\.\s*\w+|peek|Peek|is_closed|has_message|for|while|loop", body)
-        found[name] = found.get(name, "") + use
+@functools.cache
+def uses(code, words):
+    """What each function of a text does with these words: each with the fields and calls that follow. And the rest."""
+    found, rest = [], code
+    for name, _, head, body in functions(code):
+        used = re.findall(rf"\b(?:{words}|for|while|loop)\b(?:\s*\.\s*\w+)*", body)
+        found.append((name, " ".join(re.sub(r"\s", "", use) for use in used)))
         rest = rest.replace(head + body, "")
-    wrong = list(differences(found, LOOKS))
-    if not re.fullmatch(r"(use [^;]*;|impl[^{}]*\{\s*\}|\s)*", rest):
-        wrong.append(f"{place(LOOKS_FILE)}: it has more than imports and functions of an impl")
-    names = "|".join({name.split("::")[-1] for name in {**found, **LOOKS}} | {"Peek"})
-    for file in sources("oneshot_ends"):
-        for number, line in enumerate(code_of(file).split("\n"), 1):
-            if file != LOOKS_FILE and re.search(rf"\b(?:{names})\b", line):
-                wrong.append(f"{place(file)}:{number}: it names a look: {line.strip()}")
+    return found, rest
+
+
+def done_in(reach):
+    """What the functions of these files do, and what is wrong beside them."""
+    done, wrong = {}, []
+    for file in reach.files():
+        found, rest = uses(code_of(file), reach.words)
+        for name, used in found:
+            if used or reach.beside:
+                done[name] = done.get(name, "") + used
+        if reach.beside and not re.fullmatch(reach.beside, rest):
+            wrong.append(f"{file.name}: it has more than imports and functions of an impl")
+    return done, wrong
+
+
+def compare_operations():
+    counts, wrong = {}, []
+    for title, reach in REACHES.items():
+        done, beside = done_in(reach)
+        counts[title] = len(done)
+        wrong += beside + [f"{name}: {title}: `{done.get(name)}`, in place of `{reach.does.get(name)}`"
+                           for name in sorted({*done, *reach.does}) if done.get(name) != reach.does.get(name)]
     none_of(wrong)
-    return f"{len(found)} functions that look"
-
-
-def compare_requests():
-    found = {}
-    for file in sources("oneshot_reply"):
-        for function in functions(code_of(file)):
-            if looks := re.findall(r"[\w.]*\b(?:is_closed|has_message|is_cancelled)\b", function.body):
-                found[function.name] = " ".join(looks)
-    none_of(list(differences(found, REQUESTS)))
-    return f"{len(found)} calls of requests that look"
-
-
-def compare_forgotten():
-    files = sources(*CHANNEL)
-    none_of([f"{place(file)}:{number}: it forgets a value: {line.strip()}"
-             for file in files for number, line in enumerate(code_of(file).split("\n"), 1)
-             if re.search(r"\b(?:forget|ManuallyDrop|MaybeUninit|leak|(?:Box|Arc|Rc)::into_raw)\b", line)]
-            if files else ["no files"])
-    return f"{len(files)} files of the channel that forget no value"
-
-
-def compare_unsafe():
-    found = [f"{place(file).relative_to('crates')}: {rest.strip()}"
-             for file in sources(*CHANNEL) for rest in re.findall(r"\bunsafe\b(.*)", code_of(file))]
-    none_of([f"unsafe: {it}" for it in set(found) ^ set(UNSAFE)] if len(found) == len(UNSAFE) else found)
-    return f"{len(found)} lines of the channel that are unsafe"
+    return counts

@@ -9,6 +9,7 @@ Pair = collections.namedtuple("Pair", "kind sender receiver settings")
 SENDERS = ["send", "drop", "closed send", "send inner into", "send drop", "raw send into", "", "closed closed drop"]
 TRIES = ["try drop", "try try drop", "try try try drop", "drop", "full closed try drop", "full try full closed drop",
          "raw try drop", "raw drop", ""]
+# Beside "drop", also what a guard's drop does beside a poll of its watch (oneshot_watch): a watch is such a future.
 POLLS = ["future drop", "future poll1 drop", "future poll1 poll1 drop", "future poll1 poll2 drop",
          "future poll1 poll2 poll1 drop", "future poll1 poll1 poll1 drop", "future try drop", "future poll1 try drop",
          "future poll1 try poll2 drop", "future poll1 full poll2 full drop", "future try poll1 poll2 try drop",
@@ -24,8 +25,11 @@ ASKED = ["try drop", "closed try drop", "drop", "recv", "try recv", "timeout dro
          "future poll1 drop", "future poll1 poll2 drop"]
 # Of two channels of one pair of threads. Each thread sends by the one script, and then receives by the other.
 BOTH = ["try drop", "drop", "full closed try drop", "raw try drop", "recv", "ref drop", "try recv"]
-SETTINGS = re.compile(r"(spurious|readings|failing-clock|refused|queues|reduce|seconds)=\d+")
-KINDS = ["", "promise", "request", "nested", "two"]
+SETTINGS = re.compile(r"(spurious|readings|failing-clock|refused|queues|sent|reduce|seconds)=\d+")
+# Two channels of one pair of threads. In the last two kinds the message of the first brings the sender, or the
+# receiver, of the second, which is then used by these scripts.
+OF_TWO = ["two", "sent-sender", "sent-receiver"]
+KINDS = ["", "promise", "request", "nested", *OF_TWO]
 
 
 def pairs_of(kind, receivers, settings="", senders=SENDERS):
@@ -43,15 +47,24 @@ SHORT = (pairs_of("", TRIES) + pairs_of("", POLLS[:4])
          + pairs_of("", ["future poll1 try drop", "future poll1 try poll2 drop", "future full poll1 closed poll2 drop",
                          "future poll1 full poll2 full drop"], senders=["drop"])
          + pairs_of("", POLLS[1:4], "refused=1", ["send"])
-         + pairs_of("two", BOTH[:3], senders=["send", "drop"]) + pairs_of("two", ["recv"], "spurious=0", ["send", ""]))
+         + pairs_of("two", BOTH[:3], senders=["send", "drop"]) + pairs_of("two", ["recv"], "spurious=0", ["send", ""])
+         + pairs_of("", ["future poll1 poll1"], "queues=1", ["send"])
+         + pairs_of("sent-sender", ["try drop", "drop"], "sent=1", ["send", "drop"])
+         + pairs_of("sent-receiver", ["try drop", "drop"], "sent=1", ["send", "drop"]))
+# A pair, and another whose scripts its runs are held against: some have to differ.
+PLANTED = Pair("", "send", "try drop", ""), Pair("", "send", "drop", "")
 # With --all.
 ALL = (pairs_of("", TRIES) + pairs_of("", POLLS) + pairs_of("", WAITS) + pairs_of("", TIMED, "readings=5")
        + pairs_of("", TWICE, "readings=5", SENDS)
        + pairs_of("", ["timeout drop", "deadline drop", "fartimeout drop"], "readings=3 failing-clock=1", SENDERS[:2])
        + pairs_of("", ["recv", "ref drop", "fartimeout drop"], "spurious=2 readings=2", SENDERS[:2])
-       + pairs_of("", ["future poll1 drop", "future poll1 poll2 drop"], "queues=1", SENDERS[:2])
-       + pairs_of("", POLLS[1:6] + POLLS[7:9], "refused=1", SENDERS[:3])
+       + pairs_of("", ["future poll1 drop", "future poll1 poll2 drop", "future poll1 poll1"], "queues=1", SENDERS[:2])
+       + pairs_of("", POLLS[1:6] + POLLS[7:9] + ["future poll1 poll2 poll1 poll2 drop"], "refused=1", SENDERS[:3])
        + pairs_of("two", BOTH[:4], senders=SENDERS[:3]) + pairs_of("two", BOTH[4:], "spurious=0", ["send", "drop", ""])
+       + pairs_of("sent-sender", BOTH, "spurious=0 sent=1", ["send", "closed send", "drop", ""])
+       + pairs_of("sent-receiver", BOTH, "spurious=0 sent=1", ["send", "closed send", "drop", ""])
+       + pairs_of("sent-sender", ["try drop"], "spurious=0", ["send"])
+       + pairs_of("sent-receiver", ["try drop"], "spurious=0", ["send"])
        + pairs_of("promise", TRIES[:4] + POLLS[1:4] + ["recv", "timeout drop"], "readings=3", SENDERS[:5])
        + pairs_of("nested", TRIES[:4] + POLLS[1:3] + ["recv"], senders=["send", "send into", "send drop", "drop"])
        + pairs_of("request", ASKED, "readings=3", ["send", "closed send", "send into", "drop", ""])
@@ -66,7 +79,8 @@ def words_in(scripts):
 
 def lacking(pair):
     """What the program or the scheduler lacks of a pair; nothing if it has all."""
-    receivers = {"request": ASKED, "two": BOTH}.get(pair.kind, TRIES + POLLS + WAITS + TIMED + TWICE)
+    receivers = {"request": ASKED, **{kind: BOTH for kind in OF_TWO}}.get(
+        pair.kind, TRIES + POLLS + WAITS + TIMED + TWICE)
     for script, scripts in ((pair.sender, SENDERS), (pair.receiver, receivers)):
         for word in script.split():
             if word not in words_in(scripts):
@@ -74,16 +88,14 @@ def lacking(pair):
     for word in pair.settings.split():
         if not SETTINGS.fullmatch(word):
             return f"unknown setting: {word}"
-    if pair.kind == "two" and pair.receiver.split()[-1:] not in (["drop"], ["recv"]):
+    if pair.kind in OF_TWO and pair.receiver.split()[-1:] not in (["drop"], ["recv"]):
         return "a receiver of two channels is dropped"
     return ""
 
 
 def may_miss(pair):
-    """Whether the runs may miss orders of the model. The model's waits may end by chance more often than the
-    scheduler's. A third poll uses a copy that an earlier one has left in hand, which only the model may refuse."""
-    waits = re.search(r"recv|ref|forever|timeout|deadline", pair.receiver)
-    return bool(waits) or ("refused=1" in pair.settings and pair.receiver.count("poll") > 2)
+    """Whether the runs may miss orders of the model, whose waits may end by chance more often than the scheduler's."""
+    return bool(re.search(r"recv|ref|forever|timeout|deadline", pair.receiver))
 
 
 def name_of(pair):
@@ -96,7 +108,7 @@ def scripts_of(pair):
     sender = re.sub(r"\braw *", "", pair.sender).replace("send", "send 7")
     receiver = re.sub(r"\braw *|\bfar|\bzero", "", pair.receiver)
     receiver = re.sub(r"\bpoll([12])", r"poll \1", receiver)
-    lines = [pair.kind] if pair.kind == "two" else []
+    lines = [pair.kind] if pair.kind in OF_TWO else []
     lines += ["refused"] if "refused=1" in pair.settings else []
     return "".join(f"{line}\n" for line in [*lines, f"S {sender}".strip(), f"R {receiver}".strip()])
 

@@ -1,10 +1,11 @@
-"""The parts of the pages that are printed: what stands between two marks, the first of which names what is printed."""
+"""What is printed from the sources: whole files, and parts of pages, each between two marks, the first of which names
+what is printed."""
 import re
 
-from parts.compare import Differs, none_of
+from parts.compare import Differs
 from parts.pages import BEGIN, END, TOP, page_text
 
-PART = re.compile(rf"(?ms)^{BEGIN}(\w+)(?: ([\w:,]+))?-->\n(.*?)^{END}$")
+PART = re.compile(rf"(?ms)^{BEGIN}(\w+)(?: (\S+))?-->\n(.*?)^{END}$")
 
 
 def printed(page, printers):
@@ -15,40 +16,37 @@ def printed(page, printers):
         kind, names = found[1], (found[2] or "").split(",")
         if kind not in printers:
             raise Differs(f"{page}: nothing prints {kind}")
-        named.extend((kind, name) for name in names)
+        named.extend((kind, name) for name in ([found[2]] if kind == "code" else names))
         begin, _, _ = found[0].partition("\n")
         return "\n".join([begin, *printers[kind](*filter(None, names)), END])
 
     return PART.sub(part, page_text(page)), named
 
 
-def lines_that_differ(page, text):
-    for number, (old, new) in enumerate(zip(page_text(page).split("\n"), text.split("\n")), 1):
-        if old != new:
-            return f"{page}:{number}: the sources have:\n{new}\n`scripts/documents --write` prints it"
-    return f"{page}: `scripts/documents --write` prints another text"
-
-
-def compare_pages(pages):
-    """Each page has the parts that are listed for it, each once, and each as it is printed."""
-    wrong, count = [], 0
+def print_all(pages, files):
+    """The text of each page and file as it is printed now, how many parts these have, and which parts lack."""
+    texts, count, wrong = {name: make() for name, make in files.items()}, 0, []
     for page, (printers, listed) in pages.items():
-        text, named = printed(page, printers)
+        texts[page], named = printed(page, printers)
         wrong += [f"{page}: no part prints {' '.join(each)}" for each in listed() if each not in named]
         wrong += [f"{page}: two parts print {' '.join(each)}" for each in sorted(set(named)) if named.count(each) > 1]
-        if text != page_text(page):
-            wrong.append(lines_that_differ(page, text))
         count += len(named)
-    none_of(wrong if count else ["nothing is printed"])
-    return f"{count} printed parts"
+    return texts, count, wrong
 
 
-def write_pages(pages):
-    for page, (printers, _) in pages.items():
-        text, _ = printed(page, printers)
-        if text != page_text(page):
-            (TOP / page).write_text(text)
-            print(f"documents: {page} is written")
+def difference(name, text):
+    for number, (old, new) in enumerate(zip(page_text(name).split("\n"), text.split("\n")), 1):
+        if old != new:
+            return f"{name}:{number}: the sources have:\n{new}\n`scripts/documents --write` prints it"
+    return f"{name}: `scripts/documents --write` prints another text"
+
+
+def write_all(pages, files):
+    texts, _, _ = print_all(pages, files)
+    for name, text in texts.items():
+        if text != page_text(name):
+            (TOP / name).write_text(text)
+            print(f"documents: {name} is written")
 
 
 def table(heads, rows):

@@ -133,6 +133,8 @@ class Reference:
         self.word, self.freed, self.token = CODES["EMPTY"], False, False
         self.cell, self.hand, self.taken = None, "p", None
         self.lines = []
+        # Which rows of the tables were used, each with what its step saw.
+        self.leads = set()
 
     def move(self, letter):
         end = "S" if letter == "s" else "R"
@@ -143,6 +145,7 @@ class Reference:
         position = self.at[end] or self.calls[end][0][2]
         (step, *writes), leads = TABLES[end][position]
         before, found, token = self.word, self.seen(step, letter), self.token
+        self.leads.add((end, position, found if found in leads else None))
         target = leads.get(found, leads.get(None))
         moved = self.moved_message(step, target, end) + self.moved_waker(step, found, writes, number)
         self.word = self.word_after(step, [CODES[code] for code in writes])
@@ -224,10 +227,18 @@ class Reference:
         return f"Err({reply})" if reply in ("Empty", "Timeout") else reply
 
 
-def reference(sender, receiver, letters):
-    """The lines that oneshot-run prints for both scripts and a schedule."""
+def all_leads():
+    """Each row of the tables, with each that its step may see."""
+    return {(end, position, seen) for end, rows in TABLES.items() for position, (_, leads) in rows.items()
+            for seen in leads}
+
+
+def reference(sender, receiver, letters, leads=None):
+    """The lines that oneshot-run prints for both scripts and a schedule. Adds the rows that were used to `leads`."""
     run = Reference(sender, receiver)
     for letter in letters:
         run.move(letter)
+    if leads is not None:
+        leads.update(run.leads)
     rest = f"{run.place}({run.message})" if run.place else "none"
     return [*run.lines, f"rest {rest}", f"block {'freed' if run.freed else 'here'}"]

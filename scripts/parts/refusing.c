@@ -10,6 +10,11 @@ extern void *__libc_malloc(size_t size);
 extern void *__libc_realloc(void *block, size_t size);
 extern void __libc_free(void *block);
 
+// With how many blocks the count begins: not 0 only to see that one is told.
+#ifndef LEFT
+#define LEFT 0
+#endif
+
 static long refused;
 static atomic_long made, left;
 
@@ -44,7 +49,7 @@ __attribute__((constructor)) static void begin(void) {
     const char *number = getenv("REFUSED");
     refused = number == NULL ? 0 : atol(number);
     made = 0;
-    left = 0;
+    left = LEFT;
 }
 
 __attribute__((destructor)) static void end(void) {

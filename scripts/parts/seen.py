@@ -1,5 +1,6 @@
 """Damages of the channel that no contract could state or that a proof would refuse. Each is planted in a copy, which is
-built unproved, and some run of its pair has to differ."""
+built unproved, and some run of its pair has to differ. For that it makes a copy of the toolchain in which a stub,
+`unproved.c`, stands in the place of the address sanitizer, and takes the program that `rt try` runs."""
 import os
 import pathlib
 import shutil
@@ -7,6 +8,7 @@ import subprocess
 import tempfile
 
 from parts.compare import Differs
+from parts.groups import run
 from parts.pairs import Pair, name_of
 from parts.sources import CRATES
 
@@ -59,10 +61,11 @@ def build_unproved(folder, damage=None):
     shutil.copy(CRATES.parent / "crates.txt", folder)
     if damage:
         plant(folder / "crates", *damage)
-    ran = subprocess.run([str(make_kit(folder, copy)), "try", "--steps", "1"], stdin=subprocess.DEVNULL,
-                         cwd=folder / "crates" / "oneshot_scheduled", capture_output=True, text=True)
+    said, _ = run([str(make_kit(folder, copy)), "try", "--steps", "1"], stdin=subprocess.DEVNULL,
+                  cwd=folder / "crates" / "oneshot_scheduled", stdout=subprocess.PIPE, stderr=subprocess.STDOUT,
+                  text=True)
     if not copy.exists():
-        raise Differs(ran.stdout + ran.stderr)
+        raise Differs(said)
     return str(copy)
 
 

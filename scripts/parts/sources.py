@@ -1,5 +1,6 @@
 """Source files (.rt), read as text: their functions, each with the impl or trait that it is of."""
 import collections
+import functools
 import pathlib
 import re
 import sys
@@ -14,6 +15,20 @@ def crates():
     return {name: libraries.split() for name, libraries in lines}
 
 
+def sections():
+    """The crates under each heading of crates.txt."""
+    found = {}
+    for line in (CRATES.parent / "crates.txt").read_text().split("\n\n"):
+        heading, _, rest = line.partition("\n")
+        found[heading.removeprefix("# ")] = re.findall(r"(?m)^([a-z0-9_]+)[^:\n]*:", rest)
+    return {heading: names for heading, names in found.items() if names}
+
+
+def section(heading):
+    """The crates under the heading that begins so."""
+    return next((names for name, names in sections().items() if name.startswith(heading)), [])
+
+
 def beneath(crate):
     """This crate and those that it stands on, in their order; none if it is not listed."""
     listed, found, left = crates(), set(), [crate]
@@ -25,6 +40,7 @@ def beneath(crate):
     return [name for name in listed if name in found]
 
 
+@functools.cache
 def sources(*names):
     """The source files of these crates."""
     return [file for name in names for file in sorted((CRATES / name / "src").rglob("*.rt"))]
@@ -36,7 +52,12 @@ def place(file):
 
 def code_of(file):
     """The text of a file without its comments."""
-    return re.sub(r"//.*", "", file.read_text())
+    return without_comments(file.read_text())
+
+
+@functools.cache
+def without_comments(text):
+    return re.sub(r"//.*", "", text)
 
 
 def block_end(text, start):
@@ -56,9 +77,14 @@ def without_generics(text):
     return " ".join(text.split())
 
 
+@functools.cache
 def functions(text):
     """Each function of a text: "Trait for Type::name", the head of the impl or trait that it is of, what stands before
     its body, and its body, which may be none."""
+    return list(each_function(text))
+
+
+def each_function(text):
     owners = [(head.start(), block_end(text, head.start()), " ".join(head[0].split()))
               for head in re.finditer(r"(?m)^(?:pub )?(?:unsafe )?(?:impl|trait)\b[^{]*", text)]
     for start in re.finditer(r"(?m)^ *(?:pub(?:\(\w+\))? )?(?:\w+ )*fn (\w+)", text):

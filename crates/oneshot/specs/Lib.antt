@@ -9,6 +9,7 @@ pub use Rattle.oneshot_ends.specs.Woken
 pub use Rattle.oneshot_ends.specs.Tokens
 pub use Rattle.oneshot_ends.specs.Grounds as EndGrounds
 pub use Rattle.oneshot_ends.specs.Polling
+pub use Rattle.oneshot_errors.specs.Equality
 pub use Rattle.oneshot_errors.specs.declared.recv.RecvError
 pub use Rattle.oneshot_errors.specs.declared.recv_timeout.RecvTimeoutError
 pub use Rattle.oneshot_errors.specs.declared.try_recv.TryRecvError
@@ -69,3 +70,5 @@ pub use Rattle.oneshot_laws.specs.Unwoken
 pub use Rattle.oneshot_laws.specs.WakerPlaces
 -- those that the contracts of `reply` name
 pub use Rattle.oneshot_reply.specs.declared.asked.Asked
+-- the one that the contracts of `watch` name
+pub use Rattle.oneshot_watch.specs.declared.never.Never

@@ -7,6 +7,8 @@ pub use oneshot_channel::{
 };
 pub use oneshot_drive as drive;
 pub use oneshot_ends::laws;
+pub use oneshot_errors::laws as error_laws;
 pub use oneshot_machine::{laws as machine_laws, machine, states};
 pub use oneshot_replay as replay;
 pub use oneshot_text as text;
+pub use oneshot_watch as watch;

@@ -19,6 +19,8 @@ mod paired;
 #[cfg(test)]
 mod promised;
 #[cfg(test)]
+mod recipes;
+#[cfg(test)]
 mod results;
 #[cfg(test)]
 mod sent;

@@ -158,8 +158,8 @@ pub fn a_token_is_given_once_and_then_taken()
 /// - if the sender found its receiver waiting, it has given the token of the parker whose half the receiver gave;
 /// - a receiver that sleeps on a parker has that parker's token there;
 /// - from a future that waits, the sender took no thread's waker;
-/// - if the sender found a future waiting, it has used the copy that the future gave last, which is a waker of the task of
-///   the last poll that registered (clause `woken` of the poll);
+/// - if the sender found a future waiting, it has used the copy that the future gave last, which is a waker of the task
+///   of the last poll that registered (clause `woken` of the poll);
 /// - it has used the waker of a future that is registered.
 ///
 /// What the use of a task's waker does, `futures` states.

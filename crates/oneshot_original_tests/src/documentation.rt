@@ -1,12 +1,13 @@
 //! The example in the crate's documentation: a thread replies to texts with their lengths, which the asker
 //! receives by blocking and by awaiting; and the same by typed requests.
 
-use super::times::hour;
+use super::times::{assert_woken_since, now};
 use crate::asserts::{assert_same, assert_that};
 use crossbeam_channel as queue;
 use futures::executor::block_on;
 use oneshot::reply::{self, Length};
 use oneshot::{Sender, channel};
+use oneshot_test_uses::limit;
 use std::alloc::AllocError;
 use std::process::Abort;
 use std::sync::Wait;
@@ -47,7 +48,9 @@ fn a_processing_thread_answers_lengths(rt: HostRuntime) -> Result<(), Fail> {
         let (reply, mut answer) = channel(&rt, rt.alloc())?;
         let request = String::from_str(rt.alloc(), text)?;
         assert_that(&rt, ask(&rt, &requests, request, reply));
-        assert_same(&rt, answer.recv_timeout(hour()), Ok(length));
+        let start = now(&rt);
+        assert_same(&rt, answer.recv_timeout(limit()), Ok(length));
+        assert_woken_since(&rt, start);
         let (reply, answer) = channel(&rt, rt.alloc())?;
         let request = String::from_str(rt.alloc(), text)?;
         assert_that(&rt, ask(&rt, &requests, request, reply));
@@ -81,7 +84,9 @@ fn a_processing_thread_answers_typed_requests(rt: HostRuntime) -> Result<(), Fai
         let made = reply::request(&rt, rt.alloc(), question);
         let (request, mut ticket) = made.map_err(|_| AllocError)?;
         assert_that(&rt, requests.send(&rt, request).is_ok());
-        let reply = ticket.wait_for(hour());
+        let start = now(&rt);
+        let reply = ticket.wait_for(limit());
+        assert_woken_since(&rt, start);
         assert_same(&rt, reply.map(|length| length.bytes()), Ok(bytes));
     }
     drop(requests);

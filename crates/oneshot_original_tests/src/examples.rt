@@ -1,11 +1,11 @@
 //! The programs of `examples/`, each as a test that runs it once.
 
 use super::threads::{Act, By, Pace, assert_outcomes};
-use super::times::hour;
 use crate::asserts::assert_same;
 use oneshot::channel;
 use oneshot_test_uses::Silence::Disconnected;
 use oneshot_test_uses::Use::{Recv, RecvRef, RecvTimeout};
+use oneshot_test_uses::limit;
 use std::test::Fail;
 
 /// The sender acts once, after a while in which the receiver begins to wait.
@@ -61,12 +61,12 @@ fn recv_ref_before_send_then_drop_sender(rt: HostRuntime) -> Result<(), Fail> {
 
 #[test]
 fn recv_timeout_before_send(rt: HostRuntime) -> Result<(), Fail> {
-    let by = By::Receiver(RecvTimeout(hour()));
+    let by = By::Receiver(RecvTimeout(limit()));
     assert_outcomes(&rt, ONCE, SEND, &by, &[(Ok(()), Ok(9))])
 }
 
 #[test]
 fn recv_timeout_before_send_then_drop_sender(rt: HostRuntime) -> Result<(), Fail> {
-    let by = By::Receiver(RecvTimeout(hour()));
+    let by = By::Receiver(RecvTimeout(limit()));
     assert_outcomes(&rt, ONCE, DROP, &by, &[(Ok(()), Err(Disconnected))])
 }

@@ -4,15 +4,14 @@
 //! channel.
 
 use super::threads::{AT_ONCE, Act, By, ROUNDS, assert_outcomes, on_two_threads};
-use super::times::hour;
 use crate::asserts::{assert_same, assert_that};
 use futures::task::Poll;
 use futures::test::MockTask;
 use oneshot::{async_channel, drive};
 use oneshot_memory::{MemoryFuture, MemoryTask};
-use oneshot_test_uses::FutureUse;
 use oneshot_test_uses::Silence::{Disconnected, Timeout};
 use oneshot_test_uses::Use::{AsFuture, RecvTimeout, TryUntil};
+use oneshot_test_uses::{FutureUse, limit};
 use std::test::Fail;
 use std::time::Duration;
 
@@ -24,7 +23,7 @@ fn try_recv(rt: HostRuntime) -> Result<(), Fail> {
 
 #[test]
 fn send_recv_different_threads(rt: HostRuntime) -> Result<(), Fail> {
-    let by = By::Receiver(RecvTimeout(hour()));
+    let by = By::Receiver(RecvTimeout(limit()));
     assert_outcomes(&rt, AT_ONCE, Act::Send(9u128), &by, &[(Ok(()), Ok(9))])
 }
 

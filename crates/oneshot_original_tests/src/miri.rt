@@ -1,11 +1,11 @@
 //! The tests of `tests/miri.rs`: each use of a sender races with each use of a receiver, in many rounds.
 
 use super::threads::{AT_ONCE, Act, By, assert_outcomes};
-use super::times::hour;
 use futures::test::MockTask;
 use oneshot_test_uses::FutureUse::{PollOnce, PollUntil};
 use oneshot_test_uses::Silence::{Disconnected, Dropped, NothingYet};
 use oneshot_test_uses::Use::{JustDrop, Recv, RecvRef, RecvTimeout, TryOnce, TryUntil};
+use oneshot_test_uses::limit;
 use std::test::Fail;
 
 const SEND: Act<i32> = Act::Send(999);
@@ -32,7 +32,7 @@ fn tx_send_rx_recv_ref(rt: HostRuntime) -> Result<(), Fail> {
 
 #[test]
 fn tx_send_rx_recv_timeout(rt: HostRuntime) -> Result<(), Fail> {
-    let by = By::Receiver(RecvTimeout(hour()));
+    let by = By::Receiver(RecvTimeout(limit()));
     assert_outcomes(&rt, AT_ONCE, SEND, &by, &[(Ok(()), Ok(999))])
 }
 
@@ -84,7 +84,7 @@ fn tx_drop_rx_recv_ref(rt: HostRuntime) -> Result<(), Fail> {
 
 #[test]
 fn tx_drop_rx_recv_timeout(rt: HostRuntime) -> Result<(), Fail> {
-    let by = By::Receiver(RecvTimeout(hour()));
+    let by = By::Receiver(RecvTimeout(limit()));
     assert_outcomes(&rt, AT_ONCE, DROP, &by, &[(Ok(()), Err(Disconnected))])
 }
 

@@ -4,11 +4,12 @@
 
 use super::counted::Drops;
 use super::threads::{AT_ONCE, Act, By, Pace, ROUNDS, assert_outcomes};
-use super::times::{hour, in_time, tenth};
+use super::times::{in_time, second, tenth};
 use crate::asserts::{assert_same, assert_that};
 use oneshot::{RecvError, RecvTimeoutError, SendError, TryRecvError, channel};
 use oneshot_test_uses::Silence::{Disconnected, NothingYet};
 use oneshot_test_uses::Use::{Recv, RecvTimeout, TryOnce};
+use oneshot_test_uses::limit;
 use std::alloc::{AllocError, Global};
 use std::process::Abort;
 use std::sync::Wait;
@@ -31,7 +32,7 @@ fn send_before_try_recv(rt: HostRuntime) -> Result<(), Fail> {
         (false, Err(TryRecvError::Disconnected)),
     );
     assert_same(&rt, receiver.recv_ref(), Err(RecvError));
-    let timed = receiver.recv_timeout(hour());
+    let timed = receiver.recv_timeout(second());
     assert_same(&rt, timed, Err(RecvTimeoutError::Disconnected));
     Ok(())
 }
@@ -70,7 +71,7 @@ fn send_before_recv_ref(rt: HostRuntime) -> Result<(), Fail> {
     assert_same(&rt, (sent, receiver.recv_ref()), (true, Ok(19)));
     let by_ref = receiver.recv_ref();
     let tried = receiver.try_recv();
-    let timed = receiver.recv_timeout(hour());
+    let timed = receiver.recv_timeout(second());
     assert_same(&rt, by_ref, Err(RecvError));
     assert_same(&rt, tried, Err(TryRecvError::Disconnected));
     assert_same(&rt, timed, Err(RecvTimeoutError::Disconnected));
@@ -83,10 +84,10 @@ fn send_before_recv_timeout(rt: HostRuntime) -> Result<(), Fail> {
         let (sender, mut receiver) = channel(&rt, rt.alloc())?;
         let sent = sender.send(19i128).is_ok();
         let before = Instant::now(&rt)?;
-        let received = receiver.recv_timeout(hour());
+        let received = receiver.recv_timeout(second());
         let took = before.elapsed(&rt)?;
         assert_same(&rt, (sent, received), (true, Ok(19)));
-        let timed = receiver.recv_timeout(hour());
+        let timed = receiver.recv_timeout(second());
         let tried = receiver.try_recv();
         assert_same(&rt, timed, Err(RecvTimeoutError::Disconnected));
         assert_same(&rt, tried, Err(TryRecvError::Disconnected));
@@ -159,7 +160,7 @@ fn recv_before_send(rt: HostRuntime) -> Result<(), Fail> {
 
 #[test]
 fn recv_timeout_before_send(rt: HostRuntime) -> Result<(), Fail> {
-    let by = By::Receiver(RecvTimeout(hour()));
+    let by = By::Receiver(RecvTimeout(limit()));
     assert_outcomes(&rt, IN_A_WHILE, Act::Send(9u128), &by, &[(Ok(()), Ok(9))])
 }
 
@@ -183,7 +184,7 @@ fn recv_before_send_then_drop_sender(rt: HostRuntime) -> Result<(), Fail> {
 
 #[test]
 fn recv_timeout_before_send_then_drop_sender(rt: HostRuntime) -> Result<(), Fail> {
-    let by = By::Receiver(RecvTimeout(hour()));
+    let by = By::Receiver(RecvTimeout(limit()));
     assert_outcomes(
         &rt,
         LATER,

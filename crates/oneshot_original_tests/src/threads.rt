@@ -1,5 +1,6 @@
 //! Both ends of a channel, each on a thread of its own.
 
+use super::times::{assert_woken_since, now};
 use oneshot::{Sender, async_channel, channel};
 use oneshot_test_uses::{FutureUse, Silence, Use};
 use std::fmt::Debug;
@@ -88,9 +89,10 @@ fn meet(here: &AtomicU64) {
 }
 
 /// What both ends return. Both threads begin at about the same time, and the sender's then sleeps for
-/// `pause`. (A sleep of no time would take some 50 microseconds.)
+/// `pause`. (A sleep of no time would take some 50 microseconds.) Fails if the receive took longer than any that is
+/// woken.
 pub(super) fn on_two_threads<
-    R: Threads + Clock + Sync,
+    R: Threads + Clock + Abort + Sync,
     T: Send + Drop,
     E: Drop,
     B,
@@ -111,14 +113,17 @@ pub(super) fn on_two_threads<
         },
         || {
             meet(&here);
-            receive(receiver)
+            let start = now(rt);
+            let received = receive(receiver);
+            assert_woken_since(rt, start);
+            received
         },
     )
 }
 
 /// What both ends of a new channel return.
 pub(super) fn outcome_of<
-    R: Threads + Wait + Clock + RandomSource + AllocGlobal + Sync,
+    R: Threads + Wait + Clock + RandomSource + AllocGlobal + Abort + Sync,
     T: Send + Drop,
 >(rt: &R, pause: Duration, act: Act<T>, by: &By) -> Result<Outcome<T>, Fail> {
     match by {

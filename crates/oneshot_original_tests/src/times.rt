@@ -1,5 +1,6 @@
 //! How long the tests wait, how late a receive may return, and what the tests do on a busy machine.
 
+use oneshot_test_uses::is_overdue;
 use std::process::Abort;
 use std::test::Fail;
 use std::thread::sleep;
@@ -10,10 +11,24 @@ pub(super) fn tenth() -> Duration {
     Duration::from_millis(100)
 }
 
-/// How long any other receive waits: longer than any test, where the original waits for a second, a tenth of one
-/// or a millisecond. If its wake were lost, the test would not end.
-pub(super) fn hour() -> Duration {
-    Duration::from_secs(3_600)
+/// How long a receive may wait that finds at once how its channel ended.
+pub(super) fn second() -> Duration {
+    Duration::from_secs(1)
+}
+
+/// The time that has passed since the clock's start. Fails if there is no clock.
+pub(super) fn now(rt: &(impl Abort + Clock)) -> Instant {
+    Instant::now(rt).ok().expect(rt, "a clock")
+}
+
+/// Fails if a receive took longer than any that is woken.
+pub(super) fn assert_woken(rt: &impl Abort, took: Duration) {
+    assert!(rt; !is_overdue(took), "a receive took {took:?}");
+}
+
+/// Fails if a receive that began at `start` took longer than any that is woken.
+pub(super) fn assert_woken_since(rt: &(impl Abort + Clock), start: Instant) {
+    assert_woken(rt, now(rt).saturating_duration_since(start));
 }
 
 /// How often a test is tried that may be late on a busy machine.
@@ -40,4 +55,10 @@ pub(super) fn in_time<F: FnMut(Duration) -> Result<bool, Fail>>(
         }
     }
     panic!(rt; "late in each of {TRIES} tries")
+}
+
+#[test]
+#[should_panic(expected = "a receive took 5s")]
+fn a_receive_that_nothing_woke_ends_a_test(rt: HostRuntime) {
+    assert_woken(&rt, Duration::from_secs(5));
 }

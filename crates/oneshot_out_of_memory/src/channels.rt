@@ -9,7 +9,7 @@ use std::sync::Wait;
 use std::sync::atomic::{AtomicU64, Ordering};
 
 /// A runtime whose drop is counted.
-struct Counted<'a, R> {
+pub(crate) struct Counted<'a, R> {
     _rt: &'a R,
     drops: &'a AtomicU64,
 }
@@ -22,13 +22,13 @@ impl<'a, R> Drop for Counted<'a, R> {
 }
 
 impl<'a, R> Counted<'a, R> {
-    fn new(rt: &'a R, drops: &'a AtomicU64) -> Counted<'a, R> {
+    pub(crate) fn new(rt: &'a R, drops: &'a AtomicU64) -> Counted<'a, R> {
         Counted { _rt: rt, drops }
     }
 }
 
 /// The question of a request.
-const TEXT: &str = "data from sync thread";
+pub(crate) const TEXT: &str = "data from sync thread";
 
 /// Calls `channel`. A refusal has to drop the runtime.
 pub(crate) fn make_channel(rt: &impl AllocGlobal) -> Result<Outcome, Wrong> {

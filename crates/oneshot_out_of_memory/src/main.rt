@@ -1,4 +1,4 @@
-//! Makes channels, requests and traces while an allocation may fail, and prints whether one did.
+//! Makes channels, requests, watches and traces while an allocation may fail, and prints whether one did.
 //!
 //! Each line of standard input names what to make, and may then give a number: how many allocations come
 //! before it.
@@ -9,6 +9,7 @@
 mod channels;
 mod outcome;
 mod traces;
+mod watches;
 
 use outcome::Wrong;
 use std::alloc::{AllocError, Global};
@@ -42,6 +43,8 @@ fn answer(rt: &(impl Print + Wait + RandomSource + AllocGlobal), line: &str) -> 
         "channel" => channels::make_channel(rt),
         "async_channel" => channels::make_async_channel(rt),
         "request" => channels::make_request(rt),
+        "watch" => watches::make_watch(rt),
+        "cancellable_request" => watches::make_cancellable_request(rt),
         "replay" => traces::make_trace(rt),
         _ => Err(Wrong::UnknownName),
     }?;

@@ -6,7 +6,7 @@ use super::races::race;
 use super::uses::{blocking_uses, trying_uses};
 use oneshot_test_uses::Use;
 use std::alloc::{AllocError, Global};
-use std::process::Abort;
+use std::process::{Abort, Termination};
 use std::random::RandomSource;
 use std::sync::Wait;
 use std::sync::atomic::{AtomicU64, Ordering};
@@ -23,6 +23,13 @@ struct Round {
     number: u64,
     /// Where the sender's side writes the number.
     note: AtomicU64,
+}
+
+impl Round {
+    /// Fails unless the note has the number.
+    fn assert_noted(&self, rt: &impl Abort) {
+        assert_eq!(rt; self.note.load(Ordering::SeqCst), self.number);
+    }
 }
 
 fn make_rounds(alloc: Global) -> Result<Vec<Round>, AllocError> {
@@ -62,7 +69,7 @@ fn assert_finds_notes<R: Threads + Wait + Abort + Clock + AllocGlobal + RandomSo
         },
         |(round, receiver)| {
             let received = using.receive(rt, receiver);
-            assert_eq!(rt; round.note.load(Ordering::SeqCst), round.number);
+            round.assert_noted(rt);
             received
         },
     );
@@ -78,6 +85,20 @@ fn each_wait_comes_after_the_note(rt: HostRuntime) -> Result<(), Fail> {
         assert_finds_notes(&rt, using)?;
     }
     Ok(())
+}
+
+#[test]
+#[should_panic(expected = "right: 7")]
+fn a_note_that_is_not_there_ends_a_test(rt: HostRuntime) {
+    let note = AtomicU64::new(0);
+    Round { number: 7, note }.assert_noted(&rt);
+}
+
+// A use that waits for nothing gets no message, and comes before the note in many rounds.
+#[test]
+#[should_panic]
+fn a_use_that_waits_for_nothing_ends_a_test(rt: HostRuntime) {
+    let _ = assert_finds_notes(&rt, &Use::JustDrop).report(&rt);
 }
 
 #[test]

@@ -5,12 +5,14 @@
 
 use super::answers::Outcome;
 use super::line::{Line, Side};
+use super::waits::{assert_woken, now};
 use std::alloc::Global;
 use std::process::Abort;
 use std::thread::{Threads, join};
 use std::time::Clock;
 
-// Makes this call in each round, with its side's value for the round, and returns the answers.
+// Makes this call in each round, with its side's value for the round, and returns the answers. Fails if a call took
+// longer than any that is woken.
 fn run<E: Drop, A: Copy, F: FnMut(E) -> A>(
     rt: &(impl Abort + Clock),
     alloc: Global,
@@ -23,8 +25,10 @@ fn run<E: Drop, A: Copy, F: FnMut(E) -> A>(
     let mut outcomes = Vec::new(alloc);
     for (round, end) in (1u64..).zip(ends) {
         let late = side.start(rt, round);
+        let start = now(rt);
         let answer = call(end);
         side.end(round);
+        assert_woken(rt, round, now(rt).saturating_duration_since(start));
         outcomes.push(Outcome { answer, late }).expect(rt, "memory");
     }
     // Fails if the other thread never ends its last round.

@@ -3,8 +3,8 @@
 use super::answers::assert_answers;
 use super::channels::channels;
 use super::races::race;
-use super::waits::patience;
 use oneshot_channel::{Receiver, Sender};
+use oneshot_test_uses::limit;
 use std::alloc::{AllocError, Global};
 use std::test::Fail;
 
@@ -32,10 +32,10 @@ fn each_thread_gets_the_message_of_the_other(rt: HostRuntime) -> Result<(), Fail
         both_ends(rt.alloc(), to_one, from_one)?,
         |(sender, mut receiver)| {
             let sent = sender.send(1).is_ok();
-            (sent, receiver.recv_timeout(patience()))
+            (sent, receiver.recv_timeout(limit()))
         },
         |(sender, mut receiver)| {
-            let received = receiver.recv_timeout(patience());
+            let received = receiver.recv_timeout(limit());
             (sender.send(2).is_ok(), received)
         },
     );

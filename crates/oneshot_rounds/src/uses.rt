@@ -1,14 +1,13 @@
 //! The uses of a receiver that last until the message comes, or none will come.
 
-use super::waits::patience;
 use futures::test::MockTask;
-use oneshot_test_uses::{FutureUse, Use};
+use oneshot_test_uses::{FutureUse, Use, limit};
 use std::random::RandomSource;
 use std::test::Fail;
 
-/// One of each that blocks.
+/// One of each that blocks. First the one with a limit: if its wake is lost, a test fails and does not wait on.
 pub(super) fn blocking_uses() -> [Use; 3] {
-    [Use::Recv, Use::RecvRef, Use::RecvTimeout(patience())]
+    [Use::RecvTimeout(limit()), Use::Recv, Use::RecvRef]
 }
 
 /// One of each that tries, polls or awaits, with a task of its own for polls.

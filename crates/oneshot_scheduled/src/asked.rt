@@ -66,6 +66,8 @@ fn kind_of(text: &str) -> Option<Kind> {
         "request" => Kind::Request,
         "nested" => Kind::Nested,
         "two" => Kind::TwoChannels,
+        "sent-sender" => Kind::SentSender,
+        "sent-receiver" => Kind::SentReceiver,
         _ => return None,
     };
     Some(kind)

@@ -1,8 +1,10 @@
 //! Runs a script of each end of a channel, each in a thread, and reports by short sleeps where it is and what each
-//! call returned. The arguments are the kind of the channel, `S` and the sender's words, `R` and the receiver's. Others are refused.
+//! call returned. The arguments are the kind of the channel, `S` and the sender's words, `R` and the receiver's. Others
+//! are refused.
 #![tactic(auto)]
 
 mod asked;
+mod brought;
 mod parcel;
 mod polls;
 mod receivers;

@@ -1,5 +1,6 @@
 //! Makes a channel of some kind, and runs a script of each end in a thread.
 
+use crate::brought::{run_sent_receiver, run_sent_sender};
 use crate::parcel::{Any, Parcel, QUESTION};
 use crate::polls::tasks_of;
 use crate::receivers::Receives;
@@ -29,6 +30,10 @@ pub enum Kind {
     Nested,
     /// Two channels, of each of which each thread has an end.
     TwoChannels,
+    /// Two channels: the message of the first brings the sender of the second.
+    SentSender,
+    /// Two channels: the message of the first brings the receiver of the second.
+    SentReceiver,
 }
 
 /// The number in each message.
@@ -69,6 +74,8 @@ pub fn run<R: Threads + Wait + Clock + RandomSource + AllocGlobal + Sync>(
         }
         Kind::Nested => run_nested(rt, scripts, content)?,
         Kind::TwoChannels => run_two(rt, &scripts, content)?,
+        Kind::SentSender => run_sent_sender(rt, &scripts, content)?,
+        Kind::SentReceiver => run_sent_receiver(rt, &scripts, content)?,
     }
     tell(rt, DONE);
     Ok(())

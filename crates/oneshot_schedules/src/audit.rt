@@ -48,9 +48,9 @@ impl Pair {
 }
 
 /// Reads a pair of scripts in two lines, as in an input of `oneshot-run`, and then a line a run: `X`, its choices, and
-/// its words. Before the scripts may stand a line `two`, if each thread has an end of two channels, and a line
-/// `refused`, if copies of wakers may be refused. Returns whether no run differs. Each differs from scripts that
-/// cannot be read.
+/// its words. Before the scripts may stand a line `two`, `sent-sender` or `sent-receiver`, if each thread has an end of
+/// two channels, and a line `refused`, if copies of wakers may be refused. Another pair may follow the runs of one.
+/// Returns whether no run differs. Each differs from scripts that cannot be read.
 pub fn audit<R: BufRead, W: Write>(
     alloc: Global,
     input: &mut R,
@@ -58,6 +58,7 @@ pub fn audit<R: BufRead, W: Write>(
     shown: Shown,
 ) -> io::Result<bool> {
     let mut pair = Pair::new(alloc);
+    let mut is_right = true;
     let mut line = String::new(alloc);
     for _ in 0..u64::MAX {
         line.clear();
@@ -66,14 +67,18 @@ pub fn audit<R: BufRead, W: Write>(
         }
         match line.trim_end().split_once(' ') {
             Some(("X", run)) => pair.hold(alloc, run, output, shown)?,
-            _ => pair.scripts.add(line.trim_end())?,
+            _ => {
+                if pair.runs > 0 {
+                    is_right = pair.end(alloc, output, shown)? && is_right;
+                    pair = Pair::new(alloc);
+                }
+                pair.scripts.add(line.trim_end())?;
+            }
         }
     }
-    if shown == Shown::Differences {
-        pair.write_counts(alloc, output)?;
-    }
+    is_right = pair.end(alloc, output, shown)? && is_right;
     output.flush()?;
-    Ok(pair.differ == 0)
+    Ok(is_right)
 }
 
 impl Pair {
@@ -124,6 +129,8 @@ impl Pair {
         }
         for model in beside.models(alloc)? {
             self.operations = self.operations.saturating_add(model.operations());
+        }
+        for model in beside.by_own_scripts(alloc)? {
             self.met.insert(model.digest())?;
         }
         Ok(())
@@ -136,10 +143,20 @@ impl Pair {
         output: &mut W,
         beside: &Beside,
     ) -> io::Result<()> {
+        let mut asked = self.scripts.read_first(alloc);
         for model in beside.models(alloc)? {
-            write_trace(alloc, output, &self.scripts, model.moves())?;
+            write_trace(output, asked, model.moves())?;
+            asked = self.scripts.read(alloc);
         }
         Ok(())
+    }
+
+    /// Writes what was counted of the runs, where no traces are shown. Returns whether no run differs.
+    fn end<W: Write>(&self, alloc: Global, output: &mut W, shown: Shown) -> io::Result<bool> {
+        if shown == Shown::Differences {
+            self.write_counts(alloc, output)?;
+        }
+        Ok(self.differ == 0)
     }
 
     fn write_counts<W: Write>(&self, alloc: Global, output: &mut W) -> io::Result<()> {
@@ -196,14 +213,13 @@ fn write_moves<W: Write>(output: &mut W, moves: &[Move]) -> io::Result<()> {
     writeln!(output)
 }
 
-/// Writes the trace of a run of the model.
+/// Writes the trace of a run of the model by scripts.
 fn write_trace<W: Write>(
-    alloc: Global,
     output: &mut W,
-    scripts: &Scripts,
+    asked: Result<Request, Differs>,
     moves: &[Move],
 ) -> io::Result<()> {
-    let Ok(asked) = scripts.read(alloc) else {
+    let Ok(asked) = asked else {
         return writeln!(output, "the scripts have changed");
     };
     let message = asked.message();

@@ -4,7 +4,7 @@ use crate::differs::Differs;
 use crate::event::event_of;
 use crate::follower::Follower;
 use crate::model::Model;
-use crate::scripts::Scripts;
+use crate::scripts::{Channels, Scripts};
 use std::alloc::{AllocError, Global};
 
 /// Where a run differs: at which of its words, from 1, and why.
@@ -17,19 +17,32 @@ pub(crate) struct Difference {
 /// A run of the model of each channel.
 #[derive(Drop)]
 pub(crate) struct Beside {
+    channels: Channels,
     first: Follower,
-    second: Option<Follower>,
+    second: Option<Second>,
+}
+
+/// A run of the model of the second channel.
+#[derive(Drop)]
+struct Second {
+    follower: Follower,
+    /// Whether the thread with the sender of the first channel has the receiver of this one.
+    is_turned: bool,
 }
 
 impl Beside {
     pub(crate) fn begin(alloc: Global, scripts: &Scripts) -> Result<Beside, Differs> {
-        let second = if scripts.has_two() {
-            Some(Follower::new(scripts.begin(alloc)?))
-        } else {
+        let second = if scripts.channels() == Channels::One {
             None
+        } else {
+            Some(Second {
+                follower: Follower::new(scripts.begin(alloc)?),
+                is_turned: scripts.channels() != Channels::SentReceiver,
+            })
         };
         Ok(Beside {
-            first: Follower::new(scripts.begin(alloc)?),
+            channels: scripts.channels(),
+            first: Follower::new(scripts.begin_first(alloc)?),
             second,
         })
     }
@@ -58,7 +71,12 @@ impl Beside {
             }
             (Some(text), Some(second)) => {
                 let event = event_of(text).ok_or(Differs::UnknownWord)?;
-                second.follow(event.by_other_thread())
+                let told = if second.is_turned {
+                    event.by_other_thread()
+                } else {
+                    event
+                };
+                second.follower.follow(told)
             }
             (Some(_), None) => Ok(()),
         }
@@ -67,14 +85,27 @@ impl Beside {
     fn end(&self) -> Result<(), Differs> {
         self.first.end()?;
         match &self.second {
-            Some(second) => second.end(),
+            Some(second) => second.follower.end(),
             None => Ok(()),
         }
     }
 
     /// Whether an end sleeps for ever.
     pub(crate) fn is_stuck(&self) -> bool {
-        self.first.is_stuck || self.second.as_ref().is_some_and(|second| second.is_stuck)
+        let second = self.second.as_ref();
+        self.first.is_stuck || second.is_some_and(|second| second.follower.is_stuck)
+    }
+
+    /// The run of the model of each channel that has the pair's own scripts.
+    pub(crate) fn by_own_scripts(&self, alloc: Global) -> Result<Vec<&Model>, AllocError> {
+        match (self.channels, self.second.as_ref()) {
+            (Channels::SentSender | Channels::SentReceiver, Some(second)) => {
+                let mut models = Vec::new(alloc);
+                models.push(&second.follower.model)?;
+                Ok(models)
+            }
+            _ => self.models(alloc),
+        }
     }
 
     /// The run of the model of each channel.
@@ -82,7 +113,7 @@ impl Beside {
         let mut models = Vec::new(alloc);
         models.push(&self.first.model)?;
         if let Some(second) = &self.second {
-            models.push(&second.model)?;
+            models.push(&second.follower.model)?;
         }
         Ok(models)
     }

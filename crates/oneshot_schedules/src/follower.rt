@@ -74,13 +74,17 @@ impl Follower {
         Ok(made)
     }
 
-    /// Makes a step of an end that no word reports. A copy is refused if a word before reported so.
+    /// Makes a step of an end that no word reports. A copy is refused if a word before reported so, and no older copy
+    /// takes its place.
     fn advance_silently(&mut self, end: End, step: Step) -> Result<Made, Differs> {
-        let given = if self.is_refused && step == Step::Copy {
-            self.is_refused = false;
-            Given::Refusal
-        } else {
+        if !self.is_refused || step != Step::Copy {
+            return self.advance(end, Given::Usual);
+        }
+        self.is_refused = false;
+        let given = if self.model.has_older_copy() {
             Given::Usual
+        } else {
+            Given::Refusal
         };
         self.advance(end, given)
     }
@@ -186,7 +190,7 @@ impl Follower {
     fn reply(&mut self, end: End, code: u64) -> Result<(), Differs> {
         let (told, message) = reply_of(code).ok_or(Differs::UnknownWord)?;
         let reply = self.end_call(end)?;
-        if self.is_refused {
+        if end == End::Receiver && self.is_refused {
             return Err(Differs::NoCopy);
         }
         if reply != told {

@@ -7,6 +7,7 @@ mod differs;
 mod event;
 mod fault;
 mod follower;
+mod kept;
 mod met;
 mod model;
 mod order;

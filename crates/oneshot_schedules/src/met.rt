@@ -159,7 +159,7 @@ fn asks_for(run: &Model, step: Step, given: Given) -> bool {
     match given {
         Given::Usual => false,
         Given::Over => step == Step::Clock && !run.computes_deadline(),
-        Given::Refusal => step == Step::Copy,
+        Given::Refusal => step == Step::Copy && !run.has_older_copy(),
     }
 }
 

@@ -1,6 +1,7 @@
 //! A run of the model with the position of each end, so that its next step is known before it is made.
 
 use crate::differs::Differs;
+use crate::kept::Kept;
 use crate::order::Order;
 use crate::tasks::Tasks;
 use oneshot_machine::machine::{End, ReceiverPos, ReceiverStart, SenderCall, SenderPos, Step};
@@ -32,6 +33,7 @@ pub(crate) struct Model {
     moves: Vec<Move>,
     order: Order,
     tasks: Tasks,
+    kept: Kept,
     message: u64,
     sender_at: Option<SenderPos>,
     receiver_at: Option<ReceiverPos>,
@@ -55,6 +57,7 @@ impl Model {
             moves: Vec::new(alloc),
             order: Order::new(alloc),
             tasks,
+            kept: Kept::new(),
             message,
             sender_at: None,
             receiver_at: None,
@@ -74,6 +77,11 @@ impl Model {
 
     pub(crate) fn tasks(&self) -> &Tasks {
         &self.tasks
+    }
+
+    /// Whether a poll whose copy is refused stores an older copy, which the future keeps.
+    pub(crate) fn has_older_copy(&self) -> bool {
+        self.kept.has_copy()
     }
 
     pub(crate) fn message(&self) -> u64 {
@@ -161,13 +169,17 @@ impl Model {
         Ok(made)
     }
 
-    /// An end that begins a call is at the call's first position.
+    /// An end that begins a call is at the call's first position. A poll's task begins it there.
     fn take_position(&mut self, end: End) {
         if end == End::Sender && self.sender_at.is_none() {
             self.sender_at = self.run.sender_call().map(SenderPos::start);
         }
         if end == End::Receiver && self.receiver_at.is_none() {
-            self.receiver_at = self.run.receiver_call().map(ReceiverPos::start);
+            let call = self.run.receiver_call();
+            self.receiver_at = call.map(ReceiverPos::start);
+            if call == Some(ReceiverStart::Poll) {
+                self.tasks.begin_poll();
+            }
         }
     }
 
@@ -176,6 +188,7 @@ impl Model {
         self.word = made.after;
         self.order.note(made)?;
         self.tasks.note(made)?;
+        self.kept.note(made);
         match made.step {
             Step::Park => self.parks = self.parks.saturating_add(1),
             Step::Word(_) => self.operations = self.operations.saturating_add(1),
@@ -197,16 +210,11 @@ impl Model {
         Ok(())
     }
 
-    /// The call under way has replied. If the next is a poll, its task begins it at once.
+    /// The call under way has replied.
     fn end_call(&mut self, end: End) {
         match end {
             End::Sender => self.sender_at = None,
-            End::Receiver => {
-                self.receiver_at = None;
-                if self.run.receiver_call() == Some(ReceiverStart::Poll) {
-                    self.tasks.begin_poll();
-                }
-            }
+            End::Receiver => self.receiver_at = None,
         }
     }
 }

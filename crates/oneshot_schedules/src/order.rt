@@ -66,8 +66,8 @@ impl Order {
         }
     }
 
-    /// A digest of both ends' numbers, which distinguishes orders: it mixes each number in at once, with the constants of
-    /// FNV-1a.
+    /// A digest of both ends' numbers, which distinguishes orders: it mixes each number in at once, with the constants
+    /// of FNV-1a.
     pub(crate) fn digest(&self) -> u64 {
         let mut state = 0xcbf2_9ce4_8422_2325_u64;
         for steps in [&self.sender, &self.receiver] {

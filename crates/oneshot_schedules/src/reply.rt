@@ -1,35 +1,12 @@
-//! The codes of replies, by which a program under the scheduler reports what a call returned. Each has the name that
-//! it has in that program.
+//! The replies that the codes of a program under the scheduler mean.
 
+use oneshot_codes::{
+    DISCONNECTED, DROPPED, EMPTY, FUTURE, GOT, NO, PENDING, REFUSED, SENT, TASKS, TIMED_OUT, YES,
+};
 use oneshot_machine::machine::Reply;
 
-const SENT: u64 = 100;
-
-const REFUSED: u64 = 101;
-
-const YES: u64 = 102;
-
-const NO: u64 = 103;
-
-const DROPPED: u64 = 104;
-
-const EMPTY: u64 = 105;
-
-const DISCONNECTED: u64 = 106;
-
-const TIMED_OUT: u64 = 107;
-
-const PENDING: u64 = 109;
-
-const FUTURE: u64 = 111;
-
-// A message is added to it.
-const GOT: u64 = 1000;
-
+// The last code of a message.
 const LAST_GOT: u64 = 1999;
-
-// What a task's code adds to: two codes a task, for not woken and for woken.
-const TASKS: u64 = 4000;
 
 /// The reply that a code means, and its message if it has one.
 pub(crate) fn reply_of(code: u64) -> Option<(Reply, Option<u64>)> {

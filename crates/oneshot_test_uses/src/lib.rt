@@ -82,6 +82,17 @@ impl From<RecvTimeoutError> for Silence {
     }
 }
 
+/// How long a receive may wait for another thread.
+pub fn limit() -> Duration {
+    Duration::from_secs(10)
+}
+
+/// Whether a receive took longer than any that is woken: a wake takes microseconds, and on a busy machine not
+/// seconds. A receive that nothing wakes takes all of its limit.
+pub fn is_overdue(took: Duration) -> bool {
+    took >= Duration::from_secs(5)
+}
+
 /// More looks than are made before the sender acts: some ten seconds of them.
 const LOOKS: u64 = 20_000_000;
 

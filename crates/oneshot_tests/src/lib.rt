@@ -9,3 +9,5 @@ mod ends;
 mod pages;
 #[cfg(test)]
 mod reply;
+#[cfg(test)]
+mod watches;

@@ -13,7 +13,7 @@ use std::test::Fail;
 use std::time::Duration;
 
 /// A text of 21 bytes.
-const TEXT: &str = "data from sync thread";
+pub(crate) const TEXT: &str = "data from sync thread";
 
 pub(crate) type Ends<Rt> = (Request<String, Length>, Ticket<String, Length, Rt>);
 
@@ -34,7 +34,7 @@ pub(crate) fn answer(request: Request<String, Length>) -> Result<Result<(), Leng
     }
 }
 
-fn bytes_of(length: Length) -> usize {
+pub(crate) fn bytes_of(length: Length) -> usize {
     length.bytes()
 }
 

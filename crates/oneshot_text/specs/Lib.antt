@@ -1,5 +1,7 @@
 -- What a text asks for: `Cut`, `Line`, `Sender`, `Receiver`, `Future`, `Schedule`, `Request`. Its first fault:
--- `Grammar`, `LineFault`, `FirstFault`. The text of a run: `Names`, `ReplyText`, `EntryText`, `RestText`, `TraceText`.
+-- `Grammar`, `LineFault`, `FirstFault`. The text of a run: `Names`, `ReplyText`, `EntryText`, `RestText`, `TraceText`,
+-- and with each entry's call `CallText`.
+pub mod CallText
 pub mod Cut
 pub mod EntryText
 pub mod FirstFault

@@ -16,4 +16,4 @@ mod words;
 pub use fault::{Malformed, ParseError};
 pub use line::Line;
 pub use request::{Request, parse_request};
-pub use show::{EntryLine, ReplyText, write_run};
+pub use show::{CalledLine, EntryLine, ReplyText, write_run};

@@ -2,17 +2,17 @@
 
 ghost use Rattle.std.specs.Prelude.{◌≡◌, ℕ, ◌+◌, ◌-◌, ◌^◌, ◌<◌, List, ◌++◌, Some, OnOk, length, unwrap_or};
 ghost use Rattle.std.specs.Io.KnownBytes.{Appends};
-ghost use Rattle.oneshot_world.specs.World.{turn};
-ghost use Rattle.oneshot_replay.specs.Scene.{receiver_call_of};
 ghost use Rattle.oneshot_text.specs.Page.{held};
 ghost use Rattle.oneshot_text.specs.TraceText.{end_text, IsTextOf};
 
+mod called;
 mod entry;
 mod names;
 mod page;
 mod reply;
 mod rest;
 
+pub use called::CalledLine;
 pub use entry::EntryLine;
 use oneshot_replay::{Move, Replayer};
 use page::Page;
@@ -42,29 +42,9 @@ pub fn write_run<W: Write>(
 {
     let mut page = Page::new();
     for m in moves {
-        page.add(output, next_line(&mut run, *m, message))?;
+        page.add(output, EntryLine::of_step(&mut run, *m, message))?;
     }
     write_end(output, page, run)
-}
-
-/// Makes the move `m` of `run`, and returns its line.
-fn next_line(run: &mut Replayer<u64>, m: Move, message: u64) -> EntryLine
-    requires room { run.old.count < 2 ^ 64 - 1 }
-    ensures turn { turn (run.old.count + 1) run.old.world m ≡ Some (result.entry, run.new.world) }
-    ensures number { result.number ≡ run.old.count + 1 }
-    ensures call { result.call ≡ receiver_call_of run.old }
-    ensures message { result.message ≡ message }
-    ensures count { run.new.count ≡ run.old.count + 1 }
-    ensures same_message { run.new.message ≡ run.old.message }
-{
-    let call = run.receiver_call();
-    let entry = run.step(m);
-    EntryLine {
-        number: run.count(),
-        entry,
-        call,
-        message,
-    }
 }
 
 /// Writes the lines that wait, where the message is left, and whether the block is freed.

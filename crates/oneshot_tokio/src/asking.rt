@@ -31,21 +31,21 @@ where
 
 /// What a client awaits, and how it stops the server then.
 #[derive(Drop)]
-struct Round {
+pub(crate) struct Round {
     /// The requests whose replies it awaits.
-    all: Vec<Pending>,
+    pub(crate) all: Vec<Pending>,
     /// The server's report of the request that was given up.
-    given_up: Within<Service, (), ()>,
+    pub(crate) given_up: Within<Service, (), ()>,
     /// The sender of the stop signal.
-    stop: Sender<()>,
+    pub(crate) stop: Sender<()>,
 }
 
 /// What came of a round: the replies, and how the server dealt with the request that was given up.
-type Served = (Vec<Reply>, Option<Service>);
+pub(crate) type Served = (Vec<Reply>, Option<Service>);
 
 impl Round {
     /// Awaits each reply, and the report, and stops the server. `Err`: out of memory, or the executor failed.
-    fn finish<R>(self, rt: &R) -> io::Result<Served>
+    pub(crate) fn finish<R>(self, rt: &R) -> io::Result<Served>
     where
         R: Wait + RandomSource + AllocGlobal,
         ensures { IfOk result

@@ -33,7 +33,7 @@ pub struct Pending {
     /// The number.
     pub root: u32,
     /// The future of its square, with a deadline.
-    square: Within<Square, (), Asked<u32>>,
+    pub(crate) square: Within<Square, (), Asked<u32>>,
     ghost own: { (timeout_future square.receiver).about.question ≡ root },
 }
 

@@ -5,15 +5,19 @@ ghost use Rattle.std.specs.Prelude.{◌≡◌, IfOk};
 
 mod asking;
 mod client;
+mod meeting;
 mod pool;
 mod promised;
 mod runtime;
 mod server;
 mod square;
+#[cfg(test)]
+mod tests;
 mod ticket;
 mod within;
 
 use crate::asking::asked;
+use crate::meeting::met;
 use crate::pool::{Pool, with_pool};
 use crate::promised::{Below, item_within};
 use crate::server::serve;
@@ -26,7 +30,7 @@ use std::io;
 use std::random::RandomSource;
 use std::sync::Wait;
 use std::thread::{Threads, join};
-use std::time::{Clock, Duration};
+use std::time::{Clock, Duration, Instant};
 
 // The longest wait for a message that comes.
 const SECONDS: u64 = 60;
@@ -34,28 +38,82 @@ const SECONDS: u64 = 60;
 // The longest wait for a message that does not come.
 const MILLISECONDS: u64 = 20;
 
+/// How many threads run tasks.
+const WORKERS: usize = 3;
+
 fn main(rt: HostRuntime) -> io::Result<()> {
-    with_pool(&rt, 3, |pool| show(&rt, &pool))?
+    with_pool(&rt, WORKERS, |pool| show(&rt, &pool))?
+}
+
+/// How many messages came, and how many did not.
+#[derive(Drop)]
+struct Tally {
+    came: u64,
+    timed_out: u64,
+    lost: u64,
+}
+
+impl Tally {
+    fn count(&mut self, came: Result<u64, RecvTimeoutError>) {
+        let number = match came {
+            Ok(_) => &mut self.came,
+            Err(RecvTimeoutError::Timeout) => &mut self.timed_out,
+            Err(RecvTimeoutError::Disconnected) => &mut self.lost,
+        };
+        *number = number.saturating_add(1);
+    }
 }
 
 fn show<R>(rt: &R, pool: &Pool) -> io::Result<()>
 where
     R: AllocGlobal + Print + Threads + Wait + Clock + RandomSource + Sync,
 {
-    show_reply(rt, pool)?;
-    show_late_reply(rt, pool)?;
-    show_lost_request(rt, pool)?;
-    show_item(rt, pool)?;
-    show_late_item(rt, pool)?;
-    show_server(rt, pool)
+    let mut tally = Tally {
+        came: 0,
+        timed_out: 0,
+        lost: 0,
+    };
+    show_reply(rt, pool, &mut tally)?;
+    show_late_reply(rt, pool, &mut tally)?;
+    show_lost_request(rt, pool, &mut tally)?;
+    show_item(rt, pool, &mut tally)?;
+    show_late_item(rt, pool, &mut tally)?;
+    let together = met(rt, pool, WORKERS)?;
+    println!(rt; "pool: {together} tasks at once")?;
+    show_server(rt, pool, &mut tally)?;
+    let Tally {
+        came,
+        timed_out,
+        lost,
+    } = tally;
+    println!(rt; "in all: {came} came, {timed_out} timed out, {lost} were lost")
 }
 
-/// Prints the value that came, or why none did.
-fn show_value<R: Print>(rt: &R, what: &str, came: Result<u64, RecvTimeoutError>) -> io::Result<()> {
+/// Counts and prints the value that came, or why none did.
+fn show_value<R: Print>(
+    rt: &R,
+    tally: &mut Tally,
+    what: &str,
+    came: Result<u64, RecvTimeoutError>,
+) -> io::Result<()> {
+    tally.count(came);
     match came {
         Ok(value) => println!(rt; "{what}: {value}"),
         Err(error) => println!(rt; "{what}: {error}"),
     }
+}
+
+/// Prints whether a wait that began at `start` lasted to its limit.
+fn show_wait<R: Print + Clock>(
+    rt: &R,
+    what: &str,
+    start: Instant,
+    limit: Duration,
+) -> io::Result<()> {
+    if start.elapsed(rt)? < limit {
+        return println!(rt; "{what}: gave up before its limit");
+    }
+    println!(rt; "{what}: waited to its limit")
 }
 
 /// Makes a request for the square of `root`, and its ticket. `Err`: out of memory.
@@ -68,7 +126,7 @@ fn square_of(
     request((), alloc, root).map_err(|_| AllocError)
 }
 
-fn show_reply<R>(rt: &R, pool: &Pool) -> io::Result<()>
+fn show_reply<R>(rt: &R, pool: &Pool, tally: &mut Tally) -> io::Result<()>
 where
     R: AllocGlobal + Print + Threads + Wait + Clock + RandomSource + Sync,
 {
@@ -78,24 +136,26 @@ where
         move || serve(request),
         move || square_within(rt, pool.time(), Duration::from_secs(SECONDS), ticket),
     );
-    show_value(rt, "ticket", square?)
+    show_value(rt, tally, "ticket", square?)
 }
 
-fn show_late_reply<R>(rt: &R, pool: &Pool) -> io::Result<()>
+fn show_late_reply<R>(rt: &R, pool: &Pool, tally: &mut Tally) -> io::Result<()>
 where
     R: AllocGlobal + Print + Wait + Clock + RandomSource,
 {
     let (request, ticket) = square_of(rt.alloc(), 9)?;
     let limit = Duration::from_millis(MILLISECONDS);
+    let start = Instant::now(rt)?;
     let square = square_within(rt, pool.time(), limit, ticket)?;
-    show_value(rt, "ticket", square)?;
+    show_wait(rt, "ticket", start, limit)?;
+    show_value(rt, tally, "ticket", square)?;
     match request.answer(Square::of(9)) {
         Ok(()) => println!(rt; "ticket: the reply was sent"),
         Err(refused) => println!(rt; "ticket: {} came back", refused.into_inner().value),
     }
 }
 
-fn show_lost_request<R>(rt: &R, pool: &Pool) -> io::Result<()>
+fn show_lost_request<R>(rt: &R, pool: &Pool, tally: &mut Tally) -> io::Result<()>
 where
     R: AllocGlobal + Print + Wait + Clock + RandomSource,
 {
@@ -103,10 +163,10 @@ where
     drop(request);
     let limit = Duration::from_secs(SECONDS);
     let square = square_within(rt, pool.time(), limit, ticket)?;
-    show_value(rt, "ticket", square)
+    show_value(rt, tally, "ticket", square)
 }
 
-fn show_item<R>(rt: &R, pool: &Pool) -> io::Result<()>
+fn show_item<R>(rt: &R, pool: &Pool, tally: &mut Tally) -> io::Result<()>
 where
     R: AllocGlobal + Print + Threads + Wait + Clock + RandomSource + Sync,
 {
@@ -119,35 +179,37 @@ where
             requires { index.about.0 ≡ 3 }
         { item_within(rt, pool.time(), limit, &[10, 20, 30], index) },
     );
-    show_value(rt, "promise", item?)
+    show_value(rt, tally, "promise", item?)
 }
 
-fn show_late_item<R>(rt: &R, pool: &Pool) -> io::Result<()>
+fn show_late_item<R>(rt: &R, pool: &Pool, tally: &mut Tally) -> io::Result<()>
 where
     R: AllocGlobal + Print + Wait + Clock + RandomSource,
 {
     let (sender, index) = async_channel_for((), rt.alloc(), &Below(3))?;
     let limit = Duration::from_millis(MILLISECONDS);
+    let start = Instant::now(rt)?;
     let item = item_within(rt, pool.time(), limit, &[10, 20, 30], index)?;
-    show_value(rt, "promise", item)?;
+    show_wait(rt, "promise", start, limit)?;
+    show_value(rt, tally, "promise", item)?;
     match sender.send_kept(2) {
         Ok(()) => println!(rt; "promise: the index was sent"),
         Err(refused) => println!(rt; "promise: {} came back", refused.into_inner()),
     }
 }
 
-fn show_server<R>(rt: &R, pool: &Pool) -> io::Result<()>
+fn show_server<R>(rt: &R, pool: &Pool, tally: &mut Tally) -> io::Result<()>
 where
     R: AllocGlobal + Print + Threads + Wait + Clock + RandomSource + Sync,
 {
     let roots = [3, 5, 8, 13, 21, 34, 55, 89];
     let outcome = asked(rt, pool, &roots, 144, Duration::from_secs(SECONDS))?;
     for reply in outcome.replies {
-        show_value(rt, "server", reply.square)?;
+        show_value(rt, tally, "server", reply.square)?;
     }
     match outcome.given_up {
         Some(service) => println!(rt; "given up: {service:?}")?,
         None => println!(rt; "given up: no report")?,
     }
-    show_value(rt, "after the stop", outcome.after.square)
+    show_value(rt, tally, "after the stop", outcome.after.square)
 }

@@ -1,4 +1,5 @@
-//! The uses under tokio's own runtime. Only a program that may use the network can make one, so these are not run here.
+//! The uses under tokio's own runtime. Nothing here runs them: a `Runtime` is made with the permission `Net`, which no
+//! crate of this repository may have (`HANDLES`), not even in a test. They are proved, and their parts run on a `Pool`.
 
 ghost use Rattle.std.specs.Prelude.{◌≡◌, ◌*◌, ◌<◌, IfOk};
 

@@ -1,7 +1,7 @@
 //! A message that a task awaits with a deadline, as a thread does by `recv_timeout`.
 
 ghost use Rattle.std.specs.Prelude.{◌≡◌, ◌⊎◌, IfOk};
-ghost use Rattle.tokio.specs.Timers.{sleep_source, timeout_future, timeout_delay};
+ghost use Rattle.tokio.specs.Timers.{sleep_source, sleep_deadline, timeout_future, timeout_delay, IsDelayedBy};
 
 use futures::Future;
 use futures::task::{Context, Poll};
@@ -27,7 +27,8 @@ pub fn recv_within<T: Drop, Rt: Drop, P: Promise<T>>(
     limit: Duration,
     receiver: AsyncReceiver<T, Rt, P>,
 ) -> io::Result<Within<T, Rt, P>>
-    ensures { IfOk result (λ within. timeout_future within.receiver ≡ receiver) }
+    ensures own { IfOk result (λ within. timeout_future within.receiver ≡ receiver) }
+    ensures deadline { IfOk result (λ within. IsDelayedBy limit (sleep_deadline (timeout_delay within.receiver))) }
 {
     let receiver = time.timeout(clock, limit, receiver)?;
     Ok(Within { receiver })

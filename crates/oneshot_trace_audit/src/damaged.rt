@@ -15,7 +15,7 @@ use crate::scripts::{MESSAGE, Receiving, Sending};
 use oneshot_machine::machine::End;
 use oneshot_text::EntryLine;
 use std::alloc::{AllocError, AllocGlobal, Global};
-use std::process::Abort;
+use std::process::{Abort, Termination};
 use std::test::Fail;
 
 /// What is wrong, the schedule of the right trace, the changes that damage it, and the auditor's finding.
@@ -72,6 +72,42 @@ fn assert_refused(rt: &(impl Abort + AllocGlobal), damaged: Damaged) -> Result<(
     Ok(())
 }
 
+/// A trace without a damage, with a finding that the auditor does not make.
+const NO_DAMAGE: Damaged = (
+    Sending::Send,
+    Receiving::TryDrop,
+    &[(
+        "no damage",
+        "ssrrrrr",
+        &[],
+        (1, Fault::FreedTooEarly(End::Sender)),
+    )],
+);
+
+#[test]
+#[should_panic(expected = "failed: no damage")]
+fn a_damage_that_is_not_found_ends_a_test(rt: HostRuntime) {
+    let _ = assert_refused(&rt, NO_DAMAGE).report(&rt);
+}
+
+// Passes a trace that has lost an entry as a right one.
+fn find_in_a_damaged_trace(rt: &(impl Abort + AllocGlobal)) -> Result<(), Fail> {
+    let (sender, receiver, damages) = NO_DAMAGE;
+    let scripts = scripts_of(rt.alloc(), sender, receiver)?;
+    for damage in damages {
+        let told = right_trace(rt, sender, receiver, damage.1)?;
+        let told = damaged_by(rt, told, &[Edit::Remove(5)])?;
+        assert_finds(rt, &scripts, told, damage)?;
+    }
+    Ok(())
+}
+
+#[test]
+#[should_panic(expected = "no damage, undamaged")]
+fn a_trace_that_is_not_right_ends_a_test(rt: HostRuntime) {
+    let _ = find_in_a_damaged_trace(&rt).report(&rt);
+}
+
 #[test]
 fn a_message_that_is_received_or_dropped(rt: HostRuntime) -> Result<(), Fail> {
     assert_refused(&rt, received::TAKEN)?;
@@ -118,6 +154,7 @@ fn lines_of(alloc: Global, told: &DrawnTrace) -> Result<String, AllocError> {
             number,
             entry: *entry,
             call: None,
+            sender_call: None,
             message: MESSAGE,
         };
         write!(text, "{line}\n")?;

@@ -8,7 +8,7 @@ use crate::run::{print_run, run, scripts_of};
 use crate::scripts::{Receiving, Sending};
 use oneshot_replay::Move;
 use std::alloc::AllocGlobal;
-use std::process::Abort;
+use std::process::{Abort, Termination};
 use std::test::Fail;
 
 /// How many moves are drawn from a seed.
@@ -63,6 +63,12 @@ fn assert_drawn(rt: &(impl Abort + AllocGlobal), pair: Pair) -> Result<(), Fail>
     let found = (digests.traces.value(), digests.texts.value());
     assert_eq!(rt; found, (traces, texts), "{sender:?} beside {receiver:?}");
     Ok(())
+}
+
+#[test]
+#[should_panic(expected = "Send beside Recv")]
+fn another_digest_ends_a_test(rt: HostRuntime) {
+    let _ = assert_drawn(&rt, (Sending::Send, Receiving::Recv, 0, 0)).report(&rt);
 }
 
 fn schedule(seed: u64) -> [Move; MOVES] {

@@ -40,25 +40,29 @@ pub fn least_divisor(number: u32) -> Option<Divisor>
 
 /// Sends the least divisor of `number`. If there is none, drops the sender without a message.
 ///
-/// `number` is the number to divide, and `waiter` sends the divisor to whoever awaits it.
-pub fn send_divisor(number: u32, waiter: Sender<Divisor>) {
-    if let Some(divisor) = least_divisor(number) {
-        // If the receiver is gone, nobody needs the divisor.
-        let _ = waiter.send(divisor);
-    }
+/// `number` is the number to divide, and `waiter` sends the divisor to whoever awaits it. The result is how many
+/// numbers it tried as divisors.
+pub fn send_divisor(number: u32, waiter: Sender<Divisor>) -> u32 {
+    let Some(divisor) = least_divisor(number) else {
+        return number.saturating_sub(2);
+    };
+    let tried = divisor.value.saturating_sub(1);
+    // If the receiver is gone, nobody needs the divisor.
+    let _ = waiter.send(divisor);
+    tried
 }
 
 // It is not `Drop`, so a program that only lets it go does not compile.
 /// A search on its own thread, which has to be joined.
 pub struct Search {
-    thread: JoinHandle<()>,
+    thread: JoinHandle<u32>,
 }
 
 impl Search {
-    /// Waits until the thread has ended.
-    pub fn join<R: Threads>(self, rt: &R) {
+    /// Waits until the thread has ended, and returns how many numbers it tried as divisors.
+    pub fn join<R: Threads>(self, rt: &R) -> u32 {
         let Search { thread } = self;
-        thread.join(rt);
+        thread.join(rt)
     }
 }
 
@@ -97,22 +101,33 @@ where
     }
 }
 
+/// What came of a search that has ended.
+#[derive(Drop)]
+pub struct Searched {
+    /// The divisor, above 1 and below the number. `Err(RecvError)`: the search ended without one.
+    pub found: Result<u32, RecvError>,
+    /// How many numbers it tried as divisors. Only the search's thread knows this, and tells it when it is joined.
+    pub tried: u32,
+}
+
 /// Searches for a divisor of `number` on another thread, awaits it, and joins the thread.
 ///
 /// `rt` runs the thread and the executor, `alloc` allocates the channel, and `number` is the number to
-/// divide. Inner `Ok`: the divisor, above 1 and below the number. `Err(RecvError)`: the search ended
-/// without one. Outer `Err`: out of memory, no thread could be started, or the executor failed.
+/// divide. `Err`: out of memory, no thread could be started, or the executor failed.
 pub fn divisor_of<R: Threads + Wait + RandomSource + AllocGlobal>(
     rt: &R,
     alloc: Global,
     number: u32,
-) -> io::Result<Result<u32, RecvError>>
-    ensures divides { IfOk result (λ found. IfOk found (λ value. number % value ≡ 0)) }
-    ensures proper { IfOk result (λ found. IfOk found (λ value. (1 < value) × (value < number))) }
+) -> io::Result<Searched>
+    ensures divides { IfOk result (λ searched. IfOk searched.found (λ value. number % value ≡ 0)) }
+    ensures proper { IfOk result (λ searched. IfOk searched.found (λ value. (1 < value) × (value < number))) }
 {
     let (waiter, receiver) = async_channel((), alloc)?;
     let search = start(rt, number, waiter)?;
     let found = await_divisor(rt, number, receiver);
-    search.join(rt);
-    found
+    let tried = search.join(rt);
+    Ok(Searched {
+        found: found?,
+        tried,
+    })
 }

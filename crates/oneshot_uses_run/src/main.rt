@@ -95,7 +95,7 @@ fn show_replies<R: AllocGlobal + Print + Threads + Wait + RandomSource + Sync>(
 
 fn show_divisors<R: AllocGlobal + Print + Threads + Wait + RandomSource>(rt: &R) -> io::Result<()> {
     for number in [91, 97] {
-        match divisor_of(rt, rt.alloc(), number)? {
+        match divisor_of(rt, rt.alloc(), number)?.found {
             Ok(value) => println!(rt; "divisor: {value}")?,
             Err(error) => println!(rt; "divisor: {error}")?,
         }

@@ -12,10 +12,9 @@
 #include <time.h>
 #include <ucontext.h>
 
-// The lengths of sleeps by which the program tells where it is, in nanoseconds. The others, up to the last, tell what a
-// call returned.
-enum { RECORD = 1, RELEASE, READY, BEGIN_SENDER, BEGIN_RECEIVER, END_SENDER, END_RECEIVER, OPENING, OPENED, DONE,
-       MESSAGE, AT_FIRST, AT_SECOND, TIMEOUT = 20, DEADLINE, LAST_TOLD = 9999 };
+// The lengths of sleeps by which the program tells where it is, in nanoseconds, are given to the compiler (RECORD and
+// the like, of crates/oneshot_codes). The others, up to the last, tell what a call returned.
+enum { LAST_TOLD = 9999 };
 enum { NANOSECONDS = 1000000000, LATER = 1000000, NEVER = 1000000000 };
 
 __thread int self = OTHER;
@@ -168,6 +167,7 @@ static void open_channel(int is_open) {
 static void go_to_channel(int channel) {
     if (is_end()) {
         tell(" %c.%s", "SR"[self], prime(at_channel));
+        note_second(self);
     }
     at_channel = channel;
 }
@@ -228,24 +228,37 @@ int nanosleep(const struct timespec *length, struct timespec *left) {
     return 0;
 }
 
-// Has the kernel hand back each futex call from the program's own code, which no library stands before.
+// The parts of an address as the kernel's filter reads it: it compares numbers of 32 bits alone.
+#define HIGH(address) ((uint32_t)((address) >> 32))
+#define LOW(address) ((uint32_t)(address))
+#define LOAD(field) BPF_STMT(BPF_LD | BPF_W | BPF_ABS, field)
+// A jump over so many lines, where the comparison holds and where it does not.
+#define JUMP(comparison, number, holds, else) BPF_JUMP(BPF_JMP | comparison | BPF_K, number, holds, else)
+
+// Has the kernel hand back each futex call from the program's own code, which no library stands before. The program may
+// lie across a multiple of 4 GiB.
 void begin_calls(void) {
-    uint32_t high = program_begins >> 32, low = (uint32_t)program_begins, until = (uint32_t)program_ends;
+    enum { NUMBER = offsetof(struct seccomp_data, nr), CALLER = offsetof(struct seccomp_data, instruction_pointer) };
     struct sock_filter filter[] = {
-        BPF_STMT(BPF_LD | BPF_W | BPF_ABS, offsetof(struct seccomp_data, nr)),
-        BPF_JUMP(BPF_JMP | BPF_JEQ | BPF_K, SYS_futex, 0, 6),
-        BPF_STMT(BPF_LD | BPF_W | BPF_ABS, offsetof(struct seccomp_data, instruction_pointer) + 4),
-        BPF_JUMP(BPF_JMP | BPF_JEQ | BPF_K, high, 0, 4),
-        BPF_STMT(BPF_LD | BPF_W | BPF_ABS, offsetof(struct seccomp_data, instruction_pointer)),
-        BPF_JUMP(BPF_JMP | BPF_JGE | BPF_K, low, 0, 2),
-        BPF_JUMP(BPF_JMP | BPF_JGE | BPF_K, until, 1, 0),
+        LOAD(NUMBER),
+        JUMP(BPF_JEQ, SYS_futex, 0, 11),
+        LOAD(CALLER + 4),
+        JUMP(BPF_JGT, HIGH(program_begins), 3, 0),
+        JUMP(BPF_JEQ, HIGH(program_begins), 0, 8),
+        LOAD(CALLER),
+        JUMP(BPF_JGE, LOW(program_begins), 0, 6),
+        LOAD(CALLER + 4),
+        JUMP(BPF_JGT, HIGH(program_ends), 4, 0),
+        JUMP(BPF_JEQ, HIGH(program_ends), 0, 2),
+        LOAD(CALLER),
+        JUMP(BPF_JGE, LOW(program_ends), 1, 0),
         BPF_STMT(BPF_RET | BPF_K, SECCOMP_RET_TRAP),
         BPF_STMT(BPF_RET | BPF_K, SECCOMP_RET_ALLOW),
     };
     struct sock_fprog program = {sizeof filter / sizeof *filter, filter};
     struct sigaction action = {.sa_flags = SA_SIGINFO | SA_NODEFER, .sa_sigaction = on_call};
-    if (sigaction(SIGSYS, &action, NULL) != 0 || program_ends >> 32 != high ||
-        prctl(PR_SET_NO_NEW_PRIVS, 1, 0, 0, 0) != 0 || prctl(PR_SET_SECCOMP, SECCOMP_MODE_FILTER, &program) != 0) {
+    if (sigaction(SIGSYS, &action, NULL) != 0 || prctl(PR_SET_NO_NEW_PRIVS, 1, 0, 0, 0) != 0 ||
+        prctl(PR_SET_SECCOMP, SECCOMP_MODE_FILTER, &program) != 0) {
         give_up("the kernel hands no call back");
     }
 }

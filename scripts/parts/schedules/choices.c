@@ -9,7 +9,7 @@ enum { GOES, ENDS_BY_CHANCE, ENDS_BY_TIME, WAYS, KEYS = ENDS * WAYS };
 
 static struct {
     enum state state;
-    int place, writes, timed, futile;
+    int place, writes, timed, futile, at_second;
     enum woken woken;
     uintptr_t address;
     int turn;
@@ -51,6 +51,15 @@ void note_futile(int end) {
     ends[end].futile = 1;
 }
 
+void note_second(int end) {
+    ends[end].at_second = 1;
+}
+
+// Whether the receiver waits for the message of its first channel.
+static int waits_for_message(int end) {
+    return settings.sent && end == RECEIVER && !ends[SENDER].at_second;
+}
+
 // Whether a key's step writes at its place. A sleep's end is at the word that it sleeps on, and counts as a write.
 static int writes_of(int key) {
     return key % WAYS != GOES || ends[key / WAYS].writes;
@@ -66,7 +75,7 @@ static int list_keys(int *keys) {
     int count = 0;
     for (int end = 0; end < ENDS; end++) {
         int other_goes = ends[!end].state == AT_WORD && !ends[!end].futile;
-        if (ends[end].state == AT_WORD && !(ends[end].futile && other_goes)) {
+        if (ends[end].state == AT_WORD && !(ends[end].futile && other_goes) && !waits_for_message(end)) {
             keys[count++] = end * WAYS + GOES;
         } else if (ends[end].state == ASLEEP) {
             if (spurious_left > 0) {

@@ -7,12 +7,15 @@
 #include <stdlib.h>
 #include <string.h>
 #include <sys/mman.h>
+#include <sys/prctl.h>
 #include <sys/syscall.h>
 #include <sys/wait.h>
 #include <time.h>
 #include <unistd.h>
 
-enum { LONGEST_RUN = 20, ROOM_LEFT = 256, UNUSABLE = 96 };
+// A run has so many seconds, and once more so many where the machine was too slow for it; at most so often in all.
+enum { LONGEST_RUN = 20, LONGEST_AGAIN = 60, MOST_AGAIN = 3 };
+enum { ROOM_LEFT = 256, UNUSABLE = 96 };
 
 struct settings settings = {.spurious = 1, .readings = 8, .reduce = 1, .runs = -1, .seconds = -1};
 static const char SCHEDULE[] = "schedule=";
@@ -20,7 +23,7 @@ struct record *record;
 uintptr_t program_begins, program_ends;
 static int is_child;
 static volatile sig_atomic_t interrupted;
-static struct { long runs, pruned, points, longest; } found;
+static struct { long runs, pruned, points, longest, died, again; } found;
 
 int in_child(void) {
     return is_child;
@@ -115,6 +118,9 @@ static void print_run(int status) {
         printf(" !died:%d", WIFSIGNALED(status) ? WTERMSIG(status) : WEXITSTATUS(status));
     }
     printf("\n");
+    if (fflush(stdout) != 0) {
+        give_up("nobody reads the runs");
+    }
 }
 
 static void count_run(int status) {
@@ -123,6 +129,7 @@ static void count_run(int status) {
         return;
     }
     found.runs++;
+    found.died += !record->ended;
     found.points += record->points;
     found.longest = record->points > found.longest ? record->points : found.longest;
     print_run(status);
@@ -149,23 +156,47 @@ static int may_go_on(double begun) {
 static void begin_record(void) {
     record->count = record->ended = record->pruned = record->length = record->points = 0;
     record->text[0] = 0;
-    fflush(stdout);
 }
 
-// Returns 1 in each child, and 0 once no other run is left, or there may be none.
+static pid_t begin_child(int seconds) {
+    begin_record();
+    pid_t child = fork();
+    if (child == 0) {
+        is_child = 1;
+        prctl(PR_SET_PDEATHSIG, SIGKILL);
+        alarm(seconds);
+    }
+    return child;
+}
+
+// Makes a run in a child of its own, and once more the same run where its time was over before its end. Returns 1 in
+// the child.
+static int make_run(int *status) {
+    for (int again = 0;; again = 1) {
+        pid_t child = begin_child(again ? LONGEST_AGAIN : LONGEST_RUN);
+        if (child == 0) {
+            return 1;
+        }
+        if (child < 0 || waitpid(child, status, 0) != child) {
+            give_up("no child, or none that ends");
+        }
+        int was_slow = !record->ended && WIFSIGNALED(*status) && WTERMSIG(*status) == SIGALRM;
+        if (!was_slow || again || interrupted || found.again == MOST_AGAIN) {
+            return 0;
+        }
+        found.again++;
+    }
+}
+
+// Returns 1 in each child, and 0 once no other run is left, or there may be none. Behind a run that died there may be
+// others, which nothing has gone through.
 int explore(void) {
     double begun = now();
     int more = 1, status;
+    fflush(stdout);
     while (more && may_go_on(begun)) {
-        begin_record();
-        pid_t child = fork();
-        if (child == 0) {
-            is_child = 1;
-            alarm(LONGEST_RUN);
+        if (make_run(&status)) {
             return 1;
-        }
-        if (child < 0 || waitpid(child, &status, 0) != child) {
-            give_up("no child, or none that ends");
         }
         if (interrupted) {
             break;
@@ -173,9 +204,8 @@ int explore(void) {
         count_run(status);
         more = next_choices();
     }
-    fflush(stdout);
-    fprintf(stderr, "runs %ld pruned %ld points %ld longest %ld complete %d\n", found.runs, found.pruned, found.points,
-            found.longest, !more);
+    fprintf(stderr, "runs %ld pruned %ld points %ld longest %ld died %ld complete %d\n", found.runs, found.pruned,
+            found.points, found.longest, found.died, !more && found.died == 0);
     return 0;
 }
 
@@ -229,7 +259,7 @@ static void read_setting(const char *word) {
     static const struct { const char *name; long *value; } SETTINGS[] = {
         {"spurious=", &settings.spurious}, {"readings=", &settings.readings}, {"reduce=", &settings.reduce},
         {"failing-clock=", &settings.failing_clock}, {"refused=", &settings.refused}, {"queues=", &settings.queues},
-        {"runs=", &settings.runs}, {"seconds=", &settings.seconds},
+        {"sent=", &settings.sent}, {"runs=", &settings.runs}, {"seconds=", &settings.seconds},
     };
     for (size_t at = 0; at < sizeof SETTINGS / sizeof *SETTINGS; at++) {
         size_t length = strlen(SETTINGS[at].name);

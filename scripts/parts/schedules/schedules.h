@@ -1,6 +1,6 @@
 // What the parts of the scheduler share. It is a library that is loaded before a program whose two threads, the
 // sender's and the receiver's, tell by the lengths of short sleeps where they are:
-// crates/oneshot_scheduled/src/told.rt.
+// crates/oneshot_codes/src/lib.rt.
 #ifndef SCHEDULES_H
 #define SCHEDULES_H
 #define _GNU_SOURCE
@@ -46,9 +46,10 @@ extern struct record *record;
 
 // What is explored: how many sleeps of a run may end by chance, how many readings of a clock may be in time, whether a
 // reading may fail, whether a copy of a task's waker may be refused, whether one run is enough of each order of
-// dependent steps, and whether the atomic writes of a task's queue are choices too.
+// dependent steps, whether the atomic writes of a task's queue are choices too, and whether the receiver begins once
+// the sender has gone on to its second channel.
 struct settings {
-    long spurious, readings, failing_clock, refused, reduce, queues, runs, seconds;
+    long spurious, readings, failing_clock, refused, reduce, queues, sent, runs, seconds;
 };
 extern struct settings settings;
 
@@ -67,6 +68,7 @@ enum woken sleep_at(int end, uintptr_t address, int timed);
 int wake_at(int end, uintptr_t address);
 int choose(int options, uint32_t allowed);
 void note_futile(int end);
+void note_second(int end);
 extern int time_is_over;
 
 // blocks.c: blocks on pages without access.

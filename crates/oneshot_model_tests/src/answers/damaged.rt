@@ -11,21 +11,29 @@ mod reading;
 use crate::answers::told;
 use crate::asserts::assert_same;
 use reading::{Asked, Kind, read};
-use std::process::Abort;
+use std::process::{Abort, Termination};
 use std::test::Fail;
 
 /// Asserts that the program's output for `input` agrees with the second reading: the trace of the run that
 /// it asks for, or its first fault.
 fn assert_as_read(rt: &(impl Abort + AllocGlobal), input: &[u8]) -> Result<Kind, Fail> {
-    let output = told(rt, input);
+    assert_output(rt, input, &told(rt, input))
+}
+
+/// Asserts that this output for `input` agrees with the second reading.
+fn assert_output(
+    rt: &(impl Abort + AllocGlobal),
+    input: &[u8],
+    output: &str,
+) -> Result<Kind, Fail> {
     match read(rt.alloc(), input)? {
         Ok(asked) => {
-            assert_trace(rt, asked, &output)?;
+            assert_trace(rt, asked, output)?;
             Ok(Kind::Trace)
         }
         Err(flaw) => {
             let fault = format!(in rt.alloc(); "2 {flaw}")?;
-            assert_eq!(rt; output, fault, "{}", input.escape_ascii());
+            assert_eq!(rt; output, fault.as_str(), "{}", input.escape_ascii());
             Ok(flaw.kind())
         }
     }
@@ -76,4 +84,35 @@ fn assert_rest(
     let whole = rest.starts_with("rest ") && rest.ends_with(end.as_str());
     assert!(rt; whole, "{rest}, not of {message}");
     Ok(())
+}
+
+#[test]
+#[should_panic(expected = "right: \"2 line 2 is missing\"")]
+fn a_fault_that_is_read_otherwise_ends_a_test(rt: HostRuntime) {
+    let read = assert_output(&rt, b"S", "2 line 1 is missing");
+    let _ = read.map(|_| ()).report(&rt);
+}
+
+#[test]
+#[should_panic(expected = "1 R load:3, not 1 S ")]
+fn an_entry_of_the_other_end_ends_a_test(rt: HostRuntime) {
+    let _ = assert_entry(&rt, "1 R load:3", 1, 's').report(&rt);
+}
+
+#[test]
+#[should_panic(expected = "2 S add:3, not 1 S ")]
+fn an_entry_of_another_number_ends_a_test(rt: HostRuntime) {
+    let _ = assert_entry(&rt, "2 S add:3", 1, 's').report(&rt);
+}
+
+#[test]
+#[should_panic(expected = "rest Cell(8), not of 7")]
+fn another_message_ends_a_test(rt: HostRuntime) {
+    let _ = assert_rest(&rt, "rest Cell(8)", Some("7")).report(&rt);
+}
+
+#[test]
+#[should_panic(expected = "right: \"rest none\"")]
+fn a_message_that_was_not_sent_ends_a_test(rt: HostRuntime) {
+    let _ = assert_rest(&rt, "rest Cell(8)", None).report(&rt);
 }

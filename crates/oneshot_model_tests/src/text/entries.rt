@@ -29,6 +29,7 @@ fn a_copy_shows_as_its_number_and_its_entry(rt: HostRuntime) -> Result<(), Fail>
         number: 13,
         entry: Entry::Made(exchange),
         call: None,
+        sender_call: None,
         message: 0,
     };
     assert_same(

@@ -1,30 +1,32 @@
 //! A receive that waits sleeps: it uses little processor time, however long it waits.
 
 use super::beside::{Act, Pace, Receive, beside, hour};
+use super::clocks::assert_spins;
 use std::alloc::AllocGlobal;
+use std::hint::spin_loop;
 use std::io;
 use std::process::Abort;
 use std::random::RandomSource;
 use std::sync::{Arc, Wait};
 use std::test::Fail;
-use std::thread::{Threads, yield_now};
+use std::thread::Threads;
 use std::time::{Clock, CpuClock, Duration};
 
 /// How many milliseconds the sender lets the receiver wait.
 const LONG: u64 = 200;
 
 /// How often a long wait is tried, since other programs may disturb it.
-const TRIES: u32 = 3;
+const TRIES: u32 = 10;
 
 /// How many milliseconds a short wait lasts.
 const SHORT: u64 = 10;
 
 /// How many short waits are measured.
-const WAITS: u32 = 40;
+const WAITS: u32 = 10;
 
-/// How many yields are measured. A wait uses less processor time than they do: it spins seventeen times at most
-/// before it sleeps, and only its first spin yields.
-const YIELDS: u32 = 1500;
+/// How many hints to the processor are measured. A wait uses less processor time than they do: it gives some five
+/// hundred before it sleeps.
+const HINTS: u32 = 50_000;
 
 /// The message that a receive gets from a sender that sleeps for `lingers` milliseconds, and the receive's
 /// processor time.
@@ -39,23 +41,23 @@ fn time_of<R: Threads + Wait + Clock + CpuClock + RandomSource + AllocGlobal + S
     Ok((outcome.received.ok().map(|message| *message), outcome.used))
 }
 
-/// The processor time of `YIELDS` yields.
-fn time_of_yields(rt: &impl CpuClock) -> io::Result<Duration> {
+/// The processor time of `HINTS` hints.
+fn time_of_hints(rt: &impl CpuClock) -> io::Result<Duration> {
     let before = rt.thread_cpu_time()?;
-    for _ in 0..YIELDS {
-        yield_now();
+    for _ in 0..HINTS {
+        spin_loop();
     }
     Ok(rt.thread_cpu_time()?.saturating_sub(before))
 }
 
 /// Whether a receive from a sender that sleeps for `lingers` milliseconds uses more processor time than
-/// `YIELDS` yields, and the message. The yields are made beside it, since other programs slow both.
+/// `HINTS` hints, and the message. The hints are given beside it, since other programs slow both.
 fn spins<R: Threads + Wait + Clock + CpuClock + RandomSource + AllocGlobal + Sync>(
     rt: &R,
     by: Receive,
     lingers: u64,
 ) -> Result<(bool, Option<u64>), Fail> {
-    let much = time_of_yields(rt)?;
+    let much = time_of_hints(rt)?;
     let (received, used) = time_of(rt, by, lingers)?;
     Ok((used > much, received))
 }
@@ -94,15 +96,9 @@ fn a_receive_that_waits_uses_little_processor_time(rt: HostRuntime) -> Result<()
 
 #[test]
 fn a_receive_spins_little_before_it_sleeps(rt: HostRuntime) -> Result<(), Fail> {
-    let receives = [
-        Receive::Recv,
-        Receive::RecvRef,
-        Receive::RecvDeadline(hour()),
-        Receive::RecvTimeout(hour()),
-        // It does not spin, and mostly times out before the sender sends.
-        Receive::RecvTimeout(Duration::from_micros(100)),
-    ];
-    for by in receives {
+    assert_spins(&rt)?;
+    // These read no clock that could count their spins.
+    for by in [Receive::Recv, Receive::RecvRef] {
         let mut spinning = 0u32;
         for _ in 0..WAITS {
             let (spins, _received) = spins(&rt, by, SHORT)?;

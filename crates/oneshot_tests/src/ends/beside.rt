@@ -215,11 +215,19 @@ pub(super) fn assert_receives<
 >(rt: &R, act: Act, pace: &Pace<'_>, by: Receive) -> Result<(), Fail> {
     let shared = Arc::new(rt.alloc(), 19)?;
     let outcome = beside(rt, Arc::try_clone(&shared)?, act, pace, by)?;
+    assert_outcome(rt, act, by, &shared, outcome);
+    Ok(())
+}
+
+/// Fails unless this is the outcome of a receive beside `act` of the sender, which sends `shared` or is dropped, and
+/// unless `shared` then has no other owner.
+fn assert_outcome(rt: &impl Abort, act: Act, by: Receive, shared: &Arc<u64>, outcome: Outcome) {
     let sends = matches!(act, Send);
     let owners = if sends { 2 } else { 1 };
     assert!(rt;
-        outcome.sent == sends && Arc::strong_count(&shared) == owners,
-        "{act:?}, {by:?}"
+        outcome.sent == sends && Arc::strong_count(shared) == owners,
+        "{act:?}, {by:?}: sent {}",
+        outcome.sent
     );
     match outcome.received {
         Ok(message) => assert!(rt; sends && *message == 19, "{act:?}, {by:?}"),
@@ -228,8 +236,32 @@ pub(super) fn assert_receives<
             "{act:?}, {by:?}: {error:?}"
         ),
     }
-    assert!(rt; Arc::strong_count(&shared) == 1, "{act:?}, {by:?}");
-    Ok(())
+    assert!(rt; Arc::strong_count(shared) == 1, "{act:?}, {by:?}: kept");
+}
+
+/// An outcome without a message.
+fn without_message(error: RecvTimeoutError, sent: bool) -> Outcome {
+    Outcome {
+        received: Err(error),
+        used: Duration::ZERO,
+        sent,
+    }
+}
+
+#[test]
+#[should_panic(expected = "Drop, Recv: Timeout")]
+fn a_receive_that_runs_out_ends_a_test(rt: HostRuntime) {
+    let shared = Arc::new(rt.alloc(), 19).ok().expect(&rt, "memory");
+    let outcome = without_message(RecvTimeoutError::Timeout, false);
+    assert_outcome(&rt, Drop, Recv, &shared, outcome);
+}
+
+#[test]
+#[should_panic(expected = "Send, Recv: sent false")]
+fn a_message_that_is_not_sent_ends_a_test(rt: HostRuntime) {
+    let shared = Arc::new(rt.alloc(), 19).ok().expect(&rt, "memory");
+    let outcome = without_message(RecvTimeoutError::Disconnected, false);
+    assert_outcome(&rt, Send, Recv, &shared, outcome);
 }
 
 #[test]

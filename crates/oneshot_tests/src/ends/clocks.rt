@@ -2,18 +2,20 @@
 
 use crate::asserts::{assert_same, assert_that};
 use oneshot_channel::{Receiver, RecvTimeoutError, Sender, channel};
-use std::alloc::{AllocError, Global};
+use std::alloc::{AllocError, AllocGlobal, Global};
 use std::cell::Cell;
 use std::io;
+use std::process::Abort;
 use std::sync::Wait;
 use std::test::Fail;
 use std::time::{Clock, Duration, Instant};
 
-/// A runtime whose clock reads the given nanoseconds, one after the other, and then fails.
+/// A runtime whose clock reads the given nanoseconds, one after the other, and then fails. It counts its readings.
 #[derive(Drop)]
 pub(crate) struct Written<'a, R> {
     rt: &'a R,
     readings: Cell<&'a [u64]>,
+    made: Cell<usize>,
 }
 
 impl<'a, R> Written<'a, R> {
@@ -21,12 +23,13 @@ impl<'a, R> Written<'a, R> {
         Written {
             rt,
             readings: Cell::new(readings),
+            made: Cell::new(0),
         }
     }
 
-    // How many readings are left.
-    pub(crate) fn left(&self) -> usize {
-        self.readings.get().len()
+    /// How many readings were made, with those that failed.
+    pub(crate) fn made(&self) -> usize {
+        self.made.get()
     }
 }
 
@@ -34,6 +37,7 @@ impl<'a, R: Wait> Wait for Written<'a, R> {}
 
 impl<'a, R> Clock for Written<'a, R> {
     fn monotonic(&self) -> io::Result<Duration> {
+        self.made.set(self.made.get().saturating_add(1));
         let Some((first, rest)) = self.readings.get().split_first() else {
             return Err(io::ErrorKind::Unsupported.into());
         };
@@ -56,56 +60,144 @@ fn by_clock<'w, 'a, R>(
     channel(clock, alloc)
 }
 
-// The instant five nanoseconds after a clock's start.
-fn five(rt: &impl Wait) -> io::Result<Instant> {
-    Instant::now(&Written::new(rt, &[5]))
+// The instant that many nanoseconds after a clock's start.
+pub(crate) fn instant_at(rt: &impl Wait, nanos: u64) -> io::Result<Instant> {
+    Instant::now(&Written::new(rt, &[nanos]))
 }
 
-/// A clock's readings for a receive until the instant five, and how many the receive leaves.
-const UNTIL_FIVE: [(&[u64], usize); 6] = [
+/// A clock's readings for a receive until the instant five, and how many the receive makes.
+pub(crate) const UNTIL_FIVE: [(&[u64], usize); 6] = [
     // The turn and its park read the deadline itself, and the next turn a nanosecond past it.
-    (&[5, 5, 6, 7], 1),
+    (&[5, 5, 6, 7], 3),
     // A turn reads the clock to see whether the deadline is past, and its park reads until it has come. This
     // clock goes back after each park: without a park, the next turn would find the deadline past.
-    (&[1, 7, 2, 7, 3, 7, 6, 8], 1),
+    (&[1, 7, 2, 7, 3, 7, 6, 8], 7),
     // The deadline is past at once.
     (&[6, 7], 1),
-    // The clock fails at once, in the park, or after it.
-    (&[], 0),
-    (&[1], 0),
-    (&[5, 5], 0),
+    // The clock fails at once, in the park and after it, or after the park.
+    (&[], 1),
+    (&[1], 3),
+    (&[5, 5], 3),
 ];
 
 #[test]
 fn a_deadline_ends_a_receive_once_the_clock_is_past_it(rt: HostRuntime) -> Result<(), Fail> {
-    for (written, left) in UNTIL_FIVE {
+    for (written, made) in UNTIL_FIVE {
         let clock = Written::new(&rt, written);
         let (_sender, mut receiver) = by_clock(&clock, rt.alloc())?;
-        let received = receiver.recv_deadline(five(&rt)?);
+        let received = receiver.recv_deadline(instant_at(&rt, 5)?);
         assert_same(&rt, received, Err(RecvTimeoutError::Timeout));
-        assert_same(&rt, clock.left(), left);
+        assert_same(&rt, clock.made(), made);
     }
     Ok(())
 }
 
-/// A clock's readings for a receive with a timeout of five nanoseconds, and how many the receive leaves. Its
-/// deadline is six. A reading of six is not past it, even after the park; seven is, and eight is not read. A
-/// failed reading counts as past it.
-pub(crate) const FIVE_NANOSECONDS: [(&[u64], usize); 4] = [
-    (&[1, 7, 8], 1),
-    (&[1, 6, 6, 7, 8], 1),
-    (&[], 0),
-    (&[1], 0),
+/// An hour, in nanoseconds.
+const HOUR: u64 = 3_600_000_000_000;
+
+/// A timeout in nanoseconds, a clock's readings, and how many a receive with this timeout makes. The first is for the
+/// deadline, and each turn reads the clock anew.
+pub(crate) const TIMEOUTS: [(u64, &[u64], usize); 9] = [
+    // The deadline is six. Six is not past it, even after the park; seven is, and eight is not read.
+    (5, &[1, 7, 8], 2),
+    (5, &[1, 6, 6, 7, 8], 4),
+    // A failed reading counts as past it, and is not repeated: at the deadline's own reading, and in a turn.
+    (5, &[], 2),
+    (5, &[1], 2),
+    // A timeout of zero is over once the clock is past its first reading, and only then.
+    (0, &[5, 6, 7], 2),
+    (0, &[5, 5, 5, 6, 7], 4),
+    (0, &[], 2),
+    // A turn an hour later goes on, and one after two hours ends. The turn between them spins.
+    (2 * HOUR, &[1, HOUR + 2, 2 * HOUR + 2, 0], 3),
+    (2 * HOUR, &[1, 2 * HOUR + 2, 0], 2),
 ];
 
 #[test]
 fn a_timeout_counts_from_one_reading(rt: HostRuntime) -> Result<(), Fail> {
-    for (written, left) in FIVE_NANOSECONDS {
+    for (timeout, written, made) in TIMEOUTS {
         let clock = Written::new(&rt, written);
         let (_sender, mut receiver) = by_clock(&clock, rt.alloc())?;
-        let received = receiver.recv_timeout(Duration::from_nanos(5));
+        let received = receiver.recv_timeout(Duration::from_nanos(timeout));
         assert_same(&rt, received, Err(RecvTimeoutError::Timeout));
-        assert_same(&rt, clock.left(), left);
+        assert_same(&rt, clock.made(), made);
+    }
+    Ok(())
+}
+
+/// A second, in nanoseconds: a timeout so long that a receive spins.
+const SECOND: u64 = 1_000_000_000;
+
+/// How often a receive spins before it sleeps.
+const SPINS: usize = 17;
+
+/// The most readings of a receive that times out after `SPINS` turns that spin and one that sleeps.
+const MOST: usize = SPINS + 5;
+
+/// A clock's readings: a nanosecond so many times, and then two seconds.
+fn still_for(times: usize) -> [u64; MOST] {
+    let mut readings = [2 * SECOND; MOST];
+    for reading in readings.iter_mut().take(times) {
+        *reading = 1;
+    }
+    readings
+}
+
+/// A receive with a deadline.
+#[derive(Clone, Copy)]
+enum Limit {
+    /// `recv_timeout`, which also reads the clock for its deadline.
+    Timeout,
+    /// `recv_deadline`.
+    Deadline,
+}
+
+impl Limit {
+    /// How many readings a receive makes, by a clock on which its deadline is a second away in so many turns, and is
+    /// then past. Fails unless it times out.
+    fn readings(self, rt: &(impl Wait + AllocGlobal + Abort), turns: usize) -> Result<usize, Fail> {
+        let same = match self {
+            Limit::Timeout => turns.saturating_add(1),
+            Limit::Deadline => turns,
+        };
+        let readings = still_for(same);
+        let clock = Written::new(rt, &readings);
+        let (_sender, mut receiver) = by_clock(&clock, rt.alloc())?;
+        let received = match self {
+            Limit::Timeout => receiver.recv_timeout(Duration::from_nanos(SECOND)),
+            Limit::Deadline => receiver.recv_deadline(instant_at(rt, SECOND)?),
+        };
+        assert_same(rt, received, Err(RecvTimeoutError::Timeout));
+        // That for the deadline.
+        let first = same.saturating_sub(turns);
+        Ok(clock.made().saturating_sub(first))
+    }
+}
+
+/// Fails unless a receive with a far deadline spins seventeen times and then sleeps. A turn that spins reads the clock
+/// once, and one that sleeps also reads it in its sleep. The last turn finds the deadline past.
+pub(super) fn assert_spins(rt: &(impl Wait + AllocGlobal + Abort)) -> Result<(), Fail> {
+    for limit in [Limit::Timeout, Limit::Deadline] {
+        for turns in 0..=SPINS {
+            assert_same(rt, limit.readings(rt, turns)?, turns.saturating_add(1));
+        }
+        assert_same(rt, limit.readings(rt, SPINS + 1)?, SPINS + 3);
+    }
+    Ok(())
+}
+
+/// The least time left, in nanoseconds, with which a receive spins.
+const FAR: u64 = 100_000_000;
+
+#[test]
+fn a_receive_spins_only_with_a_far_deadline(rt: HostRuntime) -> Result<(), Fail> {
+    // The first turn spins or sleeps, and the second finds the deadline past.
+    for (timeout, made) in [(FAR, 3), (FAR - 1, 4)] {
+        let clock = Written::new(&rt, &[1, 1, 2 * FAR, 2 * FAR]);
+        let (_sender, mut receiver) = by_clock(&clock, rt.alloc())?;
+        let received = receiver.recv_timeout(Duration::from_nanos(timeout));
+        assert_same(&rt, received, Err(RecvTimeoutError::Timeout));
+        assert_same(&rt, clock.made(), made);
     }
     Ok(())
 }
@@ -242,7 +334,7 @@ fn a_message_that_comes_at_the_deadline_is_found(rt: HostRuntime) -> Result<(), 
     let clock = Meanwhile::new(&rt);
     let (sender, mut receiver) = channel::<u8, _>(&clock, rt.alloc())?;
     clock.will(Act::Send(sender, 19));
-    assert_same(&rt, receiver.recv_deadline(five(&rt)?), Ok(19));
+    assert_same(&rt, receiver.recv_deadline(instant_at(&rt, 5)?), Ok(19));
     assert_that(&rt, receiver.is_closed());
     Ok(())
 }
@@ -252,7 +344,7 @@ fn a_drop_at_the_deadline_is_found(rt: HostRuntime) -> Result<(), Fail> {
     let clock = Meanwhile::new(&rt);
     let (sender, mut receiver) = channel::<u8, _>(&clock, rt.alloc())?;
     clock.will(Act::Go(sender));
-    let received = receiver.recv_deadline(five(&rt)?);
+    let received = receiver.recv_deadline(instant_at(&rt, 5)?);
     assert_same(&rt, received, Err(RecvTimeoutError::Disconnected));
     assert_that(&rt, receiver.is_closed());
     Ok(())

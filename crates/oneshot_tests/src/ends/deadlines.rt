@@ -1,11 +1,14 @@
 //! Receives with a timeout: how long they take, and two threads that wait for each other.
 
-use super::beside::hour;
 use crate::asserts::{assert_same, assert_that};
-use oneshot_channel::{RecvTimeoutError, channel};
+use oneshot_channel::{Receiver, RecvTimeoutError, channel};
+use oneshot_test_uses::{is_overdue, limit};
+use std::io;
+use std::process::Abort;
+use std::sync::Wait;
 use std::test::Fail;
 use std::thread::{join, sleep};
-use std::time::{Duration, Instant};
+use std::time::{Clock, Duration, Instant};
 
 #[test]
 fn a_timeout_that_runs_out_takes_its_time(rt: HostRuntime) -> Result<(), Fail> {
@@ -18,24 +21,46 @@ fn a_timeout_that_runs_out_takes_its_time(rt: HostRuntime) -> Result<(), Fail> {
     Ok(())
 }
 
-// If a receive were not woken, this test would not end.
+/// Fails if a receive took longer than any that is woken.
+fn assert_woken(rt: &impl Abort, took: Duration) {
+    assert!(rt; !is_overdue(took), "a receive took {took:?}");
+}
+
+/// What a receive that may wait for ten seconds returns. Fails if nothing woke it.
+fn received<R: Wait + Clock + Abort>(
+    rt: &R,
+    mut receiver: Receiver<u8, &R>,
+) -> io::Result<Result<u8, RecvTimeoutError>> {
+    let start = Instant::now(rt)?;
+    let received = receiver.recv_timeout(limit());
+    assert_woken(rt, start.elapsed(rt)?);
+    Ok(received)
+}
+
+// A message that nothing woke its receiver for is received too, but only once its limit is over.
 #[test]
 fn two_threads_answer_each_other(rt: HostRuntime) -> Result<(), Fail> {
-    let (to_right, mut at_right) = channel::<u8, _>(&rt, rt.alloc())?;
-    let (to_left, mut at_left) = channel::<u8, _>(&rt, rt.alloc())?;
+    let (to_right, at_right) = channel::<u8, _>(&rt, rt.alloc())?;
+    let (to_left, at_left) = channel::<u8, _>(&rt, rt.alloc())?;
     let (left, right) = join(
         &rt,
         || {
             sleep(&rt, Duration::from_millis(100));
             let sent = to_right.send(1).is_ok();
-            (sent, at_left.recv_timeout(hour()))
+            (sent, received(&rt, at_left))
         },
         || {
-            let received = at_right.recv_timeout(hour());
+            let received = received(&rt, at_right);
             (to_left.send(2).is_ok(), received)
         },
     );
-    assert_same(&rt, left, (true, Ok(2)));
-    assert_same(&rt, right, (true, Ok(1)));
+    assert_same(&rt, (left.0, left.1?), (true, Ok(2)));
+    assert_same(&rt, (right.0, right.1?), (true, Ok(1)));
     Ok(())
+}
+
+#[test]
+#[should_panic(expected = "a receive took 5s")]
+fn a_receive_that_nothing_woke_ends_a_test(rt: HostRuntime) {
+    assert_woken(&rt, Duration::from_secs(5));
 }

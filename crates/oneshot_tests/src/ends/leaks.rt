@@ -6,7 +6,7 @@ use crate::pages::{grown_pages, resident_pages};
 use crate::reply::{answer, ask};
 use std::alloc::{AllocError, Global};
 use std::io;
-use std::process::Abort;
+use std::process::{Abort, Termination};
 use std::random::RandomSource;
 use std::rt::Files;
 use std::sync::{Arc, Wait};
@@ -56,6 +56,19 @@ fn compares_memory(rt: &(impl Files + Print + AllocGlobal)) -> Result<bool, Fail
     Ok(compares)
 }
 
+/// Fails if each of many rounds leaks some memory. `number` is that of the life in them.
+fn assert_leaves_nothing<F: FnMut() -> io::Result<()>>(
+    rt: &(impl Files + AllocGlobal + Abort),
+    number: usize,
+    round: F,
+) -> Result<(), Fail>
+    requires { F.IsAlwaysCallable round }
+{
+    let grown = growth(rt, ROUNDS, round)?;
+    assert!(rt; grown <= MOST_PAGES, "life {number}: {grown} pages");
+    Ok(())
+}
+
 /// Fails if a channel leaks some memory each time that it lives one of these lives.
 fn assert_none_leaks(
     rt: &(impl Files + Print + Wait + Clock + AllocGlobal + RandomSource + Abort),
@@ -63,8 +76,7 @@ fn assert_none_leaks(
 ) -> Result<(), Fail> {
     if compares_memory(rt)? {
         for (number, life) in lives.iter().enumerate() {
-            let grown = growth(rt, ROUNDS, || live(rt, life))?;
-            assert!(rt; grown <= MOST_PAGES, "life {number}: {grown} pages");
+            assert_leaves_nothing(rt, number, || live(rt, life))?;
         }
     }
     Ok(())
@@ -122,8 +134,19 @@ fn end_requests(alloc: Global) -> Result<(), AllocError> {
 #[test]
 fn requests_leave_nothing(rt: HostRuntime) -> Result<(), Fail> {
     if compares_memory(&rt)? {
-        let grown = growth(&rt, ROUNDS, || Ok(end_requests(rt.alloc())?))?;
-        assert!(rt; grown <= MOST_PAGES, "{grown} pages");
+        assert_leaves_nothing(&rt, 0, || Ok(end_requests(rt.alloc())?))?;
     }
     Ok(())
+}
+
+// Keeps what each round allocates.
+fn keep_each_round(rt: &(impl Files + AllocGlobal + Abort)) -> Result<(), Fail> {
+    let mut kept = Vec::new(rt.alloc());
+    assert_leaves_nothing(rt, 3, || Ok(kept.push([0u64; 8])?))
+}
+
+#[test]
+#[should_panic(expected = "life 3: ")]
+fn a_round_that_leaves_something_ends_a_test(rt: HostRuntime) {
+    let _ = keep_each_round(&rt).report(&rt);
 }

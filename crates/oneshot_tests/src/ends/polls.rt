@@ -40,6 +40,42 @@ impl<'a, T: Drop, Rt: Drop> Future for Counted<'a, T, Rt> {
     }
 }
 
+/// Returns once a future was polled, or after some ten seconds.
+fn wait_for_a_poll(rt: &impl Clock, polls: &AtomicU64) {
+    for _ in 0..10_000 {
+        if polls.load(Ordering::SeqCst) > 0 {
+            return;
+        }
+        thread::sleep(rt, Duration::from_millis(1));
+    }
+}
+
+// The receiver is polled once, and again when the send wakes its task. Without that wake this test would not end, and
+// a poll that wakes its own task makes hundreds of polls.
+#[test]
+fn a_send_of_another_thread_wakes_the_task(rt: HostRuntime) -> Result<(), Fail> {
+    let polls = AtomicU64::new(0);
+    let (sender, receiver) = async_channel(&rt, rt.alloc())?;
+    let counted = Counted {
+        receiver,
+        polls: &polls,
+    };
+    let (received, sent) = thread::join(
+        &rt,
+        || block_on(&rt, counted),
+        || {
+            wait_for_a_poll(&rt, &polls);
+            thread::sleep(&rt, Duration::from_millis(100));
+            sender.send(19u8).is_ok()
+        },
+    );
+    assert_that(&rt, sent);
+    assert_same(&rt, received?, Ok(19));
+    let polls = polls.load(Ordering::SeqCst);
+    assert!(rt; 1 < polls && polls <= MOST_POLLS, "{polls} polls");
+    Ok(())
+}
+
 /// A future that polls a receiver once, and then returns it.
 #[derive(Drop)]
 struct Lent<T, Rt> {

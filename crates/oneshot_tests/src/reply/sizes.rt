@@ -7,7 +7,7 @@ use futures::executor::block_on;
 use oneshot_channel::async_channel;
 use oneshot_channel::reply::{Answer, Ticket, request};
 use std::fmt::Debug;
-use std::process::Abort;
+use std::process::{Abort, Termination};
 use std::random::RandomSource;
 use std::sync::Wait;
 use std::test::Fail;
@@ -53,30 +53,30 @@ fn answered<'r, R: AllocGlobal + Abort, Q: Copy + Eq + Send + Drop>(
     Ok(ticket)
 }
 
-/// Fails unless `question` comes by `try_recv` of a future, and by each call of a ticket.
+/// Sends and asks `question`. Fails unless `wanted` comes by `try_recv` of a future, and by each call of a ticket.
 fn assert_comes<
     R: AllocGlobal + Wait + Clock + RandomSource + Abort,
     Q: Copy + Debug + Eq + Send + Drop,
->(rt: &R, question: Q) -> Result<(), Fail> {
+>(rt: &R, question: Q, wanted: Q) -> Result<(), Fail> {
     let (sender, mut receiver) = async_channel((), rt.alloc())?;
     assert_that(rt, sender.send(question).is_ok());
-    assert_same(rt, receiver.try_recv(), Ok(question));
+    assert_same(rt, receiver.try_recv(), Ok(wanted));
     let taken = answered(rt, question)?.try_take();
-    assert_same(rt, taken.map(question_of), Ok(question));
+    assert_same(rt, taken.map(question_of), Ok(wanted));
     let waited = answered(rt, question)?.wait();
-    assert_same(rt, waited.map(question_of), Ok(question));
+    assert_same(rt, waited.map(question_of), Ok(wanted));
     let waited = answered(rt, question)?.wait_for(Duration::ZERO);
-    assert_same(rt, waited.map(question_of), Ok(question));
+    assert_same(rt, waited.map(question_of), Ok(wanted));
     let tried = answered(rt, question)?.into_future().try_recv();
-    assert_same(rt, tried.map(question_of), Ok(question));
+    assert_same(rt, tried.map(question_of), Ok(wanted));
     let awaited = block_on(rt, answered(rt, question)?.into_future())?;
-    assert_same(rt, awaited.map(question_of), Ok(question));
+    assert_same(rt, awaited.map(question_of), Ok(wanted));
     Ok(())
 }
 
 #[test]
 fn a_reply_of_no_size_comes(rt: HostRuntime) -> Result<(), Fail> {
-    assert_comes(&rt, ())
+    assert_comes(&rt, (), ())
 }
 
 #[test]
@@ -85,5 +85,11 @@ fn a_reply_of_a_page_comes_whole(rt: HostRuntime) -> Result<(), Fail> {
     for (place, byte) in page.iter_mut().enumerate() {
         *byte = (place % 251) as u8;
     }
-    assert_comes(&rt, page)
+    assert_comes(&rt, page, page)
+}
+
+#[test]
+#[should_panic(expected = "right: Ok(2)")]
+fn another_message_ends_a_test(rt: HostRuntime) {
+    let _ = assert_comes(&rt, 1u8, 2).report(&rt);
 }

@@ -2,7 +2,7 @@
 
 use super::{answer, ask, bytes_of};
 use crate::asserts::{assert_same, assert_that};
-use crate::ends::clocks::{FIVE_NANOSECONDS, Written};
+use crate::ends::clocks::{TIMEOUTS, Written};
 use crate::ends::wakes::{WAITS, waited_for};
 use oneshot_channel::{RecvTimeoutError, TryRecvError};
 use std::test::Fail;
@@ -31,21 +31,21 @@ fn a_task_that_waits_for_a_reply_is_woken_by_the_request_alone(
 
 #[test]
 fn a_ticket_waits_to_the_nanosecond(rt: HostRuntime) -> Result<(), Fail> {
-    let timeout = Duration::from_nanos(5);
-    for (written, left) in FIVE_NANOSECONDS {
+    for (timeout, written, made) in TIMEOUTS {
         let clock = Written::new(&rt, written);
         let (_request, mut ticket) = ask(&clock, rt.alloc())?;
         assert_same(
             &rt,
-            ticket.wait_for(timeout).map(bytes_of),
+            ticket.wait_for(Duration::from_nanos(timeout)).map(bytes_of),
             Err(RecvTimeoutError::Timeout),
         );
-        assert_same(&rt, clock.left(), left);
+        assert_same(&rt, clock.made(), made);
     }
     // A reply that has come is taken even if the clock fails.
     let clock = Written::new(&rt, &[]);
     let (request, mut ticket) = ask(&clock, rt.alloc())?;
     assert_that(&rt, answer(request)?.is_ok());
-    assert_same(&rt, ticket.wait_for(timeout).map(bytes_of), Ok(21));
+    let waited = ticket.wait_for(Duration::from_nanos(5));
+    assert_same(&rt, waited.map(bytes_of), Ok(21));
     Ok(())
 }

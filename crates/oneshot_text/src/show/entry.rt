@@ -1,14 +1,17 @@
 //! Writes an entry's line.
 
-ghost use Rattle.std.specs.Prelude.{◌≡◌, ◌++◌, IfSome, codes, decimal};
+ghost use Rattle.std.specs.Prelude.{◌≡◌, ◌+◌, ◌-◌, ◌^◌, ◌<◌, ◌++◌, Some, IfSome, codes, decimal};
 ghost use Rattle.std.specs.Fmt.{WritesOnOk};
+ghost use Rattle.oneshot_world.specs.World.{turn};
+ghost use Rattle.oneshot_replay.specs.Run.{GoesOn};
+ghost use Rattle.oneshot_replay.specs.Scene.{sender_call_of, receiver_call_of};
 ghost use Rattle.oneshot_text.specs.Names.{letter_of_end, name_of_step};
 ghost use Rattle.oneshot_text.specs.EntryText.{word_text, message_field, waker_field, token_field, found_field, own_field, reply_field, made_text};
 
 use crate::show::names::{WakerText, end_letter, message_place, step_name, waker_place};
 use crate::show::reply::ReplyText;
-use oneshot_machine::machine::{End, ReceiverStart, Seen};
-use oneshot_replay::{Entry, Made, Place, WakerName, WakerPlace};
+use oneshot_machine::machine::{End, ReceiverStart, Seen, SenderCall};
+use oneshot_replay::{Entry, Made, Move, Place, Replayer, WakerName, WakerPlace};
 use std::fmt;
 use std::fmt::Display;
 
@@ -21,12 +24,41 @@ pub struct EntryLine {
     pub entry: Entry,
     /// The call that the receiver has under way, or begins at its next move, before the entry.
     pub call: Option<ReceiverStart>,
+    /// The call that the sender has under way, or begins at its next move, before the entry.
+    pub sender_call: Option<SenderCall>,
     /// The message of the sender's script.
     pub message: u64,
 }
 
+impl EntryLine {
+    /// Makes the move `m` of `run`, and returns its entry, with its number and both ends' calls before it.
+    ///
+    /// `message` is the message of the sender's script, or any number if it sends none. `room`: there are fewer
+    /// entries than the largest `usize`, so this one has a number.
+    pub fn of_step(run: &mut Replayer<u64>, m: Move, message: u64) -> EntryLine
+        requires room { run.old.count < 2 ^ 64 - 1 }
+        ensures turn { turn (run.old.count + 1) run.old.world m ≡ Some (result.entry, run.new.world) }
+        ensures number { result.number ≡ run.old.count + 1 }
+        ensures call { result.call ≡ receiver_call_of run.old }
+        ensures sender_call { result.sender_call ≡ sender_call_of run.old }
+        ensures message { result.message ≡ message }
+        ensures count { run.new.count ≡ run.old.count + 1 }
+        ensures same_message { run.new.message ≡ run.old.message }
+        ensures goes_on { GoesOn run.old m result.entry run.new }
+    {
+        let (call, sender_call) = (run.receiver_call(), run.sender_call());
+        let entry = run.step(m);
+        EntryLine {
+            number: run.count(),
+            entry,
+            call,
+            sender_call,
+            message,
+        }
+    }
+}
+
 impl fmt::Display for EntryLine {
-    ghost use Rattle.std.specs.Prelude.{Some};
     ghost use Rattle.oneshot_text.specs.EntryText.{entry_text};
 
     ghost output = { λ l. Some (entry_text l.number l.call l.message l.entry) };

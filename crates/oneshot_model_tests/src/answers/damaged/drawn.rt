@@ -6,7 +6,7 @@ use crate::answers::damaged::draws::Draws;
 use crate::answers::damaged::reading::Kind;
 use std::alloc::{AllocError, AllocGlobal, Global};
 use std::ops::RangeInclusive;
-use std::process::Abort;
+use std::process::{Abort, Termination};
 use std::test::Fail;
 
 /// Texts that ask for a run. Together they have each word of the grammar.
@@ -36,11 +36,12 @@ fn drawn(alloc: Global, draws: &mut Draws) -> Result<Vec<u8>, AllocError> {
     Ok(text)
 }
 
-/// Draws texts from `seed`, and asserts that the program agrees with the second reading on each.
-fn assert_drawn(rt: &(impl Abort + AllocGlobal), seed: u64) -> Result<(), Fail> {
+/// Draws this many texts from `seed`, and asserts that the program agrees with the second reading on each, and that
+/// each kind of result came often.
+fn assert_drawn(rt: &(impl Abort + AllocGlobal), seed: u64, texts: usize) -> Result<(), Fail> {
     let mut draws = Draws::new(seed);
     let mut kinds = Vec::new(rt.alloc());
-    for _ in 0..DRAWN {
+    for _ in 0..texts {
         let text = drawn(rt.alloc(), &mut draws)?;
         kinds.push(assert_as_read(rt, &text)?)?;
     }
@@ -56,7 +57,7 @@ fn assert_each_drawn(
     seeds: RangeInclusive<u64>,
 ) -> Result<(), Fail> {
     for seed in seeds {
-        assert_drawn(rt, seed)?;
+        assert_drawn(rt, seed, DRAWN)?;
     }
     Ok(())
 }
@@ -80,4 +81,10 @@ fn texts_drawn_from_seeds_seven_and_eight(rt: HostRuntime) -> Result<(), Fail> {
 #[test]
 fn texts_drawn_from_seeds_nine_and_ten(rt: HostRuntime) -> Result<(), Fail> {
     assert_each_drawn(&rt, 9..=10)
+}
+
+#[test]
+#[should_panic(expected = "seed 1: 0 of ")]
+fn a_kind_that_does_not_come_ends_a_test(rt: HostRuntime) {
+    let _ = assert_drawn(&rt, 1, 0).report(&rt);
 }

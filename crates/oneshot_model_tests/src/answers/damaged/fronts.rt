@@ -5,7 +5,7 @@ use crate::answers::damaged::reading::Kind;
 use crate::answers::told;
 use crate::asserts::assert_same;
 use std::alloc::AllocGlobal;
-use std::process::Abort;
+use std::process::{Abort, Termination};
 use std::test::Fail;
 
 /// The pieces of an input, in their order, each with the output for the prefixes that end in it.
@@ -90,4 +90,10 @@ fn input_behind_the_lines_is_told_after_each_of_their_faults(rt: HostRuntime) ->
         assert_told(&rt, input.as_bytes(), fault)?;
     }
     Ok(())
+}
+
+#[test]
+#[should_panic(expected = "right: \"2 line 2 is missing\"")]
+fn an_output_that_is_not_told_ends_a_test(rt: HostRuntime) {
+    let _ = assert_told(&rt, b"", "2 line 2 is missing").report(&rt);
 }

@@ -10,8 +10,8 @@ use Rattle.oneshot_text.proofs.TextGrows.{HasWritten, written_first, written_lin
 use Rattle.oneshot_text.proofs.show.write_run.Given as given
 use Rattle.oneshot_text.proofs.show.write_run.Goals as goal
 
-pub next_line-requires : goal.next_line-requires
-next_line-requires g c = record { room = omega (arith, c.requires.room, c.loop-m.invariant.count, c.loop-m-test.true) }
+pub of_step-requires : goal.of_step-requires
+of_step-requires g c = record { room = omega (arith, c.requires.room, c.loop-m.invariant.count, c.loop-m-test.true) }
 
 pub loop-m-init : goal.loop-m-init
 loop-m-init g c = record {
@@ -32,14 +32,14 @@ number_is g c =
 
 pub loop-m-preserved : goal.loop-m-preserved
 loop-m-preserved g c =
-    let e = c.next_line.ensures in
+    let e = c.of_step.ensures in
     record {
       count = omega (arith, e.count, c.loop-m.invariant.count);
       message = e.same_message ∙ c.loop-m.invariant.message;
       written =
           rw (take_more c.args.moves.now c.loop-m.m-index Sender c.loop-m-test.true)
-          (written_line _ _ _ _ _ _ _ _ _ _ _ _ c.loop-m.invariant.written e.turn e.number e.call e.message
-          (number_is g c) c.in_ok-add.ensures);
+          (written_line _ _ _ _ _ _ _ _ _ c.of_step.result _ _ c.loop-m.invariant.written e.turn e.number e.call
+          e.message (number_is g c) c.in_ok-add.ensures);
     }
 
 pub returns : goal.returns

@@ -1,0 +1,60 @@
+//! The first of two messages, and the other one if it is there too.
+
+ghost use Rattle.std.specs.Prelude.{◌≡◌, ◌<◌, IfOk};
+
+use crate::asserts::{assert_same, assert_that};
+use futures::executor::block_on;
+use futures::future::{Either, select};
+use oneshot_channel::{AsyncReceiver, Promise, RecvError, TryRecvError, async_channel_for};
+use std::alloc::AllocGlobal;
+use std::io;
+use std::random::RandomSource;
+use std::sync::Wait;
+use std::test::Fail;
+
+/// Promises an index below this length.
+#[derive(Drop)]
+struct Below(usize);
+
+impl Promise<usize> for Below {
+    ghost keeps = { λ below index. index < below.0 };
+}
+
+/// The first answer, and what the other future had by then.
+type Both = (Result<usize, RecvError>, Result<usize, TryRecvError>);
+
+/// Awaits the first of two futures, and takes the message of the other if it is there.
+fn first_of<R: Wait + RandomSource + AllocGlobal>(
+    rt: &R,
+    left: AsyncReceiver<usize, (), Below>,
+    right: AsyncReceiver<usize, (), Below>,
+) -> io::Result<Both>
+    requires { right.about ≡ left.about }
+    ensures first { IfOk result (λ both. IfOk both.0 (λ index. index < left.about.0)) }
+    ensures other { IfOk result (λ both. IfOk both.1 (λ index. index < left.about.0)) }
+{
+    match block_on(rt, select(left, right))? {
+        Either::Left((first, mut other)) => Ok((first, other.try_recv())),
+        Either::Right((first, mut other)) => Ok((first, other.try_recv())),
+    }
+}
+
+#[test]
+fn the_other_message_is_not_lost(rt: HostRuntime) -> Result<(), Fail> {
+    for left_sends in [true, false] {
+        let (left, left_future) = async_channel_for((), rt.alloc(), &Below(9))?;
+        let (right, right_future) = async_channel_for((), rt.alloc(), &Below(9))?;
+        assert_that(&rt, right.send_kept(7).is_ok());
+        if left_sends {
+            assert_that(&rt, left.send_kept(5).is_ok());
+            let both = first_of(&rt, left_future, right_future)?;
+            assert_same(&rt, both, (Ok(5), Ok(7)));
+        } else {
+            let both = first_of(&rt, left_future, right_future)?;
+            assert_same(&rt, both, (Ok(7), Err(TryRecvError::Empty)));
+            let back = left.send_kept(5).map_err(|error| error.into_inner());
+            assert_same(&rt, back, Err(5));
+        }
+    }
+    Ok(())
+}

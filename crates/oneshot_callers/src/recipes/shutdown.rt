@@ -1,0 +1,73 @@
+//! A worker that its owner stops, and its report.
+
+ghost use Rattle.std.specs.Prelude.{◌≤◌, ◌<◌};
+ghost use Rattle.oneshot_channel.specs.Ends.{IsClosed};
+
+use crate::asserts::{assert_same, assert_that};
+use oneshot_channel::{Receiver, RecvTimeoutError, Sender, TryRecvError, channel};
+use std::sync::Wait;
+use std::test::Fail;
+use std::thread::join;
+use std::time::{Clock, Duration};
+
+/// Calls `turn` until it is told to stop, or its owner is gone, but at most `limit` times.
+fn work<F: FnMut()>(stop: &mut Receiver<(), ()>, limit: u64, mut turn: F) -> u64
+    requires { F.IsAlwaysCallable turn }
+    ensures limit { result ≤ limit }
+    ensures told { result < limit → IsClosed stop.new }
+{
+    for turns in 0..limit {
+        let Err(TryRecvError::Empty) = stop.try_recv() else {
+            return turns;
+        };
+        turn();
+    }
+    limit
+}
+
+/// Stops a worker, and waits up to ten seconds for its report.
+fn shut_down<Rt: Wait + Clock + Drop>(
+    stop: Sender<()>,
+    mut report: Receiver<u64, Rt>,
+) -> Result<u64, RecvTimeoutError> {
+    // If the worker is gone, there is nothing to stop.
+    let _ = stop.send(());
+    report.recv_timeout(Duration::from_secs(10))
+}
+
+#[test]
+fn a_worker_works_until_it_is_told_or_left(rt: HostRuntime) -> Result<(), Fail> {
+    let (stop, mut stopped) = channel((), rt.alloc())?;
+    assert_same(&rt, work(&mut stopped, 5, || {}), 5);
+    let mut stop = Some(stop);
+    let mut made = 0u64;
+    let turns = work(&mut stopped, u64::MAX, || {
+        made = made.wrapping_add(1);
+        if made == 3 {
+            let _ = stop.take().map(|stop| stop.send(()));
+        }
+    });
+    assert_same(&rt, turns, 3);
+    let (stop, mut stopped) = channel((), rt.alloc())?;
+    drop(stop);
+    assert_same(&rt, work(&mut stopped, 5, || {}), 0);
+    Ok(())
+}
+
+#[test]
+fn a_worker_reports_the_turns_that_it_made(rt: HostRuntime) -> Result<(), Fail> {
+    let (stop, mut stopped) = channel((), rt.alloc())?;
+    let (sender, report) = channel(&rt, rt.alloc())?;
+    let mut made = 0u64;
+    let (sent, turns) = join(
+        &rt,
+        || {
+            let turns = work(&mut stopped, u64::MAX, || made = made.wrapping_add(1));
+            sender.send(turns).is_ok()
+        },
+        || shut_down(stop, report),
+    );
+    assert_that(&rt, sent);
+    assert_same(&rt, turns, Ok(made));
+    Ok(())
+}

@@ -1,0 +1,44 @@
+//! Attempts to make a guard with its watch, and a request whose server is told when nobody waits.
+
+use crate::channels::{Counted, TEXT};
+use crate::outcome::{Outcome, Wrong, ensure};
+use oneshot::reply::Length;
+use oneshot::watch::{cancellable_request, watch};
+use std::sync::atomic::{AtomicU64, Ordering};
+
+/// Calls `watch`. A refusal has to drop the runtime.
+pub(crate) fn make_watch(rt: &impl AllocGlobal) -> Result<Outcome, Wrong> {
+    let drops = AtomicU64::new(0);
+    if watch(Counted::new(rt, &drops), rt.alloc()).is_ok() {
+        return Ok(Outcome::Made);
+    }
+    ensure(drops.load(Ordering::SeqCst) == 1, Wrong::RuntimeKept)?;
+    let (guard, mut watch) = watch(Counted::new(rt, &drops), rt.alloc())?;
+    ensure(!watch.is_gone(), Wrong::Broken)?;
+    drop(guard);
+    ensure(watch.is_gone(), Wrong::Broken)?;
+    Ok(Outcome::Refused)
+}
+
+/// Calls `cancellable_request`, after an allocation for the question. A refusal has to return it, and drop both
+/// runtimes.
+pub(crate) fn make_cancellable_request(rt: &impl AllocGlobal) -> Result<Outcome, Wrong> {
+    let drops = AtomicU64::new(0);
+    let (asker, server) = (Counted::new(rt, &drops), Counted::new(rt, &drops));
+    let question = String::from_str(rt.alloc(), TEXT)?;
+    let first = cancellable_request::<_, Length, _, _>(asker, server, rt.alloc(), question);
+    let Err(question) = first else {
+        return Ok(Outcome::Made);
+    };
+    ensure(question.as_str() == TEXT, Wrong::QuestionChanged)?;
+    ensure(drops.load(Ordering::SeqCst) == 2, Wrong::RuntimeKept)?;
+    let (asker, server) = (Counted::new(rt, &drops), Counted::new(rt, &drops));
+    let second = cancellable_request(asker, server, rt.alloc(), question);
+    let (request, mut ticket) = second.map_err(|_| Wrong::RefusedAgain)?;
+    let length = Length::of(request.question().clone()?);
+    ensure(request.fits(&length), Wrong::Broken)?;
+    ensure(request.answer(length).is_ok(), Wrong::Broken)?;
+    let bytes = ticket.try_take().map(|reply| reply.bytes());
+    ensure(bytes == Ok(21), Wrong::Broken)?;
+    Ok(Outcome::Refused)
+}

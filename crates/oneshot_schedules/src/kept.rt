@@ -1,0 +1,43 @@
+//! The copies of wakers that a future keeps outside its channel. Both tasks of a program under the scheduler have one
+//! number, by which a future distinguishes them, so only how many it keeps counts.
+
+use oneshot_machine::machine::{End, Step};
+use oneshot_replay::{Made, WakerName};
+
+/// Whether a copy is in hand, and whether another is spare.
+#[derive(Clone, Copy)]
+pub(crate) struct Kept {
+    hand: bool,
+    spare: bool,
+}
+
+impl Kept {
+    pub(crate) fn new() -> Kept {
+        Kept {
+            hand: false,
+            spare: false,
+        }
+    }
+
+    /// Whether a copy is in hand. A poll stores it where its own copy is refused.
+    pub(crate) fn has_copy(&self) -> bool {
+        self.hand
+    }
+
+    /// Notes a step by which the receiver makes a copy, stores it or takes it back.
+    pub(crate) fn note(&mut self, made: &Made) {
+        let Some((WakerName::Copy { .. }, ..)) = made.waker else {
+            return;
+        };
+        match (made.side, made.step) {
+            (End::Receiver, Step::Copy) => self.hand = true,
+            (End::Receiver, Step::WriteWaker) => {
+                self.hand = self.spare;
+                self.spare = false;
+            }
+            (End::Receiver, Step::Withdraw) if self.hand => self.spare = true,
+            (End::Receiver, Step::Withdraw) => self.hand = true,
+            _ => {}
+        }
+    }
+}

@@ -1,0 +1,143 @@
+//! Requests whose server is told when nobody waits: each call of both ends, and when the server is told.
+
+use super::MOMENT;
+use crate::asserts::{assert_same, assert_that};
+use crate::reply::{TEXT, bytes_of};
+use futures::executor::block_on;
+use futures::task::Poll;
+use futures::test::MockTask;
+use oneshot_channel::reply::Length;
+use oneshot_channel::{RecvError, RecvTimeoutError, TryRecvError};
+use oneshot_watch::{CancellableRequest, CancellableTicket, cancellable_request};
+use std::alloc::{AllocError, Global};
+use std::test::Fail;
+use std::thread::{join, sleep};
+use std::time::Duration;
+
+/// A request for the length of a text, whose watch never blocks, and its ticket.
+type Ends<Rt> = (
+    CancellableRequest<String, Length, ()>,
+    CancellableTicket<String, Length, Rt>,
+);
+
+/// A request for the length of `TEXT`.
+fn ask<Rt: Drop>(rt: Rt, alloc: Global) -> Result<Ends<Rt>, AllocError> {
+    let question = String::from_str(alloc, TEXT)?;
+    cancellable_request(rt, (), alloc, question).map_err(|_| AllocError)
+}
+
+/// Answers with the length of the text. Inner `Err`: the ticket was gone, and the reply came back.
+fn answer(
+    request: CancellableRequest<String, Length, ()>,
+) -> Result<Result<(), Length>, AllocError> {
+    let length = Length::of(request.question().clone()?);
+    if !request.fits(&length) {
+        return Err(AllocError);
+    }
+    match request.answer(length) {
+        Ok(()) => Ok(Ok(())),
+        Err(refused) => Ok(Err(refused.into_inner())),
+    }
+}
+
+#[test]
+fn a_reply_is_taken_once(rt: HostRuntime) -> Result<(), Fail> {
+    let (request, mut ticket) = ask((), rt.alloc())?;
+    assert_same(&rt, request.question().as_str(), TEXT);
+    assert_that(&rt, !request.is_cancelled() && !ticket.is_closed());
+    let early = ticket.try_take().map(bytes_of);
+    assert_same(&rt, early, Err(TryRecvError::Empty));
+    assert_that(&rt, answer(request)?.is_ok());
+    assert_that(&rt, !ticket.is_closed());
+    assert_same(&rt, ticket.try_take().map(bytes_of), Ok(21));
+    let again = ticket.try_take().map(bytes_of);
+    assert_same(&rt, again, Err(TryRecvError::Disconnected));
+    assert_that(&rt, ticket.is_closed());
+    Ok(())
+}
+
+#[test]
+fn a_reply_is_waited_for(rt: HostRuntime) -> Result<(), Fail> {
+    let (request, mut ticket) = ask(&rt, rt.alloc())?;
+    let moment = Duration::from_millis(1);
+    let early = ticket.wait_for(moment).map(bytes_of);
+    assert_same(&rt, early, Err(RecvTimeoutError::Timeout));
+    assert_that(&rt, answer(request)?.is_ok());
+    assert_same(&rt, ticket.wait_for(moment).map(bytes_of), Ok(21));
+    let (request, ticket) = ask(&rt, rt.alloc())?;
+    assert_that(&rt, answer(request)?.is_ok());
+    assert_same(&rt, ticket.wait().map(bytes_of), Ok(21));
+    let (request, ticket) = ask(&rt, rt.alloc())?;
+    drop(request);
+    assert_same(&rt, ticket.wait().map(bytes_of), Err(RecvError));
+    Ok(())
+}
+
+#[test]
+fn a_reply_is_awaited(rt: HostRuntime) -> Result<(), Fail> {
+    let task = MockTask::new(&rt)?;
+    let (request, ticket) = ask((), rt.alloc())?;
+    let mut reply = ticket.into_future();
+    assert_that(&rt, matches!(task.poll(&mut reply), Poll::Pending));
+    let early = reply.try_recv().map(bytes_of);
+    assert_same(&rt, early, Err(TryRecvError::Empty));
+    assert_that(&rt, !reply.has_message() && !task.is_woken());
+    assert_that(&rt, answer(request)?.is_ok());
+    assert_that(&rt, reply.has_message() && task.is_woken());
+    assert_same(&rt, block_on(&rt, reply)?.map(bytes_of), Ok(21));
+    let (request, ticket) = ask((), rt.alloc())?;
+    let reply = ticket.into_future();
+    assert_that(&rt, !reply.is_closed());
+    drop(request);
+    assert_that(&rt, reply.is_closed());
+    assert_same(&rt, block_on(&rt, reply)?.map(bytes_of), Err(RecvError));
+    Ok(())
+}
+
+#[test]
+fn a_ticket_that_goes_is_told_and_its_reply_comes_back(rt: HostRuntime) -> Result<(), Fail> {
+    let (request, ticket) = ask((), rt.alloc())?;
+    drop(ticket);
+    assert_that(&rt, request.is_cancelled());
+    let Err(length) = answer(request)? else {
+        return Err(Fail::new("an answer without a ticket"));
+    };
+    assert_same(&rt, length.bytes(), 21);
+    let (request, ticket) = ask((), rt.alloc())?;
+    let (request, mut watch) = request.into_parts();
+    assert_that(&rt, !watch.is_gone() && !request.is_cancelled());
+    drop(ticket);
+    assert_that(&rt, watch.is_gone() && request.is_cancelled());
+    Ok(())
+}
+
+#[test]
+fn an_awaited_reply_that_goes_is_told(rt: HostRuntime) -> Result<(), Fail> {
+    let (request, ticket) = ask((), rt.alloc())?;
+    let (request, mut watch) = request.into_parts();
+    let reply = ticket.into_future();
+    assert_that(&rt, !watch.is_gone());
+    drop(reply);
+    assert_that(&rt, watch.is_gone() && request.is_cancelled());
+    Ok(())
+}
+
+#[test]
+fn a_ticket_that_waits_is_there(rt: HostRuntime) -> Result<(), Fail> {
+    let (request, ticket) = ask(&rt, rt.alloc())?;
+    let (request, mut watch) = request.into_parts();
+    let (reply, was_there) = join(
+        &rt,
+        || ticket.wait().map(bytes_of),
+        || {
+            sleep(&rt, Duration::from_millis(MOMENT));
+            let was_there = !watch.is_gone();
+            drop(request);
+            was_there
+        },
+    );
+    assert_same(&rt, reply, Err(RecvError));
+    assert_that(&rt, was_there);
+    assert_that(&rt, watch.is_gone());
+    Ok(())
+}

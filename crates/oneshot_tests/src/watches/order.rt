@@ -1,0 +1,83 @@
+//! A ticket is gone before its server is told: what the ticket drops sees that the guard is still there.
+
+use crate::asserts::assert_same;
+use crate::reply::TEXT;
+use oneshot_channel::reply::Length;
+use oneshot_watch::{CancellableTicket, Watch, cancellable_request};
+use std::alloc::{AllocError, Global};
+use std::cell::Cell;
+use std::process::Abort;
+use std::test::Fail;
+
+/// A server's watch, and whether the server was told before the ticket's runtime was dropped.
+#[derive(Drop)]
+struct Server {
+    watch: Cell<Option<Watch<()>>>,
+    was_told: Cell<Option<bool>>,
+}
+
+impl Server {
+    fn new() -> Server {
+        Server {
+            watch: Cell::new(None),
+            was_told: Cell::new(None),
+        }
+    }
+
+    /// Whether the server was told. `None`: it has no watch.
+    fn is_told(&self) -> Option<bool> {
+        let mut watch = self.watch.take()?;
+        let is_told = watch.is_gone();
+        self.watch.set(Some(watch));
+        Some(is_told)
+    }
+}
+
+/// The runtime of a ticket. Its drop notes whether the server was told.
+struct Witness<'a> {
+    server: &'a Server,
+}
+
+impl Drop for Witness<'_> {
+    fn drop(self) {
+        let Witness { server } = self;
+        server.was_told.set(server.is_told());
+    }
+}
+
+/// A ticket whose runtime's drop looks at the server's watch.
+fn ticket_of<'a>(
+    alloc: Global,
+    server: &'a Server,
+) -> Result<CancellableTicket<String, Length, Witness<'a>>, AllocError> {
+    let question = String::from_str(alloc, TEXT)?;
+    let made = cancellable_request(Witness { server }, (), alloc, question);
+    let (request, ticket) = made.map_err(|_| AllocError)?;
+    let (_, watch) = request.into_parts();
+    server.watch.set(Some(watch));
+    Ok(ticket)
+}
+
+/// Stops the test unless the server was told, and only after the ticket was gone.
+fn assert_told_last(rt: &impl Abort, server: &Server) {
+    assert_same(rt, server.was_told.get(), Some(false));
+    assert_same(rt, server.is_told(), Some(true));
+}
+
+#[test]
+fn a_ticket_is_gone_before_its_server_is_told(rt: HostRuntime) -> Result<(), Fail> {
+    let server = Server::new();
+    drop(ticket_of(rt.alloc(), &server)?);
+    assert_told_last(&rt, &server);
+    Ok(())
+}
+
+#[test]
+fn an_awaited_reply_is_gone_before_its_server_is_told(rt: HostRuntime) -> Result<(), Fail> {
+    let server = Server::new();
+    let reply = ticket_of(rt.alloc(), &server)?.into_future();
+    assert_same(&rt, server.is_told(), Some(false));
+    drop(reply);
+    assert_told_last(&rt, &server);
+    Ok(())
+}

@@ -1,0 +1,98 @@
+//! Waits of a watch: by another thread, and to the nanosecond by a written clock.
+
+use super::MOMENT;
+use crate::asserts::{assert_same, assert_that};
+use crate::ends::clocks::{TIMEOUTS, UNTIL_FIVE, Written, instant_at};
+use oneshot_watch::{Watch, watch};
+use std::process::Abort;
+use std::sync::Wait;
+use std::test::Fail;
+use std::thread::{Threads, join, sleep};
+use std::time::{Clock, Duration, Instant};
+
+/// The longest wait for a guard that goes, in seconds.
+const LIMIT: u64 = 10;
+
+/// What no such wait may last, in seconds.
+const MOST: u64 = 5;
+
+/// Whether a wait finds the guard gone that another thread drops meanwhile. Fails if it lasts too long.
+fn sees_it_go<R: Threads + Wait + Clock + AllocGlobal + Abort + Sync, F>(
+    rt: &R,
+    wait: F,
+) -> Result<bool, Fail>
+where
+    F: FnOnce(Watch<&R>) -> bool + Send,
+    requires { F.IsAlwaysCallable wait }
+{
+    let (guard, watch) = watch(rt, rt.alloc())?;
+    let start = Instant::now(rt)?;
+    let (gone, ()) = join(
+        rt,
+        || wait(watch),
+        || {
+            sleep(rt, Duration::from_millis(MOMENT));
+            drop(guard);
+        },
+    );
+    assert_that(rt, start.elapsed(rt)? < Duration::from_secs(MOST));
+    Ok(gone)
+}
+
+#[test]
+fn a_wait_ends_once_the_guard_is_gone(rt: HostRuntime) -> Result<(), Fail> {
+    let gone = sees_it_go(&rt, |mut watch| {
+        watch.wait();
+        watch.is_gone()
+    })?;
+    assert_that(&rt, gone);
+    assert_that(
+        &rt,
+        sees_it_go(
+            &rt,
+            |mut watch| watch.wait_timeout(Duration::from_secs(LIMIT)),
+        )?,
+    );
+    let deadline = Instant::now(&rt)?.checked_add(Duration::from_secs(LIMIT));
+    let deadline = deadline.expect(&rt, "an instant in ten seconds");
+    assert_that(
+        &rt,
+        sees_it_go(&rt, |mut watch| watch.wait_deadline(deadline))?,
+    );
+    Ok(())
+}
+
+#[test]
+fn a_wait_for_a_guard_that_is_gone_ends_at_once(rt: HostRuntime) -> Result<(), Fail> {
+    // A clock that fails is past every deadline.
+    let clock = Written::new(&rt, &[]);
+    let (guard, mut watch) = watch(&clock, rt.alloc())?;
+    drop(guard);
+    assert_that(&rt, watch.wait_deadline(instant_at(&rt, 5)?));
+    assert_that(&rt, watch.wait_timeout(Duration::ZERO));
+    watch.wait();
+    assert_that(&rt, watch.is_gone());
+    Ok(())
+}
+
+#[test]
+fn a_deadline_ends_a_wait_once_the_clock_is_past_it(rt: HostRuntime) -> Result<(), Fail> {
+    for (written, made) in UNTIL_FIVE {
+        let clock = Written::new(&rt, written);
+        let (_guard, mut watch) = watch(&clock, rt.alloc())?;
+        assert_that(&rt, !watch.wait_deadline(instant_at(&rt, 5)?));
+        assert_same(&rt, clock.made(), made);
+    }
+    Ok(())
+}
+
+#[test]
+fn a_timeout_of_a_wait_counts_from_one_reading(rt: HostRuntime) -> Result<(), Fail> {
+    for (timeout, written, made) in TIMEOUTS {
+        let clock = Written::new(&rt, written);
+        let (_guard, mut watch) = watch(&clock, rt.alloc())?;
+        assert_that(&rt, !watch.wait_timeout(Duration::from_nanos(timeout)));
+        assert_same(&rt, clock.made(), made);
+    }
+    Ok(())
+}

@@ -1,0 +1,168 @@
+//! Tests of limits, of the timers' period, and of a report that never comes.
+
+use crate::asking::Round;
+use crate::client::{Client, Pending};
+use crate::pool::keep_time;
+use crate::within::recv_within;
+use futures::task::{Doorbell, Poll, Solo};
+use futures::test::MockTask;
+use oneshot_channel::{RecvTimeoutError, async_channel, channel};
+use std::cell::Cell;
+use std::io;
+use std::sync::Wait;
+use std::test::Fail;
+use std::time::{Clock, Duration, Instant};
+use tokio::sync::mpsc::unbounded_channel;
+use tokio::time::Driver;
+
+/// A limit that no test waits for: the tests turn the timers by hand.
+fn limit() -> Duration {
+    Duration::from_secs(100)
+}
+
+/// One turn of the timers, so many seconds after `start`.
+fn turn(task: &MockTask, timers: &mut Driver, start: Instant, seconds: u64) -> Result<(), Fail> {
+    let now = start.checked_add(Duration::from_secs(seconds));
+    let now = now.ok_or("an instant can hold it")?;
+    let _next = task.enter(|cx| timers.turn(cx, now));
+    Ok(())
+}
+
+// The limit is over in a turn a second after it, counted from after the wait began, and not in one a second before it,
+// counted from before.
+#[test]
+fn a_wait_lasts_to_its_limit(rt: HostRuntime) -> Result<(), Fail> {
+    let task = MockTask::new(&rt)?;
+    let before = Instant::now(&rt)?;
+    let mut timers = Driver::new(rt.alloc(), before)?;
+    let (_sender, receiver) = async_channel::<u8, ()>((), rt.alloc())?;
+    let mut within = recv_within(&rt, timers.handle(), limit(), receiver)?;
+    assert!(rt; task.poll(&mut within) == Poll::Pending);
+    turn(&task, &mut timers, before, 99)?;
+    assert!(rt;
+        task.poll(&mut within) == Poll::Pending,
+        "it is over before its limit"
+    );
+    turn(&task, &mut timers, Instant::now(&rt)?, 101)?;
+    let late = Poll::Ready(Err(RecvTimeoutError::Timeout));
+    assert!(rt;
+        task.poll(&mut within) == late,
+        "it is not over after its limit"
+    );
+    Ok(())
+}
+
+#[test]
+fn a_client_awaits_replies_and_reports_to_its_limit(rt: HostRuntime) -> Result<(), Fail> {
+    let task = MockTask::new(&rt)?;
+    let before = Instant::now(&rt)?;
+    let mut timers = Driver::new(rt.alloc(), before)?;
+    let time = timers.handle().clone()?;
+    let (queue, _jobs) = unbounded_channel(rt.alloc())?;
+    let client = Client {
+        rt: &rt,
+        time: &time,
+        jobs: &queue,
+        limit: limit(),
+    };
+    let Pending {
+        root: _,
+        mut square,
+    } = client.ask(3)?;
+    let mut report = client.give_up(5)?;
+    assert!(rt; task.poll(&mut square).is_pending() && task.poll(&mut report).is_pending());
+    turn(&task, &mut timers, before, 99)?;
+    assert!(rt; task.poll(&mut square).is_pending(), "no reply");
+    assert!(rt; task.poll(&mut report).is_pending(), "no report");
+    turn(&task, &mut timers, Instant::now(&rt)?, 101)?;
+    assert!(rt; task.poll(&mut square).is_ready(), "a late reply");
+    assert!(rt; task.poll(&mut report).is_ready(), "a late report");
+    Ok(())
+}
+
+/// A runtime whose clock reads these nanoseconds, one after the other, and then fails. At each reading it looks whether
+/// a task was woken.
+#[derive(Drop)]
+struct Written<'a, R> {
+    rt: &'a R,
+    readings: Cell<&'a [u64]>,
+    task: &'a MockTask,
+    saw_it_woken: Cell<bool>,
+}
+
+impl<'a, R> Written<'a, R> {
+    fn new(rt: &'a R, readings: &'a [u64], task: &'a MockTask) -> Written<'a, R> {
+        Written {
+            rt,
+            readings: Cell::new(readings),
+            task,
+            saw_it_woken: Cell::new(false),
+        }
+    }
+}
+
+impl<'a, R: Wait> Wait for Written<'a, R> {}
+
+impl<'a, R> Clock for Written<'a, R> {
+    fn monotonic(&self) -> io::Result<Duration> {
+        if self.task.is_woken() {
+            self.saw_it_woken.set(true);
+        }
+        let Some((first, rest)) = self.readings.get().split_first() else {
+            return Err(io::ErrorKind::Unsupported.into());
+        };
+        self.readings.set(rest);
+        Ok(Duration::from_nanos(*first))
+    }
+
+    fn since_1970(&self) -> io::Result<Duration> {
+        self.monotonic()
+    }
+}
+
+/// A millisecond, in nanoseconds.
+const MILLISECOND: u64 = 1_000_000;
+
+/// A turn at zero; a wait that begins at zero, and is over a nanosecond after its millisecond; and a turn after two.
+const TWO_TURNS: [u64; 4] = [0, 0, MILLISECOND + 1, 2 * MILLISECOND];
+
+// A longer wait would take the last reading, and the clock would fail before the second turn. Once the clock has
+// failed, each timer fails, which wakes the task too, but no reading sees that.
+#[test]
+fn timers_fire_each_millisecond(rt: HostRuntime) -> Result<(), Fail> {
+    let task = MockTask::new(&rt)?;
+    let clock = Written::new(&rt, &TWO_TURNS, &task);
+    let start = Instant::now(&Written::new(&rt, &[0], &task))?;
+    let timers = Driver::new(rt.alloc(), start)?;
+    let due = start.checked_add(Duration::from_millis(2));
+    let mut sleep = timers
+        .handle()
+        .sleep_until(due.ok_or("an instant can hold it")?)?;
+    assert!(rt; task.poll(&mut sleep).is_pending());
+    let (_stop, stopped) = channel(&clock, rt.alloc())?;
+    let own = Solo::new(&rt, Doorbell::parking())?;
+    assert!(rt;
+        keep_time(&clock, timers, own, stopped).is_err(),
+        "the clock fails at last"
+    );
+    assert!(rt; clock.saw_it_woken.get(), "the timer did not fire");
+    Ok(())
+}
+
+#[test]
+fn where_no_report_comes_nobody_was_given_up(rt: HostRuntime) -> Result<(), Fail> {
+    let timers = Driver::new(rt.alloc(), Instant::now(&rt)?)?;
+    let (report, reported) = async_channel((), rt.alloc())?;
+    drop(report);
+    let (stop, mut stopped) = async_channel((), rt.alloc())?;
+    let round = Round {
+        all: Vec::new(rt.alloc()),
+        given_up: recv_within(&rt, timers.handle(), limit(), reported)?,
+        stop,
+    };
+    let (replies, given_up) = round.finish(&rt)?;
+    assert!(rt; replies.is_empty());
+    assert_eq!(rt; given_up, None);
+    assert_eq!(rt; stopped.try_recv(), Ok(()));
+    Ok(())
+}

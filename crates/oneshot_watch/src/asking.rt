@@ -1,0 +1,40 @@
+//! The function that makes a request whose server is told when its ticket is gone.
+
+ghost use Rattle.std.specs.Prelude.{◌≡◌, IfOk, IfErr, None};
+ghost use Rattle.oneshot_channel.specs.Ends.{IsOpen};
+
+use crate::pair::watch;
+use crate::requests::CancellableRequest;
+use crate::ticket::CancellableTicket;
+use oneshot_channel::reply::{Answer, request};
+use std::alloc::Global;
+
+/// Makes a request with `question`, as `request`, whose server is told when the ticket is gone.
+///
+/// `rt` is the runtime with which the ticket waits, and `server_rt` that of the server's watch; waits need
+/// `Wait + Clock` of theirs. Pass `()` for one that never waits. `alloc` allocates the memory of two channels; no
+/// later call allocates.
+///
+/// `Err`: out of memory. The error is the question; nothing stays allocated, and both runtimes are dropped.
+pub fn cancellable_request<Q: Eq + Send + Drop, A: Answer<Q> + Send + Drop, Rt: Drop, W: Drop>(
+    rt: Rt,
+    server_rt: W,
+    alloc: Global,
+    question: Q,
+) -> Result<(CancellableRequest<Q, A, W>, CancellableTicket<Q, A, Rt>), Q>
+    ensures request { IfOk result (λ made. made.0.about.question ≡ question) }
+    ensures ticket { IfOk result (λ made. made.1.about.question ≡ question) }
+    ensures one_channel { IfOk result (λ made. made.0.channel ≡ made.1.channel) }
+    ensures open { IfOk result (λ made. IsOpen made.1) }
+    ensures none_taken { IfOk result (λ made. made.1.took ≡ None) }
+    ensures back { IfErr result (λ back. back ≡ question) }
+{
+    let Ok((guard, watch)) = watch(server_rt, alloc) else {
+        return Err(question);
+    };
+    let (request, ticket) = request(rt, alloc, question)?;
+    Ok((
+        CancellableRequest::new(request, watch),
+        CancellableTicket::new(ticket, guard),
+    ))
+}

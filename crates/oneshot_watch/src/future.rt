@@ -1,0 +1,101 @@
+//! The watch as a future, which a task polls.
+
+ghost use Rattle.std.specs.Prelude.{◌≡◌, ◌≢◌, ⊤, true, false};
+ghost use Rattle.futures.specs.declared.task.Poll.TheVariants.{Pending, Ready};
+ghost use Rattle.futures.specs.Poll.{IfReady, OnPending};
+ghost use Rattle.futures.specs.Task.{Covers, Keeps};
+ghost use Rattle.oneshot_channel.specs.Counts.{receiver_bound, GrewWithin};
+ghost use Rattle.oneshot_channel.specs.Ends.{IsDone, IsUnfinished, ReceiverGrew, WillBeWoken};
+ghost use Rattle.oneshot_channel.specs.ReceiverStart.TheVariants as C;
+ghost use Rattle.oneshot_channel.specs.Reply.TheVariants as R;
+ghost use Rattle.oneshot_watch.specs.declared.never.Never.{Never};
+
+use crate::never::Never;
+use futures::Future;
+use futures::task::{Context, Poll};
+use oneshot_channel::{AsyncReceiver, RecvError, TryRecvError};
+use std::marker::Model;
+
+/// A future that is ready once its guard is gone.
+///
+/// Dropping it never blocks, and drops `rt` too; the guard is not told. Nor does any other call of it block.
+///
+/// In contracts it is its receiver's value (`FutureEndOf`): it is done exactly if a call has found its guard gone.
+///
+/// It may go to another thread between two polls if `Rt` is `Send`. Two threads cannot share it.
+#[derive(Drop)]
+pub struct AsyncWatch<Rt> {
+    receiver: AsyncReceiver<Never, Rt>,
+}
+
+impl<Rt> Model for AsyncWatch<Rt> {
+    ghost use Rattle.oneshot_channel.specs.Ends.{FutureEndOf};
+    ghost use Rattle.oneshot_watch.specs.declared.never.Never.{Never};
+
+    ghost Value = { FutureEndOf Never Unit };
+
+    ghost view = { λ w. w.receiver };
+}
+
+impl<Rt> AsyncWatch<Rt> {
+    pub(crate) fn new(receiver: AsyncReceiver<Never, Rt>) -> AsyncWatch<Rt>
+        ensures { result ≡ receiver }
+    {
+        AsyncWatch { receiver }
+    }
+}
+
+impl<Rt: Drop> AsyncWatch<Rt> {
+    /// Returns whether the guard is gone. It never blocks and does not allocate. A task that was registered still
+    /// is, if the guard is there.
+    pub fn is_gone(&mut self) -> bool
+        ensures channel { self.new.channel ≡ self.old.channel }
+        ensures source { self.new.source ≡ self.old.source }
+        ensures gone { result ≡ true → IsDone self.new }
+        ensures gone_run { result ≡ true
+            → ReceiverGrew Never C.AsyncTryRecv self.old.log self.new.log R.Disconnected }
+        ensures there { result ≡ false → IsUnfinished self.new }
+        ensures there_run { result ≡ false
+            → ReceiverGrew Never C.AsyncTryRecv self.old.log self.new.log R.Empty }
+        ensures same_waker { result ≡ false → self.new.registered ≡ self.old.registered }
+        ensures stays_gone { IsDone self.old → result ≡ true }
+        ensures bounded { GrewWithin (receiver_bound C.AsyncTryRecv) self.old.log self.new.log }
+    {
+        match self.receiver.try_recv() {
+            Err(TryRecvError::Disconnected) => true,
+            Err(TryRecvError::Empty) => false,
+        }
+    }
+}
+
+impl<Rt: Drop> Future for AsyncWatch<Rt> {
+    type Output = ();
+
+    ghost needs = { λ w s. s ≡ w.source };
+
+    /// Polls once, for the task of `cx`. It never blocks and does not allocate.
+    ///
+    /// - `Ready`: the guard is gone. A future that was ready returns this from then on.
+    /// - `Pending`: the guard is there. The task is registered, and woken when the guard is dropped (clause
+    ///   `woken`). If no copy of its waker could be made, or the guard's drop is under way, it is woken at once.
+    fn poll(&mut self, cx: &mut Context<'_>) -> Poll<()>
+        ensures value { IfReady result (λ _. ⊤) }
+        ensures again { OnPending result ⊤ }
+        ensures same { OnPending result (Unit → ⊤ → ⊤) }
+        ensures registered { OnPending result (Covers cx.new (λ s. s ≡ self.new.source)) }
+        ensures woken { OnPending result (WillBeWoken cx.new self.new) }
+        ensures kept { Keeps cx.old cx.new }
+        ensures channel { self.new.channel ≡ self.old.channel }
+        ensures source { self.new.source ≡ self.old.source }
+        ensures gone { result ≢ Pending → IsDone self.new }
+        ensures gone_run { result ≢ Pending → ReceiverGrew Never C.Poll self.old.log self.new.log R.Disconnected }
+        ensures there { result ≡ Pending → IsUnfinished self.new }
+        ensures there_run { result ≡ Pending → ReceiverGrew Never C.Poll self.old.log self.new.log R.Pending }
+        ensures bounded { GrewWithin (receiver_bound C.Poll) self.old.log self.new.log }
+    {
+        match self.receiver.poll(cx) {
+            Poll::Ready(Err(RecvError)) => Poll::Ready(()),
+            Poll::Pending => Poll::Pending,
+        }
+    }
+}

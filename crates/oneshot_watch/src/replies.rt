@@ -1,0 +1,137 @@
+//! A cancellable ticket as a future, which a task polls.
+
+ghost use Rattle.std.specs.Prelude.{◌≡◌, ◌≢◌, ⊤, true, Result, Err, IfOk};
+ghost use Rattle.futures.specs.declared.task.Poll.TheVariants.{Pending};
+ghost use Rattle.futures.specs.Poll.{IfReady, OnPending};
+ghost use Rattle.futures.specs.Task.{Covers, Keeps};
+ghost use Rattle.oneshot_channel.specs.BetweenCalls.{try_recv_reply};
+ghost use Rattle.oneshot_channel.specs.Counts.{receiver_bound, GrewWithin};
+ghost use Rattle.oneshot_channel.specs.Ends.{IsDone, IsUnfinished, ReceiverGrew, WillBeWoken};
+ghost use Rattle.oneshot_channel.specs.Phases.{receiver_at};
+ghost use Rattle.oneshot_channel.specs.Polls.{LeavesPolled, LeavesTried, StaysRegistered, IsDisconnected, poll_reply};
+ghost use Rattle.oneshot_channel.specs.ReceiverStart.TheVariants as C;
+ghost use Rattle.oneshot_channel.specs.RecvError.{RecvError};
+ghost use Rattle.oneshot_channel.specs.Taken.{Takes, TakesReady};
+ghost use Rattle.oneshot_channel.specs.TryRecvError.TheVariants as Tried;
+
+use crate::guard::Guard;
+use futures::Future;
+use futures::task::{Context, Poll};
+use oneshot_channel::reply::{Answer, Asked};
+use oneshot_channel::{AsyncReceiver, RecvError, TryRecvError};
+use std::marker::Model;
+
+/// The future of a reply, with the guard that its server watches.
+///
+/// Its calls are those of the `AsyncReceiver` of a ticket, with the same contracts.
+///
+/// Dropping it drops a reply that came and was not taken, and its `rt`. A later answer is refused: its error has
+/// the reply. Then the drop tells the server's watch. It never blocks.
+///
+/// It may go to another thread between two polls if `Q`, `A` and `Rt` are `Send`. Two threads cannot share it.
+///
+/// In contracts it is its receiver's value (`FutureEndOf`), whose `about` has the question.
+pub struct CancellableReply<Q: Eq, A: Answer<Q>, Rt> {
+    replies: AsyncReceiver<A, Rt, Asked<Q>>,
+    guard: Guard,
+}
+
+impl<Q: Eq, A: Answer<Q>, Rt> Model for CancellableReply<Q, A, Rt> {
+    ghost use Rattle.oneshot_channel.specs.Asked.{Asked};
+    ghost use Rattle.oneshot_channel.specs.Ends.{FutureEndOf};
+
+    ghost Value = { FutureEndOf A (Asked Q) };
+
+    ghost view = { λ r. r.replies };
+}
+
+impl<Q: Eq, A: Answer<Q>, Rt> CancellableReply<Q, A, Rt> {
+    pub(crate) fn new(
+        replies: AsyncReceiver<A, Rt, Asked<Q>>,
+        guard: Guard,
+    ) -> CancellableReply<Q, A, Rt>
+        ensures { result ≡ replies }
+    {
+        CancellableReply { replies, guard }
+    }
+
+    /// Returns whether the request was dropped unanswered, or the reply was received. It is one load and never
+    /// blocks.
+    pub fn is_closed(&self) -> bool {
+        self.replies.is_closed()
+    }
+
+    /// Returns whether the reply is there, for the next poll. It is one load and never blocks.
+    pub fn has_message(&self) -> bool {
+        self.replies.has_message()
+    }
+}
+
+impl<Q: Eq, A: Answer<Q> + Drop, Rt: Drop> CancellableReply<Q, A, Rt> {
+    /// Takes the reply if it is there, as `AsyncReceiver::try_recv`. It never blocks and does not allocate.
+    ///
+    /// - `Ok`: the reply. The future is done from then on.
+    /// - `Err(Empty)`: no reply came yet, or an answer is under way. The future stays open, and a task that was
+    ///   registered still is.
+    /// - `Err(Disconnected)`: the request was dropped unanswered, or the reply was received before.
+    pub fn try_recv(&mut self) -> Result<A, TryRecvError>
+        ensures channel { self.new.channel ≡ self.old.channel }
+        ensures source { self.new.source ≡ self.old.source }
+        ensures run { ReceiverGrew A C.AsyncTryRecv self.old.log self.new.log (try_recv_reply result) }
+        ensures leaves { LeavesTried result (receiver_at self.new.log) }
+        ensures closes { result ≢ Err Tried.Empty → IsDone self.new }
+        ensures stays_open { result ≡ Err Tried.Empty → IsUnfinished self.new }
+        ensures stays_closed { IsDone self.old → result ≡ Err Tried.Disconnected }
+        ensures registered { StaysRegistered result (receiver_at self.old.log) (receiver_at self.new.log) }
+        ensures same_waker { result ≡ Err Tried.Empty → self.new.registered ≡ self.old.registered }
+        ensures bounded { GrewWithin (receiver_bound C.AsyncTryRecv) self.old.log self.new.log }
+        ensures about { self.new.about ≡ self.old.about }
+        ensures kept { IfOk result (λ reply. Q.eq (A.asked reply) self.old.about.question ≡ true) }
+        ensures took { Takes result self.old.took self.new.took }
+    {
+        self.replies.try_recv()
+    }
+}
+
+impl<Q: Eq, A: Answer<Q> + Drop, Rt: Drop> Future for CancellableReply<Q, A, Rt> {
+    type Output = Result<A, RecvError>;
+
+    ghost needs = { λ r s. s ≡ r.source };
+
+    // The reply names a question equal to the ticket's, also after an executor or a combinator has passed it on.
+    ghost gives = { λ r answer. IfOk answer (λ reply. Q.eq (A.asked reply) r.about.question ≡ true) };
+
+    /// Polls once, for the task of `cx`, as `AsyncReceiver::poll`. It never blocks and does not allocate.
+    fn poll(&mut self, cx: &mut Context<'_>) -> Poll<Result<A, RecvError>>
+        ensures value { IfReady result
+            (λ answer. IfOk answer (λ reply. Q.eq (A.asked reply) self.old.about.question ≡ true)) }
+        ensures again { OnPending result ⊤ }
+        ensures same { OnPending result ((answer : Result A RecvError)
+            → IfOk answer (λ reply. Q.eq (A.asked reply) self.new.about.question ≡ true)
+            → IfOk answer (λ reply. Q.eq (A.asked reply) self.old.about.question ≡ true)) }
+        ensures registered { OnPending result (Covers cx.new (λ s. s ≡ self.new.source)) }
+        ensures woken { OnPending result (WillBeWoken cx.new self.new) }
+        ensures kept { Keeps cx.old cx.new }
+        ensures channel { self.new.channel ≡ self.old.channel }
+        ensures source { self.new.source ≡ self.old.source }
+        ensures run { ReceiverGrew A C.Poll self.old.log self.new.log (poll_reply result) }
+        ensures leaves { LeavesPolled result (receiver_at self.new.log) }
+        ensures closes { result ≢ Pending → IsDone self.new }
+        ensures stays_open { result ≡ Pending → IsUnfinished self.new }
+        ensures stays_closed { IsDone self.old → IsDisconnected result }
+        ensures bounded { GrewWithin (receiver_bound C.Poll) self.old.log self.new.log }
+        ensures about { self.new.about ≡ self.old.about }
+        ensures took { TakesReady result self.old.took self.new.took }
+    {
+        self.replies.poll(cx)
+    }
+}
+
+impl<Q: Eq, A: Answer<Q> + Drop, Rt: Drop> Drop for CancellableReply<Q, A, Rt> {
+    // The receiver goes first, so that a server that is told finds the request cancelled.
+    fn drop(self) {
+        let CancellableReply { replies, guard } = self;
+        drop(replies);
+        drop(guard);
+    }
+}

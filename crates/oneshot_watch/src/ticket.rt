@@ -1,0 +1,150 @@
+//! A ticket whose drop tells the server that nobody waits for the reply.
+
+ghost use Rattle.std.specs.Prelude.{◌≡◌, ◌≢◌, true, Err, IsErr, IfOk};
+ghost use Rattle.oneshot_channel.specs.BetweenCalls.{Leaves, LeavesTimed, try_recv_reply, timed_reply};
+ghost use Rattle.oneshot_channel.specs.Counts.{receiver_bound, GrewWithin};
+ghost use Rattle.oneshot_channel.specs.Ends.{IsClosed, IsOpen, ReceiverGrew, TimeoutGrew};
+ghost use Rattle.oneshot_channel.specs.Phases.{receiver_at};
+ghost use Rattle.oneshot_channel.specs.ReceiverStart.TheVariants.{TryRecv};
+ghost use Rattle.oneshot_channel.specs.RecvTimeoutError.TheVariants as Timed;
+ghost use Rattle.oneshot_channel.specs.Taken.{Takes};
+ghost use Rattle.oneshot_channel.specs.TryRecvError.TheVariants as Tried;
+
+use crate::guard::Guard;
+use crate::replies::CancellableReply;
+use oneshot_channel::reply::{Answer, Ticket};
+use oneshot_channel::{Message, RecvError, RecvTimeoutError, TryRecvError};
+use std::marker::Model;
+use std::sync::Wait;
+use std::time::{Clock, Duration};
+
+/// A ticket with the guard that its server watches.
+///
+/// Its calls are those of `Ticket`, with the same contracts.
+///
+/// Dropping it drops a reply that came and was not taken, and its `rt`. A later answer is refused: its error has
+/// the reply. Then the drop tells the server's watch. It never blocks.
+///
+/// It may be sent to another thread if `Q`, `A` and `Rt` are `Send`. Two threads cannot share it.
+///
+/// In contracts it is its ticket's value (`EndOf`), whose `about` has the question.
+pub struct CancellableTicket<Q: Eq, A: Answer<Q>, Rt> {
+    ticket: Ticket<Q, A, Rt>,
+    guard: Guard,
+}
+
+impl<Q: Eq, A: Answer<Q>, Rt> Model for CancellableTicket<Q, A, Rt> {
+    ghost use Rattle.oneshot_channel.specs.Asked.{Asked};
+    ghost use Rattle.oneshot_channel.specs.Ends.{EndOf};
+
+    ghost Value = { EndOf A (Asked Q) };
+
+    ghost view = { λ t. t.ticket };
+}
+
+impl<Q: Eq, A: Answer<Q>, Rt> CancellableTicket<Q, A, Rt> {
+    pub(crate) fn new(ticket: Ticket<Q, A, Rt>, guard: Guard) -> CancellableTicket<Q, A, Rt>
+        ensures { result ≡ ticket }
+    {
+        CancellableTicket { ticket, guard }
+    }
+
+    /// Returns whether the request was dropped unanswered, or the reply was taken. Every later receive then
+    /// fails as disconnected. It is one load and never blocks.
+    pub fn is_closed(&self) -> bool {
+        self.ticket.is_closed()
+    }
+}
+
+impl<Q: Eq, A: Answer<Q> + Drop, Rt: Drop> CancellableTicket<Q, A, Rt> {
+    /// Takes the reply if it is there. It never blocks and does not allocate.
+    ///
+    /// - `Ok`: the reply. The ticket is closed from then on.
+    /// - `Err(Empty)`: no reply came yet, and the request was not dropped. The ticket stays open.
+    /// - `Err(Disconnected)`: the request was dropped unanswered, or the reply was taken before. Every later
+    ///   call returns the same.
+    pub fn try_take(&mut self) -> Result<A, TryRecvError>
+        ensures own { IfOk result (λ reply. Q.eq (A.asked reply) self.old.about.question ≡ true) }
+        ensures right { IfOk result (λ reply. A.answers (A.asked reply) reply) }
+        ensures about { self.new.about ≡ self.old.about }
+        ensures took { Takes result self.old.took self.new.took }
+        ensures channel { self.new.channel ≡ self.old.channel }
+        ensures run { ReceiverGrew A TryRecv self.old.log self.new.log (try_recv_reply result) }
+        ensures leaves { Leaves result (receiver_at self.new.log) }
+        ensures closes { result ≢ Err Tried.Empty → IsClosed self.new }
+        ensures stays_open { result ≡ Err Tried.Empty → IsOpen self.new }
+        ensures stays_closed { IsClosed self.old → result ≡ Err Tried.Disconnected }
+        ensures bounded { GrewWithin (receiver_bound TryRecv) self.old.log self.new.log }
+    {
+        self.ticket.try_take()
+    }
+
+    /// Turns the ticket into a future that a task can poll. Its replies have the guarantees of the ticket's, and
+    /// its drop tells the server. It never blocks and does not allocate.
+    pub fn into_future(self) -> CancellableReply<Q, A, Rt>
+        ensures about { result.about ≡ self.about }
+        ensures took { result.took ≡ self.took }
+        ensures channel { result.channel ≡ self.channel }
+        ensures log { result.log ≡ self.log }
+    {
+        let CancellableTicket { ticket, guard } = self;
+        CancellableReply::new(ticket.into_future(), guard)
+    }
+}
+
+impl<Q: Eq, A: Answer<Q> + Message, Rt: Wait + Clock + Drop> CancellableTicket<Q, A, Rt> {
+    /// Blocks until the request is answered or dropped, and consumes the ticket. It does not allocate.
+    ///
+    /// - `Ok`: the reply.
+    /// - `Err`: the request was dropped unanswered, or the reply was taken before.
+    ///
+    /// It blocks forever if the request is neither answered nor dropped, for example because this thread
+    /// still holds it.
+    pub fn wait(self) -> Result<A, RecvError>
+        ensures own { IfOk result (λ reply. Q.eq (A.asked reply) self.about.question ≡ true) }
+        ensures right { IfOk result (λ reply. A.answers (A.asked reply) reply) }
+        ensures stays_closed { IsClosed self → IsErr result }
+    {
+        let CancellableTicket {
+            ticket,
+            guard: _guard,
+        } = self;
+        ticket.wait()
+    }
+}
+
+impl<Q: Eq, A: Answer<Q> + Drop, Rt: Wait + Clock + Drop> CancellableTicket<Q, A, Rt> {
+    /// Blocks until the request is answered or dropped, or until the runtime's clock has advanced by more
+    /// than `timeout`. It does not allocate.
+    ///
+    /// - `Ok`: the reply. The ticket is closed from then on.
+    /// - `Err(Timeout)`: no reply came in time, and the request was not dropped. The ticket stays open.
+    /// - `Err(Disconnected)`: the request was dropped unanswered, or the reply was taken before. Every later
+    ///   call returns the same.
+    ///
+    /// If no instant can hold the sum of now and `timeout`, the call never returns `Timeout`. If the clock
+    /// fails, the deadline is over at once.
+    pub fn wait_for(&mut self, timeout: Duration) -> Result<A, RecvTimeoutError>
+        ensures own { IfOk result (λ reply. Q.eq (A.asked reply) self.old.about.question ≡ true) }
+        ensures right { IfOk result (λ reply. A.answers (A.asked reply) reply) }
+        ensures about { self.new.about ≡ self.old.about }
+        ensures took { Takes result self.old.took self.new.took }
+        ensures channel { self.new.channel ≡ self.old.channel }
+        ensures run { TimeoutGrew A timeout self.old.log self.new.log (timed_reply result) }
+        ensures leaves { LeavesTimed result (receiver_at self.new.log) }
+        ensures closes { result ≢ Err Timed.Timeout → IsClosed self.new }
+        ensures stays_open { result ≡ Err Timed.Timeout → IsOpen self.new }
+        ensures stays_closed { IsClosed self.old → result ≡ Err Timed.Disconnected }
+    {
+        self.ticket.wait_for(timeout)
+    }
+}
+
+impl<Q: Eq, A: Answer<Q> + Drop, Rt: Drop> Drop for CancellableTicket<Q, A, Rt> {
+    // The ticket goes first, so that a server that is told finds the request cancelled.
+    fn drop(self) {
+        let CancellableTicket { ticket, guard } = self;
+        drop(ticket);
+        drop(guard);
+    }
+}
