@@ -89,6 +89,7 @@ impl<T: Message, P: Promise<T>> Sender<T, P> {
     {
         let Sender { side } = self;
         let mut ground = side.into_ground();
+        // A body of its own too: `send` is for a channel without a promise.
         if send(&mut ground, message) {
             T::sent(ground);
             return Ok(());
