@@ -21,7 +21,7 @@ NOT_READ = {
     "oneshot_memory": "grounds in memory, which serve tests",
 }
 EXAMPLES = re.compile(
-    r"\w+\.\w*Examples\.|oneshot_law_examples\.|oneshot_word\.Received\.(?:Messages|Wakers)|\w+\.\w*Order\.W")
+    r"\w+\.\w*Examples\.|oneshot_law_examples\.|\w+\.\w*Order\.W")
 
 # "crate.File", its definitions (also as patterns of the shell), and why no example has to reach them.
 UNREACHED = [

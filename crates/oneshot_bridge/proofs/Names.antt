@@ -29,7 +29,6 @@ pub use Rattle.oneshot_laws.specs.Replies.{answers, answers_only, is_gone_after_
 pub use Rattle.oneshot_laws.specs.Unwoken.{is_unwoken, is_never_unwoken, waits_in_task}
 pub use Rattle.oneshot_machine.proofs.ExactTables.{receiver_exact}
 pub use Rattle.oneshot_machine.proofs.GrownLogs.{phase_from-snoc}
-pub use Rattle.oneshot_machine.proofs.OrderedExamples.{orders_that_are, orders_that_are_not}
 pub use Rattle.oneshot_machine.proofs.Sameness.{each_passes, some_passes, ops_are_same}
 pub use Rattle.oneshot_machine.specs.Called.{Form, as_receiver, ReceiverCalled, not_called, called, became_future, SenderCalled, not_called_yet, called_once, stays}
 pub use Rattle.oneshot_machine.specs.Exact.{none_yet, one_more, Accepts}

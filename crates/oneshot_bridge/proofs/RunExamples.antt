@@ -1,6 +1,6 @@
 -- The examples of runs: the worked one step by step, and what each field of the others states.
 use Rattle.oneshot_bridge.proofs.Names.{◌≡◌, ℕ, List, [], ◌∷◌, None, Some, refl, sym, ap, ◌∙◌, Done, Try, SendWrite, SendAdd, TryLoad, Close, Take, Load, Store, Add, Noted, Goes, Answers}
-use Rattle.oneshot_bridge.proofs.Names.{orders_that_are, orders_that_are_not, calls_of, Entry, marks, is_right, View, Home, view, receiver_answered, sender_answered, is_at_rest, RunsCalls, worlds_by}
+use Rattle.oneshot_bridge.proofs.Names.{calls_of, Entry, marks, is_right, View, Home, view, receiver_answered, sender_answered, is_at_rest, RunsCalls, worlds_by}
 use Rattle.oneshot_bridge.proofs.Names.{world_by, scene_at, sends, HaveCome, InOrder, OfARun, maker_before, dealer_before, is_run, log_of, answered_by, RunsSo, RunsTo, tries, stops, in_turn, sent_log}
 use Rattle.oneshot_bridge.proofs.Names.{tried_log, sent_call, tried_call, sender_stands, receiver_stands, told, AnswersThatAre, RunsThatAre, RunsThatAreNot, RunsSay, SendsOnly, begins, quietly}
 use Rattle.oneshot_bridge.proofs.Names.{by_one, Quiet, quiet, Operates, operates, the_sender, SenderStand, ReceiverStand, SenderWalk}
@@ -9,6 +9,9 @@ use Rattle.oneshot_machine.specs.declared.machine.Reply.TheVariants as R
 use Rattle.oneshot_machine.specs.declared.machine.Seen.TheVariants.{Word}
 use Rattle.oneshot_machine.specs.declared.states.TheConstants.{DISCONNECTED, EMPTY, MESSAGE}
 use Rattle.oneshot_machine.proofs.InOrders.{in_order}
+use Rattle.oneshot_machine.proofs.OrdersAhead.{ahead}
+use Rattle.oneshot_machine.specs.Orders.{has_row, nothing_made, sender_makes, receiver_makes}
+use Rattle.oneshot_machine.specs.Slots.{head, tail}
 use Rattle.oneshot_world.specs.declared.state.SenderState.TheVariants as SS
 use Rattle.oneshot_word.specs.declared.rule.Role.TheVariants as Role
 use Rattle.oneshot_bridge.proofs.Examples.{wrong_runs}
@@ -40,7 +43,10 @@ module _ {T : Type 0} (m : T) where
   come : HaveCome InOrder (sends m) tries sent_log tried_log 2 s_end r_end
   come =
       record {
-        order = in_order orders_that_are.received;
+        order =
+            in_order
+            (receiver_makes (Store DISCONNECTED)
+            (receiver_makes Load (sender_makes Add nothing_made (has_row head)) (has_row (tail head))) (has_row head));
         sender =
             by_one (Add, Word EMPTY) (quietly begins (quiet SendWrite Done (Goes SendAdd) refl refl refl))
             (operates SendAdd (Add, Word EMPTY) (Answers R.Sent) refl refl refl);
@@ -154,7 +160,7 @@ module _ {T : Type 0} (m : T) where
   pub runs_that_are_not : RunsThatAreNot m
   runs_that_are_not =
       record {
-        have_no_order = λ s r come. orders_that_are_not.begins_at_another_word come.order;
+        have_no_order = λ s r come. let goes = ahead come.order in elim goes [ ];
         sends_unasked = λ s r come. let is : sent_log ≡ [] = (no_step T come.sender).1 in cc is;
         skips_its_load = λ s r come. (wrong_runs m).skips_its_load r come.receiver;
         has_sent_nothing =

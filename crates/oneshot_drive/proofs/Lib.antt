@@ -14,6 +14,4 @@ pub mod TriedFutures
 pub mod LeftCopies
 pub mod DroppedFutures
 pub mod OwnCopies
-pub mod EndExamples
-pub mod GroundExamples
 pub mod Names

@@ -7,8 +7,6 @@ pub use Rattle.oneshot_machine.specs.Over.{IsLate}
 pub use Rattle.oneshot_drive.specs.BetweenCalls.{finds_waiting, finds_overdue, finds_gone, Finishes, send_reply, IsFresh, IsError, Owes, IsOvertaken, IsOpenAt}
 pub use Rattle.oneshot_drive.specs.Blocking.{Path, value_end, EndsAt, Returns, returned, taken, Refills, refilled, HandAt, Stretch, nothing, answers, onward, ReceiveBy, by_ref, by_value, load_of}
 pub use Rattle.oneshot_drive.specs.Blocking.{write_of, wait_of, end_of, WaitedHand, parks_waiting, parks_overdue, asked_of, ref_end, Parks}
-pub use Rattle.oneshot_drive.specs.Examples.{sent, EndsThatAre, EndsThatAreNot, CallsThatLeave, CallsThatDoNot, RepliesThatAre, HandsThatAre, HandsThatAreNot, log_of, GroundsThatAre}
-pub use Rattle.oneshot_drive.specs.Examples.{GroundsThatAreNot, WakersThatAre, WakersThatAreNot}
 pub use Rattle.oneshot_drive.specs.Grounds.{GroundState, StandsWith, Stands, receiver_slots, ReceiverAsks, ReceiverMakes, StandsIn, SenderMakes, SenderAsks}
 pub use Rattle.oneshot_drive.specs.Polls.{hand_after, WritesHand, WritesCopies, WroteCopies, Polled, unpolled, left_copy, kept_copy, found_sender, has_resolved, IsPolled, LeavesPolled}
 pub use Rattle.oneshot_drive.specs.Polls.{leaves_resolved, leaves_over, leaves_gone, leaves_uncopied, leaves_waiting, leaves_its_copy, leaves_claimed, EndsPoll, tried_resolved, tried_its_copy}
@@ -21,13 +19,10 @@ pub use Rattle.oneshot_errors.specs.declared.recv_timeout.RecvTimeoutError.{Recv
 pub use Rattle.oneshot_errors.specs.declared.try_recv.TryRecvError.{TryRecvError}
 pub use Rattle.oneshot_machine.proofs.CallBounds.{drop_few, send_few, async_try_recv_few, poll_few, drop_async_few, drop_receiver_few, try_recv_few}
 pub use Rattle.oneshot_machine.proofs.Exactness.{leads, differ}
-pub use Rattle.oneshot_machine.proofs.ExampleRuns.{runs_that_are}
 pub use Rattle.oneshot_machine.proofs.GrownLogs.{receiver_moved, and_then, sender_moved, words_stay}
 pub use Rattle.oneshot_machine.proofs.Landings.{is_room, has_row, Each, landings, found_so, is_in, put_in, as_before, turned, message_kept, landings_of, landed, each, sender_apart, FoundSo, emptied}
 pub use Rattle.oneshot_machine.proofs.Landings.{row_of, Landing, among, is_among, differs, receiver_apart, waker_kept}
-pub use Rattle.oneshot_machine.proofs.RowExamples.{slots_that_are, slots_that_are_not}
 pub use Rattle.oneshot_machine.proofs.Sameness.{same_op}
-pub use Rattle.oneshot_machine.specs.Examples.{waking}
 pub use Rattle.oneshot_machine.specs.Logs.{Log, Grows, receiver_of, did, took, clocked, worded, Event, handed, copied, wrote, sender_of, kept, parked, when_written, when_taken, messages_given}
 pub use Rattle.oneshot_machine.specs.Logs.{messages_got, words}
 pub use Rattle.oneshot_machine.specs.Noted.{is_same_op, saw}

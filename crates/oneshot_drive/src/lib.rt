@@ -4,7 +4,6 @@
 mod blocking;
 mod found;
 mod ground;
-pub mod laws;
 mod polling;
 mod receiver;
 mod sender;

@@ -5,18 +5,13 @@ pub mod Polling
 pub mod Copies
 pub mod Ends
 pub mod Deadlines
-pub mod Examples
 pub mod Taken
-pub mod TakenExamples
 pub mod Tokens
-pub mod TokenExamples
 pub mod Woken
 pub mod OwnWakers
 pub mod Moments
 pub mod NoLostWakeup
-pub mod OwnExamples
 pub mod Patience
-pub mod PatienceExamples
 pub mod Keeps
 pub mod Invariants
 -- the definitions of the crates beneath that the contracts of `oneshot_reply` name

@@ -5,17 +5,11 @@ ghost use Rattle.futures.specs.declared.task.context.Context.{Context};
 ghost use Rattle.std.specs.Prelude.{◌≡◌, [], None};
 ghost use Rattle.oneshot_machine.specs.Called.{as_receiver, as_future};
 ghost use Rattle.oneshot_ends.specs.Ends.{IsOpen, IsUnfinished, HasCalls, CallsAddUp, SenderIsOrdered, ReceiverIsOrdered, WasRefused};
-ghost use Rattle.oneshot_ends.specs.Examples.{EndsThatAre, EndsThatAreNot, CallsThatGrow, CallsThatDoNot, DeadlinesThatAre, DeadlinesThatAreNot, CopiesThatAre, CopiesThatAreNot, GroundsThatAre};
-ghost use Rattle.oneshot_ends.specs.Examples.{GroundsThatAreNot, OrdersThatAre, OrdersThatAreNot};
 ghost use Rattle.oneshot_ends.specs.Moments.{TookWhatWasGiven};
 ghost use Rattle.oneshot_ends.specs.NoLostWakeup.{EndedSendersGaveTokens, NoSleeperIsForgotten, FuturesWakeNoThread};
 ghost use Rattle.oneshot_ends.specs.NoLostWakeup.{EndedSendersWokeTasks, NoTaskIsForgotten, GivenTokensStay};
-ghost use Rattle.oneshot_ends.specs.OwnExamples.{UsesThatAre, UsesThatAreNot};
-ghost use Rattle.oneshot_ends.specs.PatienceExamples.{WaitsThatAre, WaitsThatAreNot};
 ghost use Rattle.oneshot_ends.specs.Taken.{TookAsFound};
-ghost use Rattle.oneshot_ends.specs.TakenExamples.{TakesThatAre, TakesThatAreNot};
 ghost use Rattle.oneshot_ends.specs.Tokens.{LivesLeadToStates, TokensAreGivenOnce, HasOneWakingHalf};
-ghost use Rattle.oneshot_ends.specs.TokenExamples.{StatesThatAreNot, LivesThatAre, LivesThatAreNot, StepsThatWake, StepsThatDoNot, WakersThatWoke, WakersThatDidNot};
 
 use crate::error::SendError;
 use crate::future::AsyncReceiver;
@@ -174,35 +168,4 @@ pub fn no_wakeup_is_lost<T, P: Promise<T>>()
     ensures futures { FuturesWakeNoThread P.keeps }
     ensures tasks { EndedSendersWokeTasks P.keeps }
     ensures registered { NoTaskIsForgotten P.keeps }
-{}
-
-/// Examples that the definitions accept or refuse: open and closed ends, logs of calls, deadlines, copies of
-/// wakers, grounds, logs that have an order, states and lives of a token, uses of a parker's own
-/// waker, steps of a sender and wakers that wake, receives that wait, and messages that a receiver took.
-pub fn examples_are_so<T>()
-    ensures ends { (channel : TableId) → EndsThatAre channel }
-    ensures no_ends { (channel : TableId) → EndsThatAreNot channel }
-    ensures calls { CallsThatGrow T }
-    ensures no_calls { CallsThatDoNot T }
-    ensures deadlines { DeadlinesThatAre }
-    ensures no_deadlines { DeadlinesThatAreNot }
-    ensures copies { (before after : Context) → CopiesThatAre before after }
-    ensures no_copies { (before after : Context) → CopiesThatAreNot before after }
-    ensures grounds { (table : TableId) → GroundsThatAre table }
-    ensures no_grounds { (table : TableId) → GroundsThatAreNot table }
-    ensures no_states { StatesThatAreNot }
-    ensures lives { LivesThatAre }
-    ensures no_lives { LivesThatAreNot }
-    ensures wakes { StepsThatWake }
-    ensures no_wakes { StepsThatDoNot }
-    ensures woken { WakersThatWoke }
-    ensures unwoken { WakersThatDidNot }
-    ensures waits { WaitsThatAre }
-    ensures no_waits { WaitsThatAreNot }
-    ensures orders { OrdersThatAre }
-    ensures no_orders { OrdersThatAreNot }
-    ensures uses { UsesThatAre }
-    ensures no_uses { UsesThatAreNot }
-    ensures takes { TakesThatAre }
-    ensures no_takes { TakesThatAreNot }
 {}

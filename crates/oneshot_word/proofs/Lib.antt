@@ -21,8 +21,4 @@ pub mod RuleReceives
 pub mod MessagePasses
 mod SidePartsSend
 mod MadeSides
-mod RuleExamples
-mod SeatExamples
-mod SideExamples
-mod ReadExamples
 pub mod Names

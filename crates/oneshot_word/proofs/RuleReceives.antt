@@ -8,7 +8,6 @@ use Rattle.oneshot_word.proofs.Names.{Swap, Exchange}
 use Rattle.oneshot_word.proofs.Names.{Word, Reaches, AnyWaker, Share, Held, away, held, waker_of, with_waker, bare, has_waker, Lies, IsPut, IsClaimed, claimed_none, claimed_it, WokenIsPut}
 use Rattle.oneshot_word.proofs.Names.{WakersThatPass, WakersThatDoNot, RECEIVING, EMPTY, MESSAGE}
 use Rattle.oneshot_word.specs.declared.any_waker.AnyWaker.TheVariants as R
-use Rattle.oneshot_word.specs.Examples.{waits, polled}
 use Rattle.oneshot_word.proofs.SlotReads.{reads_back}
 use Rattle.oneshot_word.specs.declared.rule.Role.TheVariants.{Sender, Receiver}
 use Rattle.oneshot_word.proofs.RuleKeeps.{lies_so}
@@ -72,7 +71,7 @@ pass_alike {T} {H} {K} {P} {q} {xs} {xs'} {ys} {ys'} {given} {given'} {taken} {t
     }
 
 module _ {T H K P : Type 0} {keeps : P → T → Type 0} {q : P} where
-  was_given : {words : List ℕ} {homes : List (Home T H K)} {views : List (View T H K P)} {xs ys : List Noted}
+  pub was_given : {words : List ℕ} {homes : List (Home T H K)} {views : List (View T H K P)} {xs ys : List Noted}
       {given taken : Option T} {put woke : Option (AnyWaker H K)} {m : T} → Tied keeps q words homes views
       → views ≡ both_views q xs given woke ys taken put → taken ≡ Some m → given ≡ Some m
   was_given opened are is = absurd (cc)
@@ -81,7 +80,7 @@ module _ {T H K P : Type 0} {keeps : P → T → Type 0} {q : P} where
       let alike = pass_alike are in
       sym alike.given_so ∙ taken_so same (alike.taken_so ∙ is)
 
-  lies_given : {words : List ℕ} {homes : List (Home T H K)} {k : Home T H K} {views : List (View T H K P)}
+  pub lies_given : {words : List ℕ} {homes : List (Home T H K)} {k : Home T H K} {views : List (View T H K P)}
       {xs ys : List Noted} {given taken : Option T} {put woke : Option (AnyWaker H K)} {m : T}
       → Tied keeps q words homes views
       → views ≡ both_views q xs given woke ys taken put → homes ≡ has_message m ∷ k ∷ [] → given ≡ Some m
@@ -106,7 +105,7 @@ module _ {T H K P : Type 0} {keeps : P → T → Type 0} {q : P} where
             (subst (λ ys. Reaches xs' ys w) (ap (λ (v : View T H K P). v.log) receivers) order),
       )
 
-  was_put : {words : List ℕ} {homes : List (Home T H K)} {views : List (View T H K P)} {xs ys : List Noted}
+  pub was_put : {words : List ℕ} {homes : List (Home T H K)} {views : List (View T H K P)} {xs ys : List Noted}
       {given taken : Option T} {put woke : Option (AnyWaker H K)} {k : AnyWaker H K} → Tied keeps q words homes views
       → views ≡ both_views q xs given woke ys taken put → woke ≡ Some k → put ≡ Some k
   was_put opened are is = absurd (cc are)
@@ -116,7 +115,7 @@ module _ {T H K P : Type 0} {keeps : P → T → Type 0} {q : P} where
       sym alike.put_so ∙ claimed_so claimed (alike.woke_so ∙ is)
 
   -- a sender without an operation has taken none
-  never_claimed : {words : List ℕ} {homes : List (Home T H K)} {views : List (View T H K P)} {ys : List Noted}
+  pub never_claimed : {words : List ℕ} {homes : List (Home T H K)} {views : List (View T H K P)} {ys : List Noted}
       {given taken : Option T} {put woke : Option (AnyWaker H K)} {k : AnyWaker H K} → Tied keeps q words homes views
       → views ≡ both_views q [] given woke ys taken put → woke ≡ Some k → ⊥
   never_claimed opened are is = absurd (cc are)
@@ -126,7 +125,7 @@ module _ {T H K P : Type 0} {keeps : P → T → Type 0} {q : P} where
       let senders : ◌≡◌ {A = View T H K P} (view q Sender xs' given' woke') (view q Sender [] given woke) = cc are in
       unmade claimed (ap (λ (v : View T H K P). v.log) senders) (ap (λ (v : View T H K P). v.handed) senders ∙ is)
 
-  rests_put : {words : List ℕ} {homes : List (Home T H K)} {h : Home T H K} {views : List (View T H K P)}
+  pub rests_put : {words : List ℕ} {homes : List (Home T H K)} {h : Home T H K} {views : List (View T H K P)}
       {xs ys : List Noted} {given taken : Option T} {put woke : Option (AnyWaker H K)} {k : AnyWaker H K}
       → Tied keeps q words homes views
       → views ≡ both_views q xs given woke ys taken put → homes ≡ h ∷ has_waker k ∷ [] → put ≡ Some k
@@ -148,59 +147,4 @@ module _ {T P : Type 0} (H K : Type 0) (keeps : P → T → Type 0) where
       record {
         woken = λ q words homes xs ys given taken put k tied. was_put tied refl refl;
         rests = λ q words h xs ys given taken put woke k tied. rests_put tied refl refl;
-      }
-
-  pub messages_that_pass : MessagesThatPass H K keeps
-  messages_that_pass =
-      record {
-        lies_there = λ q m kept. runs _ _ (sender_makes Add nothing_made (has_row head)) (lies_filled m (kept, refl))
-            lies_bare took_none claimed_none;
-        was_taken = λ q m.
-            runs _ _ (receiver_makes Load (sender_makes Add nothing_made (has_row head)) (has_row (tail head)))
-            lies_out lies_out (took_it m refl) claimed_none;
-      }
-
-  pub messages_that_do_not : MessagesThatDoNot H K keeps
-  messages_that_do_not =
-      record {
-        took_another = λ m other not_it tied. let is = was_given tied refl refl in not_it (cc is);
-        took_what_none_gave = λ m tied. let is = was_given tied refl refl in cc is;
-        another_lies = λ m other not_it tied. let is = lies_given tied refl refl in not_it (cc is);
-        lies_and_none_gave = λ m tied. let is = lies_given tied refl refl in cc is;
-      }
-
-  looks : Reaches [] ((Load, Word EMPTY) ∷ []) EMPTY
-  looks = receiver_makes Load nothing_made (has_row head)
-
-  begins_to_wait : Reaches [] waits RECEIVING
-  begins_to_wait = receiver_makes (Swap RECEIVING) looks (has_row (tail (tail (tail head))))
-
-  polls_and_waits : Reaches [] polled RECEIVING
-  polls_and_waits =
-      receiver_makes (Exchange EMPTY RECEIVING) looks (has_row (tail (tail (tail (tail (tail (tail head)))))))
-
-  pub wakers_that_pass : WakersThatPass H K keeps
-  wakers_that_pass =
-      record {
-        rests_there = λ q k. runs _ _ begins_to_wait lies_out (lies_filled k refl) took_none claimed_none;
-        was_taken = λ q k.
-            runs _ _ (sender_makes Add begins_to_wait (has_row (tail head))) lies_out lies_out took_none
-            (claimed_it k refl refl);
-        was_used = λ q m k kept.
-            runs _ _
-            (sender_makes (Swap MESSAGE) (sender_makes Add begins_to_wait (has_row (tail head))) (has_row head))
-            (lies_filled m (kept, refl)) lies_bare took_none (claimed_it k refl refl);
-        was_used_of_a_future = λ q m k kept.
-            runs _ _
-            (sender_makes (Swap MESSAGE) (sender_makes Add polls_and_waits (has_row (tail head))) (has_row head))
-            (lies_filled m (kept, refl)) lies_bare took_none (claimed_it k refl refl);
-      }
-
-  pub wakers_that_do_not : WakersThatDoNot H K keeps
-  wakers_that_do_not =
-      record {
-        took_another = λ k other not_it tied. let is = was_put tied refl refl in not_it (cc is);
-        took_what_none_gave = λ k tied. let is = was_put tied refl refl in cc is;
-        took_it_unasked = λ k tied. never_claimed tied refl refl;
-        another_rests = λ k other not_it tied. let is = rests_put tied refl refl in not_it (cc is);
       }

@@ -9,7 +9,3 @@ pub mod Promised
 pub mod Received
 pub mod Side
 pub mod Plays
-pub mod Examples
-pub mod SeatExamples
-pub mod SideExamples
-pub mod ReadExamples

@@ -3,33 +3,14 @@
 ghost use Rattle.std.specs.Prelude.{ℕ, List};
 ghost use Rattle.oneshot_machine.specs.Noted.{Noted};
 ghost use Rattle.oneshot_machine.specs.Orders.{Reaches};
-ghost use Rattle.oneshot_word.specs.Examples.{LogsSay, StatesThatAre, StatesThatAreNot};
 ghost use Rattle.oneshot_word.specs.OneOrder.{OrderIsOne, WorkedOrders, WrongOrders};
 ghost use Rattle.oneshot_word.specs.Ordered.{RuleOrders};
 ghost use Rattle.oneshot_word.specs.Promised.{RuleKeeps};
-ghost use Rattle.oneshot_word.specs.ReadExamples.{ReadsThatAre, ReadsThatAreNot};
-ghost use Rattle.oneshot_word.specs.SeatExamples.{SlotsAsSeen, SeatsThatAre, SeatsThatAreNot};
-ghost use Rattle.oneshot_word.specs.SideExamples.{SidesThatAre, SidesThatAreNot};
-ghost use Rattle.oneshot_word.specs.Received.{ReceivedIsSent, WokenIsPut, MessagesThatPass, MessagesThatDoNot, WakersThatPass, WakersThatDoNot};
+ghost use Rattle.oneshot_word.specs.Received.{ReceivedIsSent, WokenIsPut};
 
 use crate::promise::Promise;
 use crate::receiver::ReceiverSide;
 use crate::sender::SenderSide;
-
-/// Examples and counterexamples: what logs show, which states of the word have a row of owners, what a
-/// seat carries, what a side shows and does, and what a reader finds of the table.
-pub fn examples_are_so<T, H, K>()
-    ensures logs { LogsSay }
-    ensures states { StatesThatAre T H K }
-    ensures no_states { StatesThatAreNot T H K }
-    ensures slots { SlotsAsSeen }
-    ensures seats { SeatsThatAre }
-    ensures no_seats { SeatsThatAreNot }
-    ensures sides { SidesThatAre }
-    ensures no_sides { SidesThatAreNot }
-    ensures reads { ReadsThatAre }
-    ensures no_reads { ReadsThatAreNot }
-{}
 
 /// In every state that the table's rule allows, the operations of both ends have an order in which each
 /// finds the word that the one before it left.
@@ -54,19 +35,15 @@ pub fn messages_keep_their_promise<T, H, K, P: Promise<T>>()
 {}
 
 /// In every state that the table's rule allows, a message that the receiver took is the one that the
-/// sender gave, and so is a message in the table. With examples of both, and counterexamples.
+/// sender gave, and so is a message in the table.
 pub fn what_is_received_was_sent<T, H, K, P: Promise<T>>()
-    ensures law { ReceivedIsSent H K P.keeps }
-    ensures messages { MessagesThatPass H K P.keeps }
-    ensures no_messages { MessagesThatDoNot H K P.keeps }
+    ensures { ReceivedIsSent H K P.keeps }
 {}
 
 /// In every state that the table's rule allows, a waker that the sender took is the one that the receiver gave
-/// last, and so is a waker in the table. With examples of both, and counterexamples.
+/// last, and so is a waker in the table.
 pub fn what_is_woken_was_put<T, H, K, P: Promise<T>>()
-    ensures law { WokenIsPut H K P.keeps }
-    ensures wakers { WakersThatPass H K P.keeps }
-    ensures no_wakers { WakersThatDoNot H K P.keeps }
+    ensures { WokenIsPut H K P.keeps }
 {}
 
 /// Whatever a program did with the receiver's side `side`, its log is part of an order of both ends'

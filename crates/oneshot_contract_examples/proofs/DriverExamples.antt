@@ -1,0 +1,171 @@
+-- Proofs of the examples of ends, of what a call leaves, of replies and of hands.
+use Rattle.oneshot_drive.proofs.Names.{true, false, inl, inr, refl, closed_itself, found_closed, looked, between, blocked, waits, withdrew, rests_new, rests_open, rests_closed}
+use Rattle.oneshot_drive.proofs.Names.{leaves_open, leaves_closed, left_received, left_closed, timed_received, timed_out, timed_closed, as_it_was, sender_took, came_back, returned, taken}
+use Rattle.oneshot_contract_examples.specs.DriverExamples.{sent}
+use Rattle.oneshot_drive.proofs.Names.{Polled, unpolled, left_copy, kept_copy, found_sender}
+use Rattle.oneshot_contract_examples.specs.DriverExamples.{EndsThatAre, EndsThatAreNot, CallsThatLeave, CallsThatDoNot, RepliesThatAre, HandsThatAre, HandsThatAreNot}
+use Rattle.oneshot_drive.proofs.Names.{has_resolved, leaves_resolved, leaves_gone, leaves_waiting, tried_resolved, tried_its_copy, is_disconnected}
+use Rattle.oneshot_drive.specs.BetweenCalls.{leaves_received, last_finished, last_overtaken}
+
+pub ends_that_are : EndsThatAre
+ends_that_are =
+    record {
+      new_is_open = refl;
+      looked_is_open = λ _. refl;
+      registered_is_open = λ _. refl;
+      claimed_is_open = refl;
+      disconnected_is_closed = λ _. refl;
+      resolved_is_closed = λ _. refl;
+      new_rests = rests_new;
+      looked_rests = rests_open looked;
+      ran_out_rests = rests_open between;
+      received_rests = rests_closed closed_itself;
+      new_is_polled = unpolled rests_new;
+      registered_is_polled = left_copy;
+      kept_is_polled = kept_copy;
+      claimed_is_polled = found_sender;
+      resolved_is_polled = has_resolved found_closed;
+      last_finished_it = λ _. last_finished;
+      last_came_too_late = λ _. last_overtaken;
+    }
+
+blocked_is_polled : Polled (waits blocked) → ⊥
+blocked_is_polled (unpolled rests) = elim rests [ ]
+
+withdrawn_is_polled : Polled withdrew → ⊥
+withdrawn_is_polled (unpolled rests) = elim rests [ ]
+
+pub ends_that_are_not : EndsThatAreNot
+ends_that_are_not =
+    record {
+      disconnected_is_open = λ _ e. cc;
+      resolved_is_open = λ _ e. cc;
+      full_is_open = λ _ e. cc;
+      gone_is_open = λ e. cc;
+      ended_is_open = λ e. cc;
+      new_is_closed = λ e. cc;
+      looked_is_closed = λ _ e. cc;
+      registered_is_closed = λ _ e. cc;
+      claimed_is_closed = λ e. cc;
+      full_is_closed = λ _ e. cc;
+      waiting_rests = λ _ h. elim h [ ];
+      overdue_rests = λ h. elim h [ ];
+      full_rests = λ _ h. elim h [ ];
+      unclosed_rests = λ _ h. elim h [ ];
+      blocked_is_polled = blocked_is_polled;
+      withdrawn_is_polled = withdrawn_is_polled;
+      last_is_hidden = λ _ h. elim h [ ];
+      last_finished_too_late = λ _ h. elim h [ ];
+      last_is_of_the_other_call = λ h. elim h [ ];
+    }
+
+pub calls_that_leave : CallsThatLeave
+calls_that_leave =
+    record {
+      takes = leaves_received sent;
+      finds_nothing = leaves_open;
+      finds_no_sender = leaves_closed;
+      blocks_for_it = left_received sent;
+      blocks_in_vain = left_closed;
+      comes_in_time = timed_received sent;
+      runs_out = timed_out;
+      ends_in_time = timed_closed;
+      polls_it = leaves_resolved sent;
+      polls_over_nobody = λ e. leaves_gone e found_closed;
+      polls_too_early = leaves_waiting;
+      tries_it = tried_resolved sent;
+      tries_too_early = tried_its_copy;
+      leaves_its_copy = inl (refl, tt);
+      woke_its_task = inr tt;
+      stays_registered = λ _. refl;
+      finds_its_sender = λ _. refl;
+      stays_unregistered = λ _. refl;
+    }
+
+pub calls_that_do_not : CallsThatDoNot
+calls_that_do_not =
+    record {
+      takes_and_is_open = λ h. elim h [ ];
+      takes_what_another_closed = λ h. elim h [ ];
+      finds_nothing_and_closes = λ _ h. elim h [ ];
+      finds_no_sender_and_is_open = λ _ h. elim h [ ];
+      blocks_and_is_open = λ _ h. elim h [ ];
+      fails_and_is_open = λ _ _ h. elim h [ ];
+      runs_out_and_closes = λ _ h. elim h [ ];
+      runs_out_while_it_waits = λ _ h. elim h [ ];
+      comes_in_time_and_is_open = λ _ h. elim h [ ];
+      ends_in_time_and_is_open = λ _ h. elim h [ ];
+      polls_it_and_waits = λ _ h. elim h [ ];
+      polls_over_nobody_and_waits = λ _ _ h. elim h [ ];
+      pends_and_never_loaded = λ h. elim h [ ];
+      pends_and_is_closed = λ _ h. elim h [ ];
+      pends_with_the_message = λ _ h. elim h [ ];
+      tries_it_and_waits = λ _ h. elim h [ ];
+      finds_nothing_and_resolves = λ _ h. elim h [ ];
+      tries_and_has_polled = λ h. elim h [ ];
+      leaves_no_copy = λ h.
+          elim h [
+            | inl left ↦ cc left.0
+            | inr none ↦ none
+          ];
+      leaves_an_older_copy = λ h.
+          elim h [
+            | inl left ↦ cc left.0
+            | inr none ↦ none
+          ];
+      leaves_anothers_copy = λ h.
+          elim h [
+            | inl left ↦ left.1
+            | inr none ↦ none
+          ];
+      takes_its_copy_back = λ stays. let e = stays refl in cc;
+      registers_unasked = λ stays. let e = stays refl in cc;
+    }
+
+pub replies_that_are : RepliesThatAre
+replies_that_are =
+    record {
+      was_sent = refl;
+      was_refused = refl;
+      tried = refl;
+      tried_in_vain = refl;
+      tried_over_nobody = refl;
+      blocked_for = refl;
+      blocked_in_vain = λ _. refl;
+      in_time = refl;
+      too_late = refl;
+      over_nobody = refl;
+      ready = refl;
+      ready_in_vain = λ _. refl;
+      pending = refl;
+      gives_it = refl;
+      gives_none = λ _. refl;
+      polls_it = refl;
+      polls_none = refl;
+      is_over = is_disconnected;
+      is_not_over = λ h. elim h [ ];
+      has_it = λ h. elim h [ ];
+    }
+
+pub hands_that_are : HandsThatAre
+hands_that_are =
+    record {
+      ready = λ e. absurd (cc);
+      closed_without = λ _ _. refl;
+      untouched = as_it_was _ _;
+      taken = sender_took true;
+      another_came_back = came_back true false;
+      returned = returned _;
+      kept_by_the_sender = taken true;
+    }
+
+pub hands_that_are_not : HandsThatAreNot
+hands_that_are_not =
+    record {
+      open_without = λ _ ready. let e = ready refl in cc;
+      taken_while_open = λ _ h. elim h [ ];
+      taken_by_a_future = λ _ h. elim h [ ];
+      another_while_closed = λ _ h. elim h [ ];
+      found_one = λ _ h. elim h [ ];
+      returned_another = λ h. elim h [ ];
+    }

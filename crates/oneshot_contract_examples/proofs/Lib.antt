@@ -1,0 +1,24 @@
+-- The proofs of the examples of `specs/`, mostly computed. `ComputedRuns` proves a run of known steps.
+pub mod RunExamples
+pub mod NoRunExamples
+pub mod FutureExamples
+pub mod CountExamples
+pub mod OrderExamples
+pub mod LogExamples
+pub mod RowExamples
+pub mod ExactExamples
+pub mod OverExamples
+pub mod StateExamples
+pub mod SeatExamples
+pub mod SideExamples
+pub mod ReadExamples
+pub mod DriverExamples
+pub mod GroundExamples
+pub mod EndExamples
+pub mod OwnExamples
+pub mod PatienceExamples
+pub mod TakenExamples
+pub mod TokenExamples
+pub mod ReceivedExamples
+pub mod Endless
+pub mod ComputedRuns
