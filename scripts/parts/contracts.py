@@ -145,8 +145,8 @@ def needed(page, names):
 
 
 def listed_in_calling():
-    names = exported(CALLING.exporting)
-    printed = [(kind, name) for kind, name in needed(CALLING, names) if name not in restated()]
+    names, repeats = exported(CALLING.exporting), restated()
+    printed = [(kind, name) for kind, name in needed(CALLING, names) if name not in repeats]
     return [*printed, ("repeated", ""), *(("trait", name) for _, name in traits(CALLING) if name in names)]
 
 

@@ -20,9 +20,9 @@ from parts.sources import CRATES, code_of, crates, sources, text_of
 NOT_READ = {
     "oneshot": "names alone",
     "oneshot_channel": "names alone",
-    "oneshot_text": "texts: tests compare what is read and written",
-    "oneshot_streams": "texts: tests compare what is read and written",
-    "oneshot_loops": "texts: tests compare what is read and written",
+    "oneshot_text": "texts, which tests compare with what is read and written",
+    "oneshot_streams": "texts, which tests compare with what is read and written",
+    "oneshot_loops": "texts, which tests compare with what is read and written",
     "oneshot_memory": "grounds in memory, which serve tests",
 }
 EXAMPLES = re.compile(
@@ -31,14 +31,14 @@ EXAMPLES = re.compile(
 # Why no example has to reach some definitions: "crate.File", and names there, also as patterns of the shell.
 UNREACHED = [
     ("oneshot_drive.Blocking", "EndsAt HandAt Path ReceiveBy Refills Stretch end_of load_of ref_end value_end",
-     "of `find`, which only the drivers call, and from which their own clauses are proved"),
+     "the clauses of `find`, from which those of the drivers that call it are proved"),
     ("oneshot_ends.Keeps", "*_stays *_stays_on has_lent_on has_lent_back",
-     "proofs, which the grounds of a receiver cite"),
-    ("oneshot_ends.Taken", "taken_stays taken_stays_on", "proofs, which the grounds of a receiver cite"),
-    ("oneshot_errors.Texts", "*", "texts: tests compare what the errors print"),
-    ("oneshot_machine.Standing", "*", "what the law of standing computes of each table"),
-    ("oneshot_machine.*", "*_number *_positions *_opens receiver_count", "the positions that it computes this of"),
-    ("oneshot_world.Classes", "*", "of the law `turns_commute`, which is for all classes"),
+     "proofs that the grounds of a receiver cite"),
+    ("oneshot_ends.Taken", "taken_stays taken_stays_on", "proofs that the grounds of a receiver cite"),
+    ("oneshot_errors.Texts", "*", "texts, which tests compare with what the errors print"),
+    ("oneshot_machine.Standing", "*", "what `tables_are_exact` computes of each table"),
+    ("oneshot_machine.*", "*_number *_positions *_opens receiver_count", "the positions of which `tables_are_exact` computes it"),
+    ("oneshot_world.Classes", "*", "the law `turns_commute`, which is for all classes"),
 ]
 
 NAME = r"[A-Za-z_][A-Za-z0-9_']*"
@@ -61,7 +61,7 @@ class Definitions:
     def named(self, module, imported, text):
         names, files = imported
         found = set()
-        for first, second in re.findall(rf"(?<![\w.'])({NAME})(?:\.({NAME}))?", text):
+        for first, second in names_in(text):
             name = f"{files[first]}.{second}" if first in files else names.get(first, f"{module}.{first}")
             found.add(self.types.get(name, name))
         return {name for name in found if name in self.bodies}
@@ -78,6 +78,12 @@ class Definitions:
                 seen.add(name)
                 left += self.next_to(name)
         return seen
+
+
+@functools.cache
+def names_in(text):
+    """Each name of a text, alone or as the second after a point."""
+    return set(re.findall(rf"(?<![\w.'])({NAME})(?:\.({NAME}))?", text))
 
 
 def crates_with_definitions():
@@ -173,4 +179,4 @@ def of_definitions():
     for name in sorted(stated - reached):
         others.setdefault(reason(name), []).append(f"`{name}`")
     return [*table(["Crate", "With an example", "Without one", "Why not read"], rows), "",
-            *(f"- {why}: {', '.join(names)}." for why, names in others.items())]
+            *(f"- {why[0].upper()}{why[1:]}: {', '.join(names)}." for why, names in others.items())]
