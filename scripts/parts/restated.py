@@ -50,8 +50,8 @@ def restated():
 
 
 def repeated():
-    """Prints which calls are repeated, and which are not."""
-    return table(["Type", "Calls with the clauses of", "Calls", "Not so"], [
-        (f"`{other}`", f"`{owner}`", *(", ".join(f"`{call}`" for call, is_same in calls_of(other, owner, files)
-                                                 if is_same == wanted) for wanted in (True, False)))
+    """Prints which calls are repeated."""
+    return table(["Type", "Has of", "These calls"], [
+        (f"`{other}`", f"`{owner}`", ", ".join(f"`{call}`{'' if is_same else ' (with other clauses)'}"
+                                               for call, is_same in calls_of(other, owner, files)))
         for other, owner, files in RESTATED])
