@@ -12,6 +12,7 @@ from parts.sources import CRATES, TEXTS, text_of
 # A function that returns how many things it compared, by the names of these things; how many these are at least; and
 # the differences that it has to see, each a context in which one is planted.
 Comparison = collections.namedtuple("Comparison", "compare least plants")
+PLANTED = "planted differences"
 
 
 class Differs(Exception):
@@ -52,13 +53,12 @@ def sees(compare, plant):
 def counted(comparison):
     """What a comparison counted, as text."""
     compare, least, plants = comparison
-    counts, name = compare(), compare.__name__
-    none_of([f"{name}: {counts.get(what, 0)} {what} are compared, and {number} are to be"
+    name, counts, least = compare.__name__, compare() | {PLANTED: len(plants)}, {PLANTED: 1} | least
+    none_of([f"{name}: {counts.get(what, 0)} {what}, where there have to be at least {number}"
              for what, number in least.items() if counts.get(what, 0) < number]
-            + [f"{name}: no least number of {what}" for what in counts if what not in least]
-            + [f"{name}: no difference is planted"] * (not plants))
+            + [f"{name}: no least number of {what}" for what in counts if what not in least])
     none_of([f"{name} does not see what is planted: {plant[1:]}" for plant in plants if not sees(compare, plant)])
-    return f"{', '.join(f'{number} {what}' for what, number in counts.items())}; {len(plants)} planted differences seen"
+    return ", ".join(f"{number} {what}" for what, number in counts.items())
 
 
 def run(script, *comparisons):

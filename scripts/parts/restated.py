@@ -51,7 +51,7 @@ def restated():
 
 def repeated():
     """Prints which calls are repeated."""
-    return table(["Type", "Has of", "These calls"], [
+    return table(["Type", "Repeats", "Calls"], [
         (f"`{other}`", f"`{owner}`", ", ".join(f"`{call}`{'' if is_same else ' (with other clauses)'}"
                                                for call, is_same in calls_of(other, owner, files)))
         for other, owner, files in RESTATED])
