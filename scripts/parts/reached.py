@@ -37,7 +37,8 @@ UNREACHED = [
     ("oneshot_ends.Taken", "taken_stays taken_stays_on", "proofs that the grounds of a receiver cite"),
     ("oneshot_errors.Texts", "*", "texts, which tests compare with what the errors print"),
     ("oneshot_machine.Standing", "*", "what `tables_are_exact` computes of each table"),
-    ("oneshot_machine.*", "*_number *_positions *_opens receiver_count", "the positions of which `tables_are_exact` computes it"),
+    ("oneshot_machine.*", "*_number *_positions *_opens receiver_count",
+     "the positions that `tables_are_exact` goes through"),
     ("oneshot_world.Classes", "*", "the law `turns_commute`, which is for all classes"),
 ]
 
