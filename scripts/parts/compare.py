@@ -3,7 +3,6 @@ stands beside it in the script, and to see each difference that is planted for i
 import collections
 import contextlib
 import io
-import pathlib
 import sys
 from unittest import mock
 
@@ -98,7 +97,7 @@ def try_run():
     }
     passed = [name for name, comparison in wrong.items() if status_of(right, comparison, right) != 1]
     if passed or status_of(right) != 0 or status_of() != 1:
-        sys.exit(f"{pathlib.Path(__file__).name}: it does not fail for {', '.join(passed) or 'nothing compared'}")
+        sys.exit(f"parts/compare.py: it does not fail for {', '.join(passed) or 'nothing compared'}")
 
 
 # A damaged `run` would not try itself.

@@ -13,9 +13,8 @@ LONG = r"^(?! *(?:(?:pub |ghost )?use|requires|ensures) |old: |new: ).{121}|^.{2
 # Edits that write a derived impl out, in one line.
 LEFT_OUT = {"empty_equals_closed.edit", "hash_leaves_the_variant_out.edit"}
 
-# What takes a code of the word in definitions and proofs, each by an example with a number in place of the name. The
-# operations compute with numbers (States.antt), and a written trace has those that its lines print
-# (oneshot_law_examples).
+# What takes a code of the word, by an example that has a number in place of the name. Operations compute with numbers
+# (States.antt), and a written trace has those that its lines print (oneshot_law_examples).
 TAKES_A_CODE = {
     "Load 3": r"(?<!O\.)Load", "Swap 2": "Swap", "Store 1": "Store", "Word 4": "Word", "found 2": "found",
     "is_swap_of 3": "is_swap_of", "LastFinds 2": "LastFinds", "MadeLate last 2": r"MadeLate \w+",

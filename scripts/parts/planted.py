@@ -1,6 +1,4 @@
-"""The differences that scripts/documents has to see, each a file, its text and the text in its place: one that only a
-reader of these sources or that page can see."""
-
+"""The differences that scripts/documents has to see: each a file, its text, and the text in its place."""
 LOOKS, SIDE = "crates/oneshot_ends/src/ground/looks.rt", "crates/oneshot_word/src/sender.rt"
 CHANNEL = ["machine", "errors", "drive", "word", "ends", "reply", "watch"]
 ROOT = "#![tactic(auto)]"

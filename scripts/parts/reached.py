@@ -12,9 +12,10 @@ import re
 from fnmatch import fnmatchcase
 
 from parts.compare import Differs
+from parts.definitions import NAME, Definitions, imports
 from parts.functions import block_end, functions
 from parts.printed import table
-from parts.sources import CRATES, code_of, crates, sources, text_of
+from parts.sources import CRATES, code_of, crates, sources
 
 # The crates whose definitions state no contract or law that needs an example, and why.
 NOT_READ = {
@@ -42,50 +43,6 @@ UNREACHED = [
     ("oneshot_world.Classes", "*", "the law `turns_commute`, which is for all classes"),
 ]
 
-NAME = r"[A-Za-z_][A-Za-z0-9_']*"
-
-
-class Definitions:
-    """The definitions of specs/, each as "crate.File.name", and what a text names of them."""
-
-    def __init__(self):
-        # A variant of a type stands for its type.
-        self.bodies, self.types, self.imports = {}, {}, {}
-        for crate in read_crates():
-            for file in sorted((CRATES / crate / "specs").glob("*.antt")):
-                module = f"{crate}.{file.stem}"
-                self.imports[module], found = declared_in(text_of(file))
-                for name, variants, part in found:
-                    self.bodies[f"{module}.{name}"] = part
-                    self.types.update({f"{module}.{variant}": f"{module}.{name}" for variant in variants})
-
-    def named(self, module, imported, text):
-        names, files = imported
-        found = set()
-        for first, second in names_in(text):
-            name = f"{files[first]}.{second}" if first in files else names.get(first, f"{module}.{first}")
-            found.add(self.types.get(name, name))
-        return {name for name in found if name in self.bodies}
-
-    def next_to(self, name):
-        module = name.rpartition(".")[0]
-        return self.named(module, self.imports[module], self.bodies[name]) - {name}
-
-    def reached(self, names):
-        """These, and all that their bodies name."""
-        seen, left = set(), list(names)
-        while left:
-            if (name := left.pop()) not in seen:
-                seen.add(name)
-                left += self.next_to(name)
-        return seen
-
-
-@functools.cache
-def names_in(text):
-    """Each name of a text, alone or as the second after a point."""
-    return set(re.findall(rf"(?<![\w.'])({NAME})(?:\.({NAME}))?", text))
-
 
 def crates_with_definitions():
     return [crate for crate in crates() if (CRATES / crate / "specs").exists()]
@@ -94,30 +51,6 @@ def crates_with_definitions():
 def read_crates():
     """The crates with definitions that state contracts or laws."""
     return [crate for crate in crates_with_definitions() if crate not in NOT_READ]
-
-
-@functools.cache
-def declared_in(text):
-    """What a file of definitions imports, and each definition with its variants and its text."""
-    text, found = re.sub(r"--.*", "", text), []
-    for part in re.split(r"(?m)^ *(?=abbrev pub|unfoldable pub|pub record|pub data)", text)[1:]:
-        kind, name = re.match(rf"\w+ (\w+) ({NAME})", part).groups()
-        part = re.sub(r"(?m)^module .*", "", part)
-        found.append((name, re.findall(rf"(?m)^ +({NAME}) :", part) if kind == "data" else [], part))
-    return imports(text), found
-
-
-@functools.cache
-def imports(text):
-    """What each imported name is, and which file each other name of a file is."""
-    names, files = {}, {}
-    for path, listed, alias in re.findall(r"(?m)^\s*(?:ghost )?use Rattle\.([\w.]+?)(?:\.\{(.*)\}| as (\w+));?$", text):
-        path = path.replace(".specs.", ".")
-        files.update({alias: path} if alias else {})
-        for item in listed.split(", "):
-            name, _, other = item.partition(" as ")
-            names[other or name] = f"{path}.{name}"
-    return names, files
 
 
 @functools.cache
@@ -153,7 +86,7 @@ def named_in_clauses(definitions):
 
 def stated_and_reached():
     """The definitions by which contracts and laws are stated, and those that examples reach."""
-    definitions = Definitions()
+    definitions = Definitions(read_crates())
     contracts, by_laws, laws = named_in_clauses(definitions)
     examples = {name for name in by_laws if EXAMPLES.match(name)}
     stated = contracts | by_laws - laws - examples
