@@ -168,7 +168,7 @@ def of_words():
         for test in KINDS:
             texts = sources(*crates_of(test)) + [TOP / "scripts" / name for name in SCRIPTS.get(test, [])]
             cells.append([shown(file) for file in texts
-                          if (kind, word) in words_in(text_of(file), CRATES not in file.parents)])
+                          if (kind, word) in words_in(text_of(file), file.suffix != ".rt")])
         begins = {"error": "S send .. ", "future": "R future .. "}.get(kind, f"{kind} ")
         rows.append((f"`{begins}{word}`", joined(edited), *map(joined, cells)))
     return table(["Word", "Edits of its table", *KINDS], rows)

@@ -56,7 +56,7 @@ def write_all(pages, files):
 
 def shown(file):
     """How a page names a file: of a crate by the names of both, of scripts/ by its path."""
-    if CRATES not in file.parents:
+    if file.suffix != ".rt":
         return file.relative_to(TOP).as_posix()
     crate, _, *rest = file.relative_to(CRATES).with_suffix("").parts
     return "/".join([crate.removeprefix("oneshot_"), *rest])
