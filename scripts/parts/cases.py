@@ -1,12 +1,13 @@
 """Cases of a program, which `rt try` builds once and runs on each: its input, its exit status and what it writes."""
 import contextlib
+import difflib
 import pathlib
 import re
 import shutil
 import subprocess
 import tempfile
 
-from parts.compare import same_lines
+from parts.compare import Differs
 from parts.sources import CRATES
 
 
@@ -28,6 +29,15 @@ def try_program(crate, given, *flags, environment=None):
         ran = subprocess.run(["rt", "try", *flags, "--cases", folder], cwd=crate, capture_output=True, env=environment,
                              stdin=subprocess.DEVNULL)
     return ran.stdout.decode(), ran.stderr.decode(errors="replace")
+
+
+def same_lines(what, where, written, expected):
+    """The lines that a program wrote are those that stand somewhere, and there are some."""
+    if not written:
+        raise Differs(f"{where}: the program wrote no {what}")
+    if written != expected:
+        lines = difflib.unified_diff(written, expected, "the program", where, lineterm="")
+        raise Differs("\n".join([*lines, f"{where}: {what}: the program wrote other lines"]))
 
 
 # What the cases of each program wrote: they run once, however many differences are planted in what they have to write.

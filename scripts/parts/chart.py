@@ -61,7 +61,7 @@ def draw():
             y += ROW
             body += [text(LEFT, HEAD + y, "end", name), *bar(HEAD + y, *ratios)]
     if not body:
-        raise Differs(f"{PAGE}: no table of loops")
+        raise Differs(f"{PAGE}: it has no table of loops")
     foot = HEAD + y + 12
     scale = []
     for ratio in ("0.125", "0.25", "0.5", "1", "2", "4", "8", "16"):

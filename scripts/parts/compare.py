@@ -2,42 +2,34 @@
 stands beside it in the script, and to see each difference that is planted for it."""
 import collections
 import contextlib
-import difflib
-import functools
 import io
-import pathlib
 import sys
 from unittest import mock
 
-from parts.sources import CRATES, place
+from parts.sources import CRATES, TEXTS, text_of
 
 # A function that returns how many things it compared, by the names of these things; how many these are at least; and
 # the differences that it has to see, each a context in which one is planted.
 Comparison = collections.namedtuple("Comparison", "compare least plants")
-
-
-read_text = pathlib.Path.read_text
-# A text of the repository is read once, however many differences are planted.
-read_once = functools.cache(read_text)
+PLANTED = "planted differences"
 
 
 class Differs(Exception):
     """What differs, and where."""
 
 
+def none_of(wrong):
+    if wrong:
+        raise Differs("\n".join(wrong))
+
+
 @contextlib.contextmanager
 def text_in_place(name, old, new):
     """Plants a difference: a file of the repository reads as if it had `new` in place of `old`."""
     file = CRATES.parent / name
-    if old not in read_once(file):
+    if old not in text_of(file):
         raise LookupError(f"{name}: no difference can be planted, since it does not have: {old}")
-
-    def read_planted(path):
-        if path == file:
-            return read_once(path).replace(old, new)
-        return read_once(path) if path.is_relative_to(CRATES.parent) else read_text(path)
-
-    with mock.patch.object(pathlib.Path, "read_text", read_planted):
+    with mock.patch.dict(TEXTS, {file: text_of(file).replace(old, new)}):
         yield
 
 
@@ -60,15 +52,12 @@ def sees(compare, plant):
 def counted(comparison):
     """What a comparison counted, as text."""
     compare, least, plants = comparison
-    counts = compare()
-    none_of([f"{compare.__name__}: {counts.get(name, 0)} {name} are compared, and {number} are to be"
-             for name, number in least.items() if counts.get(name, 0) < number]
-            + [f"{compare.__name__}: no least number of {name}" for name in counts if name not in least]
-            + ([] if plants else [f"{compare.__name__}: no difference is planted"]))
-    for plant in plants:
-        if not sees(compare, plant):
-            raise Differs(f"{compare.__name__} does not see what is planted: {plant[1:]}")
-    return f"{', '.join(f'{number} {name}' for name, number in counts.items())}; {len(plants)} planted differences seen"
+    name, counts, least = compare.__name__, compare() | {PLANTED: len(plants)}, {PLANTED: 1} | least
+    none_of([f"{name}: {counts.get(what, 0)} {what}, where there have to be at least {number}"
+             for what, number in least.items() if counts.get(what, 0) < number]
+            + [f"{name}: no least number of {what}" for what in counts if what not in least])
+    none_of([f"{name} does not see what is planted: {plant[1:]}" for plant in plants if not sees(compare, plant)])
+    return ", ".join(f"{number} {what}" for what, number in counts.items())
 
 
 def run(script, *comparisons):
@@ -83,55 +72,32 @@ def run(script, *comparisons):
     sys.exit(1 if failed else 0)
 
 
-def none_of(wrong):
-    if wrong:
-        raise Differs("\n".join(wrong))
-
-
-def same_lines(what, page, written, told):
-    """The lines of the code and those of the page are the same, and there are some."""
-    if not written:
-        raise Differs(f"no {what}")
-    if written != told:
-        lines = difflib.unified_diff(written, told, "the code", page, lineterm="")
-        raise Differs("\n".join([*lines, f"{page}: {what}: not the code's"]))
-
-
 def status_of(*comparisons):
     """With which status `run` ends."""
-    with contextlib.redirect_stdout(io.StringIO()), contextlib.redirect_stderr(io.StringIO()):
-        try:
-            run("compare", *comparisons)
-        except SystemExit as ended:
-            return ended.code
-    return None
+    with mock.patch.multiple(sys, stdout=io.StringIO(), stderr=io.StringIO(), exit=mock.DEFAULT) as replaced:
+        run("compare", *comparisons)
+    return replaced["exit"].call_args[0][0]
 
 
 def try_run():
     """Ends the script unless `run` fails where it has to, for a comparison of one number."""
-    number = [1]
+    number = {"is": 1}
 
     def compare():
-        none_of([] if number[0] == 1 else ["it differs"])
+        none_of(["it differs"] * (number["is"] != 1))
         return {"numbers": 1}
 
-    @contextlib.contextmanager
-    def planted(other):
-        number[0] = other
-        yield
-        number[0] = 1
-
-    right = Comparison(compare, {"numbers": 1}, [(planted, 2)])
+    right = Comparison(compare, {"numbers": 1}, [(mock.patch.dict, number, {"is": 2})])
     wrong = {
         "a difference": right._replace(compare=lambda: none_of(["it differs"])),
         "too few": right._replace(least={"numbers": 2}),
-        "an unknown number": right._replace(least={}),
-        "a plant that is not seen": right._replace(plants=[(planted, 2), (planted, 1)]),
-        "no plants": right._replace(plants=[]),
+        "no least number": right._replace(least={}),
+        "a difference that is not seen": right._replace(plants=[*right.plants, (mock.patch.dict, number, {"is": 1})]),
+        "no planted difference": right._replace(plants=[]),
     }
-    unseen = [name for name, comparison in wrong.items() if status_of(right, comparison, right) != 1]
-    if unseen or status_of(right) != 0 or status_of() != 1:
-        sys.exit(f"{pathlib.Path(__file__).name}: it does not fail for {', '.join(unseen) or 'nothing compared'}")
+    passed = [name for name, comparison in wrong.items() if status_of(right, comparison, right) != 1]
+    if passed or status_of(right) != 0 or status_of() != 1:
+        sys.exit(f"parts/compare.py: it does not fail for {', '.join(passed) or 'nothing compared'}")
 
 
 # A damaged `run` would not try itself.

@@ -10,9 +10,10 @@ import re
 import textwrap
 
 from parts.compare import Differs
+from parts.functions import functions
 from parts.pages import fold
 from parts.restated import restated
-from parts.sources import CRATES, code_of, functions, sources
+from parts.sources import CRATES, code_of, sources, text_of
 
 Page = collections.namedtuple("Page", "exporting beneath")
 Contract = collections.namedtuple("Contract", "name owner text")
@@ -77,7 +78,7 @@ def contracts(page):
         pieces, owner = [], ""
         for name in names:
             if name not in known:
-                raise Differs(f"no source has a contract of {name}")
+                raise Differs(f"no source has a function {name} with a contract")
             if known[name].owner not in ("", owner):
                 owner = known[name].owner
                 pieces.append(owner)
@@ -88,7 +89,7 @@ def contracts(page):
 
 def traits(page):
     for file in files(page):
-        yield from re.findall(r"(?ms)^(pub trait (\w+).*?^\})", file.read_text())
+        yield from re.findall(r"(?ms)^(pub trait (\w+).*?^\})", text_of(file))
 
 
 def trait(name):
@@ -144,9 +145,9 @@ def needed(page, names):
 
 
 def listed_in_calling():
-    names = exported(CALLING.exporting)
-    printed = [(kind, name) for kind, name in needed(CALLING, names) if name not in restated()]
-    return [*printed, *(("trait", name) for _, name in traits(CALLING) if name in names)]
+    names, repeats = exported(CALLING.exporting), restated()
+    printed = [(kind, name) for kind, name in needed(CALLING, names) if name not in repeats]
+    return [*printed, ("repeated", ""), *(("trait", name) for _, name in traits(CALLING) if name in names)]
 
 
 def listed_in_model():

@@ -4,7 +4,6 @@ The record is written before the first copy and again after the last. In between
 file may have, so that a call which was stopped is taken up by the next one."""
 import hashlib
 import os
-import pathlib
 import re
 import shutil
 import subprocess

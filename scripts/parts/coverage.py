@@ -4,11 +4,11 @@ import functools
 import re
 
 from parts.contracts import CALLING, exported, files, needed
-from parts.gate import pairs_of
+from parts.functions import functions
 from parts.pages import TOP
-from parts.printed import table
+from parts.printed import shown, table
 from parts.reference import STARTS
-from parts.sources import CRATES, code_of, functions, section, sources
+from parts.sources import CRATES, code_of, section, sources, text_of
 
 # The crates of each kind of test. Those of the tests that none names are of the first kind.
 KINDS = {
@@ -50,14 +50,6 @@ def crates_of(kind):
             or kind == "Unit" and crate not in named]
 
 
-def shown(file):
-    """A file of a crate by the names of both, one of scripts/ by its path."""
-    if CRATES not in file.parents:
-        return file.relative_to(TOP).as_posix()
-    crate, _, *rest = file.relative_to(CRATES).with_suffix("").parts
-    return "/".join([crate.removeprefix("oneshot_"), *rest])
-
-
 def joined(names):
     return ", ".join(dict.fromkeys(names))
 
@@ -71,8 +63,18 @@ def calls():
 def edits():
     """Each must-fail edit, with a function that it changes."""
     for edit in sorted(CRATES.glob("*/must-fail/*.edit")):
-        for file, old, _ in pairs_of(edit):
-            yield from ((edit, name) for name in changed_in(file.read_text(), old))
+        for file, old in changed_by(edit):
+            yield from ((edit, name) for name in changed_in(text_of(file), old))
+
+
+def changed_by(edit):
+    """The texts that a must-fail edit changes, each with its file."""
+    file = None
+    for kind, text in re.findall(r"(?m)^(file|old): (.*)$", text_of(edit)):
+        if kind == "file":
+            file = edit.parent.parent / text.strip()
+        else:
+            yield file, text
 
 
 @functools.cache
@@ -166,7 +168,7 @@ def of_words():
         for test in KINDS:
             texts = sources(*crates_of(test)) + [TOP / "scripts" / name for name in SCRIPTS.get(test, [])]
             cells.append([shown(file) for file in texts
-                          if (kind, word) in words_in(file.read_text(), CRATES not in file.parents)])
+                          if (kind, word) in words_in(text_of(file), file.suffix != ".rt")])
         begins = {"error": "S send .. ", "future": "R future .. "}.get(kind, f"{kind} ")
         rows.append((f"`{begins}{word}`", joined(edited), *map(joined, cells)))
     return table(["Word", "Edits of its table", *KINDS], rows)

@@ -53,7 +53,7 @@ def scripts_of(text):
                     for line in lines}
     except (IndexError, KeyError, ValueError):
         pass
-    raise Refused("the input has no two scripts that oneshot-run reads")
+    raise Refused("the input does not begin with two scripts that oneshot-run reads")
 
 
 class Calls:
@@ -74,7 +74,7 @@ class Calls:
     def ends(self, side, reply):
         call, self.under_way[side] = self.under_way[side], None
         if not re.fullmatch(REPLIES.get(call.split(" ")[0], RECEIVED), reply):
-            raise Refused(f"{call} does not reply {reply}")
+            raise Refused(f"{call} cannot return {reply}")
         # A send that was not refused has no error, which would have the calls that are left.
         if reply == "Ok":
             self.left[side] = []
@@ -100,23 +100,23 @@ class Drawing:
 
     def move(self, name, before, after):
         if self.places.get(name, "New") != before:
-            raise Refused(f"{name} is in {self.places.get(name, 'New')}")
+            raise Refused(f"the entries before it left {name} in {self.places.get(name, 'New')}")
         self.places[name] = after
         return f"{'message' if name == 'm' else f'waker {name}'} {before} to {after}"
 
     def entry(self, number, side, idle, step, before, after, fields, reply):
         self.entries += 1
         if self.rest is not None or int(number) != self.entries:
-            raise Refused(f"no entry {number} comes here")
+            raise Refused(f"entry {number} is out of order")
         if idle:
             if self.calls:
                 self.calls.is_idle(side)
             self.note(side, f"{number} idle")
             return
         if step not in STEPS:
-            raise Refused(f"no step is {step}")
+            raise Refused(f"unknown step: {step}")
         if before != self.word:
-            raise Refused(f"the word is {WORDS[self.word]}")
+            raise Refused(f"the entries before it left the word {WORDS[self.word]}")
         self.word = after
         if call := self.calls and self.calls.begins(side):
             self.note(side, f"calls {call}")
@@ -140,22 +140,22 @@ class Drawing:
             elif re.fullmatch(r"own:\d+", field):
                 told += f", of its own task {field[4:]}"
             else:
-                raise Refused(f"no field is {field}")
+                raise Refused(f"unknown field: {field}")
         return told, notes
 
     def ends(self, name, value):
         """The last two lines: where the message is, and whether the block was freed."""
         if name == "rest" and self.rest is None:
             if value.split("(")[0] != self.places["m"] and (value, self.places["m"]) != ("none", "NotSent"):
-                raise Refused(f"the message is in {self.places['m']}")
+                raise Refused(f"the entries left the message in {self.places['m']}")
             self.rest = value
         elif name == "block" and self.rest is not None and self.block is None:
             if value != ("freed" if self.word == "-" else "here"):
-                raise Refused(f"the word is {WORDS[self.word]}")
+                raise Refused(f"the entries before it left the word {WORDS[self.word]}")
             self.block = value
             self.note("S,R", f"message {self.rest}, block {value}")
         else:
-            raise Refused("it comes too early or twice")
+            raise Refused("this line is there twice, or too early")
 
     def read(self, line):
         if entry := ENTRY.fullmatch(line):
@@ -163,7 +163,7 @@ class Drawing:
         elif end := re.fullmatch(r"(rest|block) (\S+)", line):
             self.ends(*end.groups())
         else:
-            raise Refused("no trace has it")
+            raise Refused("no trace has such a line")
 
 
 def arrow(number, side, step, before, after):

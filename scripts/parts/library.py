@@ -11,7 +11,7 @@ import tempfile
 import traceback
 
 from parts.compare import Differs, none_of
-from parts.sources import CRATES
+from parts.sources import CRATES, text_of
 
 TOP = CRATES.parent
 CALLED = ("add-to", "release", "parts/copies.py", "parts/names.py", "parts/places.py", "parts/sources.py")
@@ -105,11 +105,11 @@ class Library:
         self.top, self.mine = pathlib.Path(self.room.name, "library"), pathlib.Path(self.room.name, "mine")
         for name in CALLED:
             # As text, so that a difference that is planted in it is in the copy.
-            self.put(f"scripts/{name}", (TOP / "scripts" / name).read_text())
+            self.put(f"scripts/{name}", text_of(TOP / "scripts" / name))
         for name in ("add-to", "release"):
             (self.top / "scripts" / name).chmod(0o755)
         for name in FILES:
-            self.put(name, (TOP / name).read_text())
+            self.put(name, text_of(TOP / name))
         self.version = re.search(r"(?m)^## ([0-9.]+)", (TOP / "CHANGELOG.md").read_text())[1]
         for crate in [*brought_by("oneshot"), "hello"]:
             self.copy_crate(crate, small)

@@ -2,7 +2,8 @@
 import re
 
 from parts.compare import Differs
-from parts.sources import CRATES, block_end, functions
+from parts.functions import block_end, functions
+from parts.sources import CRATES, text_of
 
 
 def item(text, name):
@@ -31,7 +32,7 @@ def code(path, *names):
     file = CRATES / path
     if not file.exists():
         raise Differs(f"there is no crates/{path}")
-    text = file.read_text()
+    text = text_of(file)
     pieces = [item(text, name) for name in names] or [text.rstrip("\n")]
     language = "antt" if file.suffix == ".antt" else "rust"
     return [f"```{language}", *"\n\n".join(pieces).split("\n"), "```"]

@@ -2,7 +2,7 @@
 import re
 
 from parts.compare import Differs
-from parts.sources import CRATES, beneath, crates, sections
+from parts.sources import CRATES, beneath, crates, sections, text_of
 
 # The tests are in the list alone.
 UNDRAWN = "Tests"
@@ -34,9 +34,9 @@ def head(crate):
     """The first sentence of a crate's root."""
     root = next((CRATES / crate / "src" / name for name in ("lib.rt", "main.rt")
                  if (CRATES / crate / "src" / name).exists()), None)
-    text = re.match(r"(?://!.*\n)+", root.read_text()) if root else None
+    text = re.match(r"(?://!.*\n)+", text_of(root)) if root else None
     if not text:
-        raise Differs(f"crates/{crate}: its root has no head")
+        raise Differs(f"crates/{crate}: its root file does not begin with a `//!` line")
     words = " ".join(line.removeprefix("//!").strip() for line in text[0].split("//!\n")[0].split("\n"))
     return words.strip().split(". ")[0].removesuffix(".")
 

@@ -1,16 +1,16 @@
 """Pages of Markdown: their blocks of code and their tables."""
 import collections
-import pathlib
 
 from parts.compare import Differs
+from parts.sources import CRATES, text_of
 
-TOP = pathlib.Path(__file__).resolve().parent.parent.parent
+TOP = CRATES.parent
 BEGIN, END = "<!--printed: ", "<!--end-->"
 Block = collections.namedtuple("Block", "line language is_printed lines")
 
 
 def page_text(page):
-    return (TOP / page).read_text()
+    return text_of(TOP / page)
 
 
 def fold(text):
@@ -30,7 +30,7 @@ def blocks(page):
         elif line.startswith((BEGIN, END)):
             is_printed = line.startswith(BEGIN)
     if block:
-        raise Differs(f"{page}:{block.line}: a block has no end")
+        raise Differs(f"{page}:{block.line}: a block of code has no end")
 
 
 def rows(page):

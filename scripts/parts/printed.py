@@ -1,9 +1,11 @@
 """What is printed from the sources: whole files, and parts of pages, each between two marks, the first of which names
 what is printed."""
+import difflib
 import re
 
 from parts.compare import Differs
 from parts.pages import BEGIN, END, TOP, page_text
+from parts.sources import CRATES, TEXTS
 
 PART = re.compile(rf"(?ms)^{BEGIN}(\w+)(?: (\S+))?-->\n(.*?)^{END}$")
 
@@ -42,11 +44,22 @@ def difference(name, text):
 
 
 def write_all(pages, files):
-    texts, _, _ = print_all(pages, files)
-    for name, text in texts.items():
-        if text != page_text(name):
+    """Writes each page and file that would be printed otherwise, and prints which lines change: some are promises."""
+    for name, text in print_all(pages, files)[0].items():
+        before = page_text(name)
+        if text != before:
             (TOP / name).write_text(text)
-            print(f"documents: {name} is written")
+            TEXTS[TOP / name] = text
+            lines = difflib.unified_diff(before.split("\n"), text.split("\n"), name, "is written", n=0, lineterm="")
+            print("\n".join(lines))
+
+
+def shown(file):
+    """How a page names a file: of a crate by the names of both, of scripts/ by its path."""
+    if file.suffix != ".rt":
+        return file.relative_to(TOP).as_posix()
+    crate, _, *rest = file.relative_to(CRATES).with_suffix("").parts
+    return "/".join([crate.removeprefix("oneshot_"), *rest])
 
 
 def table(heads, rows):

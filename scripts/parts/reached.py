@@ -1,107 +1,56 @@
-"""The definitions by which a contract or a law is stated and that no computed example reaches, by names.
+"""The definitions by which a contract or a law is stated, as docs/COVERAGE.md prints them: how many of them a computed
+example reaches, by names, and which none does.
 
 A contract is stated by what its clauses name, and by what the definitions of that name in turn. So is a law, which is
 the contract of a function whose body does nothing; the first name of its clause is the law itself, and needs no example
-where only laws name it. An example is what a clause names of a file of examples. The definitions that may stay out
-are in UNREACHED, with the reason. Clauses of private functions, what a type always keeps (`invariant`) and what an
-operation on the table finds (`then`) are not read: others are proved from them.
+where only laws name it. An example is what a clause names of a file of examples. Clauses of private functions, what a
+type always keeps (`invariant`) and what an operation on the table finds (`then`) are not read: others are proved from
+them.
 """
 import functools
 import re
 from fnmatch import fnmatchcase
 
-from parts.compare import Differs, none_of
-from parts.sources import CRATES, block_end, code_of, crates, functions, sources
+from parts.compare import Differs
+from parts.definitions import NAME, Definitions, imports
+from parts.functions import block_end, functions
+from parts.printed import table
+from parts.sources import CRATES, code_of, crates, sources
 
 # The crates whose definitions state no contract or law that needs an example, and why.
 NOT_READ = {
-    "oneshot": "names", "oneshot_channel": "names",
+    "oneshot": "names alone",
+    "oneshot_channel": "names alone",
     "oneshot_text": "texts, which tests compare with what is read and written",
-    "oneshot_streams": "the same", "oneshot_loops": "the same",
+    "oneshot_streams": "texts, which tests compare with what is read and written",
+    "oneshot_loops": "texts, which tests compare with what is read and written",
     "oneshot_memory": "grounds in memory, which serve tests",
 }
 EXAMPLES = re.compile(
     r"\w+\.\w*Examples\.|oneshot_law_examples\.|\w+\.\w*Order\.W")
 
-# "crate.File", its definitions (also as patterns of the shell), and why no example has to reach them.
+# Why no example has to reach some definitions: "crate.File", and names there, also as patterns of the shell.
 UNREACHED = [
     ("oneshot_drive.Blocking", "EndsAt HandAt Path ReceiveBy Refills Stretch end_of load_of ref_end value_end",
-     "of `find`, which the drivers alone call, and from which their own clauses are proved"),
+     "the clauses of `find`, from which those of the drivers that call it are proved"),
     ("oneshot_ends.Keeps", "*_stays *_stays_on has_lent_on has_lent_back",
-     "proofs, which the grounds of a receiver cite"),
-    ("oneshot_ends.Taken", "taken_stays taken_stays_on", "proofs, which the grounds of a receiver cite"),
+     "proofs that the grounds of a receiver cite"),
+    ("oneshot_ends.Taken", "taken_stays taken_stays_on", "proofs that the grounds of a receiver cite"),
     ("oneshot_errors.Texts", "*", "texts, which tests compare with what the errors print"),
-    ("oneshot_machine.Standing", "*", "what that law computes of each table"),
-    ("oneshot_machine.*", "*_number *_positions *_opens receiver_count", "the positions that it computes this of"),
-    ("oneshot_world.Classes", "*", "of the law `turns_commute`, for all classes"),
+    ("oneshot_machine.Standing", "*", "what `tables_are_exact` computes of each table"),
+    ("oneshot_machine.*", "*_number *_positions *_opens receiver_count",
+     "the positions that `tables_are_exact` goes through"),
+    ("oneshot_world.Classes", "*", "the law `turns_commute`, which is for all classes"),
 ]
 
-NAME = r"[A-Za-z_][A-Za-z0-9_']*"
 
-
-class Definitions:
-    """The definitions of specs/, each as "crate.File.name", and what a text names of them."""
-
-    def __init__(self):
-        # A variant of a type stands for its type.
-        self.bodies, self.types, self.imports = {}, {}, {}
-        for crate in read_crates():
-            for file in sorted((CRATES / crate / "specs").glob("*.antt")):
-                module = f"{crate}.{file.stem}"
-                self.imports[module], found = declared_in(file.read_text())
-                for name, variants, part in found:
-                    self.bodies[f"{module}.{name}"] = part
-                    self.types.update({f"{module}.{variant}": f"{module}.{name}" for variant in variants})
-
-    def named(self, module, imported, text):
-        names, files = imported
-        found = set()
-        for first, second in re.findall(rf"(?<![\w.'])({NAME})(?:\.({NAME}))?", text):
-            name = f"{files[first]}.{second}" if first in files else names.get(first, f"{module}.{first}")
-            found.add(self.types.get(name, name))
-        return {name for name in found if name in self.bodies}
-
-    def next_to(self, name):
-        module = name.rpartition(".")[0]
-        return self.named(module, self.imports[module], self.bodies[name]) - {name}
-
-    def reached(self, names):
-        """These, and all that their bodies name."""
-        seen, left = set(), list(names)
-        while left:
-            if (name := left.pop()) not in seen:
-                seen.add(name)
-                left += self.next_to(name)
-        return seen
+def crates_with_definitions():
+    return [crate for crate in crates() if (CRATES / crate / "specs").exists()]
 
 
 def read_crates():
     """The crates with definitions that state contracts or laws."""
-    return [crate for crate in crates() if crate not in NOT_READ and (CRATES / crate / "specs").exists()]
-
-
-@functools.cache
-def declared_in(text):
-    """What a file of definitions imports, and each definition with its variants and its text."""
-    text, found = re.sub(r"--.*", "", text), []
-    for part in re.split(r"(?m)^ *(?=abbrev pub|unfoldable pub|pub record|pub data)", text)[1:]:
-        kind, name = re.match(rf"\w+ (\w+) ({NAME})", part).groups()
-        part = re.sub(r"(?m)^module .*", "", part)
-        found.append((name, re.findall(rf"(?m)^ +({NAME}) :", part) if kind == "data" else [], part))
-    return imports(text), found
-
-
-@functools.cache
-def imports(text):
-    """What each imported name is, and which file each other name of a file is."""
-    names, files = {}, {}
-    for path, listed, alias in re.findall(r"(?m)^\s*(?:ghost )?use Rattle\.([\w.]+?)(?:\.\{(.*)\}| as (\w+));?$", text):
-        path = path.replace(".specs.", ".")
-        files.update({alias: path} if alias else {})
-        for item in listed.split(", "):
-            name, _, other = item.partition(" as ")
-            names[other or name] = f"{path}.{name}"
-    return names, files
+    return [crate for crate in crates_with_definitions() if crate not in NOT_READ]
 
 
 @functools.cache
@@ -120,28 +69,48 @@ def each_clause(text):
         yield text[member.end():block_end(text, member.end())], False
 
 
-def compare_reached():
-    definitions = Definitions()
-    stated, laws, named_by_laws = set(), set(), set()
+def named_in_clauses(definitions):
+    """What contracts name, what laws name, and which of these are laws themselves."""
+    contracts, by_laws, laws = set(), set(), set()
     for file in sources(*read_crates()):
-        text = code_of(file)
-        imported = imports(text)
-        for clause, is_law in clauses(text):
+        imported = imports(code_of(file))
+        for clause, is_law in clauses(code_of(file)):
             names = definitions.named("", imported, clause)
             if is_law:
-                named_by_laws |= names
+                by_laws |= names
                 laws |= definitions.named("", imported, re.match(rf"\{{\s*({NAME})?", clause)[0])
             else:
-                stated |= names
-    examples = {name for name in named_by_laws if EXAMPLES.match(name)}
-    if not examples:
-        raise Differs("no examples")
-    stated |= named_by_laws - laws - examples
-    stated = definitions.reached(stated | {name for law in laws - examples for name in definitions.next_to(law)})
-    wrong = stated - definitions.reached(examples)
-    patterns = [f"{module}.{name}" for module, names, _ in UNREACHED for name in names.split()]
-    left_out = {name for name in wrong if any(fnmatchcase(name, pattern) for pattern in patterns)}
-    none_of([f"{name}: no example reaches it" for name in sorted(wrong - left_out)]
-            + [f"{pattern}: left out, though it is reached or states nothing" for pattern in patterns
-               if not any(fnmatchcase(name, pattern) for name in wrong)])
-    return {"definitions that an example reaches": len(stated - left_out), "names that examples have": len(examples)}
+                contracts |= names
+    return contracts, by_laws, laws
+
+
+def stated_and_reached():
+    """The definitions by which contracts and laws are stated, and those that examples reach."""
+    definitions = Definitions(read_crates())
+    contracts, by_laws, laws = named_in_clauses(definitions)
+    examples = {name for name in by_laws if EXAMPLES.match(name)}
+    stated = contracts | by_laws - laws - examples
+    beneath_laws = {name for law in laws - examples for name in definitions.next_to(law)}
+    return definitions.reached(stated | beneath_laws), definitions.reached(examples)
+
+
+def reason(name):
+    """Why no example has to reach a definition."""
+    for module, names, why in UNREACHED:
+        if any(fnmatchcase(name, f"{module}.{one}") for one in names.split()):
+            return why
+    raise Differs(f"{name}: no example reaches it, and UNREACHED of parts/reached.py has no reason")
+
+
+def of_definitions():
+    """Prints how many definitions of each crate an example reaches, and those that none does, by the reason."""
+    stated, reached = stated_and_reached()
+    rows, others = [], {}
+    for crate in crates_with_definitions():
+        of_crate = {name for name in stated if name.startswith(f"{crate}.")}
+        counts = len(of_crate & reached), len(of_crate - reached)
+        rows.append((f"`{crate}`", *map(str, counts), NOT_READ.get(crate, "")))
+    for name in sorted(stated - reached):
+        others.setdefault(reason(name), []).append(f"`{name}`")
+    return [*table(["Crate", "With an example", "Without one", "Why not read"], rows), "",
+            *(f"- {why[0].upper()}{why[1:]}: {', '.join(names)}." for why, names in others.items())]

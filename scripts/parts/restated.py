@@ -1,17 +1,17 @@
-"""The contracts that oneshot_watch repeats: its requests, tickets and futures have each call of the type that they
-hold, with the same clauses. Those of a future name replies, and the promise of a request."""
+"""The calls that oneshot_watch repeats, as docs/CALLING.md prints them: its requests, tickets and futures have each
+call of the type that they hold, with the same clauses. Those of a future name replies, and the promise of a request."""
 import re
 
-from parts.compare import none_of
+from parts.functions import functions
 from parts.pages import fold
-from parts.sources import code_of, functions, sources
+from parts.printed import table
+from parts.sources import CRATES, code_of, sources
 
-# The file of a type, the type, and the file and the type of oneshot_watch that repeat its calls.
+# A type of oneshot_watch, the type whose calls it repeats, and the files that have these.
 RESTATED = [
-    ("oneshot_reply/src/requests.rt", "Request", "CancellableRequest"),
-    ("oneshot_reply/src/ticket.rt", "Ticket", "CancellableTicket"),
-    ("oneshot_ends/src/future.rt", "AsyncReceiver", "CancellableReply"),
-    ("oneshot_ends/src/ground/looks.rt", "AsyncReceiver", "CancellableReply"),
+    ("CancellableRequest", "Request", ["oneshot_reply/src/requests.rt"]),
+    ("CancellableTicket", "Ticket", ["oneshot_reply/src/ticket.rt"]),
+    ("CancellableReply", "AsyncReceiver", ["oneshot_ends/src/future.rt", "oneshot_ends/src/ground/looks.rt"]),
 ]
 # How the clauses of a future read where its messages are replies and its promise is that of a request.
 OF_REPLIES = [
@@ -21,10 +21,10 @@ OF_REPLIES = [
 ]
 
 
-def clauses(text, owner):
+def clauses(files, owner):
     """The clauses of each public call of this type, and of its poll."""
     found = {}
-    for name, _, head, _ in functions(text):
+    for name, _, head, _ in [each for file in files for each in functions(code_of(file))]:
         of, _, call = name.split(" for ")[-1].partition("::")
         if of == owner and (re.match(r"\s*pub fn", head) or call == "poll"):
             found[call] = fold(re.search(r"(?s)\s(?:requires|ensures)\s.*|$", head)[0])
@@ -37,18 +37,21 @@ def own_words(clause, owner):
     return clause
 
 
+def calls_of(other, owner, files):
+    """The calls of a type, each with whether the other type repeats it."""
+    repeats = clauses(sources("oneshot_watch"), other)
+    return [(call, repeats.get(call) == own_words(clause, owner))
+            for call, clause in clauses([CRATES / file for file in files], owner).items()]
+
+
 def restated():
-    """Each call that oneshot_watch repeats, with the clauses that it has to have."""
-    files = {str(file).partition("/crates/")[2]: file for file in sources("oneshot_reply", "oneshot_ends")}
-    return {f"{other}::{call}": own_words(clause, owner) for file, owner, other in RESTATED
-            for call, clause in clauses(code_of(files[file]), owner).items()}
+    """The calls of oneshot_watch that repeat others, whose contracts are not printed."""
+    return {f"{row[0]}::{call}" for row in RESTATED for call, is_same in calls_of(*row) if is_same}
 
 
-def compare_restated():
-    text = "".join(code_of(file) for file in sources("oneshot_watch"))
-    found = {f"{other}::{call}": clause for other in {other for *_, other in RESTATED}
-             for call, clause in clauses(text, other).items()}
-    wanted = restated()
-    none_of([f"{name}: {found.get(name)}\n  in place of {clause}"
-             for name, clause in wanted.items() if found.get(name) != clause])
-    return {"calls that oneshot_watch repeats": len(wanted)}
+def repeated():
+    """Prints which calls are repeated."""
+    return table(["Type", "Repeats", "Calls"], [
+        (f"`{other}`", f"`{owner}`", ", ".join(f"`{call}`{'' if is_same else ' (with other clauses)'}"
+                                               for call, is_same in calls_of(other, owner, files)))
+        for other, owner, files in RESTATED])

@@ -27,7 +27,7 @@ def plant(crates, file, text, other):
     source = crates / file
     before = source.read_text()
     if before.count(text) != 1:
-        raise Differs(f"{file} has not one: {text}")
+        raise Differs(f"{file} does not have exactly once: {text}")
     source.write_text(before.replace(text, other))
 
 

@@ -3,6 +3,7 @@ import re
 
 from parts.pages import TOP, fold
 from parts.printed import table
+from parts.sources import text_of
 
 SPECS = TOP / "crates" / "oneshot_machine" / "specs"
 FAMILIES = ["Look", "TryRecv", "ByRef", "Timed", "Value", "Future", "AsyncDrop", "Drop"]
@@ -27,7 +28,7 @@ FORMS = {
 
 def equations(file):
     """The equations of the definitions of a file, each with the name of its definition."""
-    for definition in re.split(r"(?m)^abbrev pub ", file.read_text())[1:]:
+    for definition in re.split(r"(?m)^abbrev pub ", text_of(file))[1:]:
         lines = [line for line in definition.split("\n\n")[0].split("\n") if not line.startswith("--")]
         for equation in re.split(r"\n(?=[a-z])", "\n".join(lines))[1:]:
             left, _, right = fold(equation).partition(" = ")
@@ -94,7 +95,7 @@ def starts(name):
 
 
 def codes():
-    code = (TOP / "crates/oneshot_machine/src/states.rt").read_text()
+    code = text_of(TOP / "crates/oneshot_machine/src/states.rt")
     told = re.findall(r"(?m)^/// (.*)\.\npub const ([A-Z]*): u8 = ([0-9]*);$", code)
     return table(["Code", "Name", "Meaning"], [(number, f"`{name}`", meaning) for meaning, name, number in told])
 

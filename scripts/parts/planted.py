@@ -1,0 +1,53 @@
+"""The differences that scripts/documents has to see: each a file, its text, and the text in its place."""
+LOOKS, SIDE = "crates/oneshot_ends/src/ground/looks.rt", "crates/oneshot_word/src/sender.rt"
+CHANNEL = ["machine", "errors", "drive", "word", "ends", "reply", "watch"]
+ROOT = "#![tactic(auto)]"
+FORGETS = ["forget(0)", "ManuallyDrop", "MaybeUninit", "Box::leak(0)", "Box::into_raw", "Arc::into_raw", "Rc::into_raw"]
+# Differences of a page, and then of the sources that it is printed from.
+IN_PRINTED = [
+    ("README.md", "fn main", "fn start"),
+    ("README.md", "```sh", "```rust"),
+    ("README.md", "printed: code", "printed: codes"),
+    ("docs/PROTOCOL.md", "printed: positions Look-->", "printed: positions Drop-->"),
+    ("docs/CALLING.md", ",Sender::send_kept,", ",Sender::send,"),
+    ("docs/CALLING.md", "<!--printed: code hello_request/src/main.rt-->", ""),
+    ("docs/MODEL.md", ",CallList::as_slice", ""),
+    ("docs/ARCHITECTURE.md", "<!--printed: picture-->", ""),
+    ("docs/COVERAGE.md", "<!--printed: definitions-->", ""),
+    ("docs/TRUST.md", "<!--printed: unsafe-->", ""),
+    ("docs/benchmarks.svg", "</svg>", ""),
+    ("crates.txt", "oneshot_reply may_wait=2: oneshot_errors oneshot_ends", "oneshot_reply: oneshot_errors"),
+    ("crates/hello/src/main.rt", "19", "20"),
+    ("crates/oneshot_callers/src/asserts.rt", "found, wanted);", "found, found);"),
+    ("crates/oneshot_machine/specs/Timed.antt", "(Word UNPARKING, Goes ", "(Word MESSAGE, Goes "),
+    ("crates/oneshot_machine/src/states.rt", "RECEIVING: u8 = 0", "RECEIVING: u8 = 1"),
+    (LOOKS, "pub fn is_closed", "pub fn more() {}\n\n    pub fn is_closed"),
+    # what covers a call: a test, and an edit that can no more be made
+    ("crates/oneshot_out_of_memory/src/channels.rt", "async_channel(", "channel("),
+    ("crates/oneshot_drive/must-fail/always_sent.edit", "old: DISCONNECTED", "old: DISCONNECTS"),
+    # what functions do with the shared table, and which look
+    (SIDE, "fetch_xor", "fetch_add"),
+    *((SIDE, "self.table", f"{loop} self.table") for loop in ("for", "while", "loop")),
+    (LOOKS, "self.side.peek()", "self.side.peek() + self.side.peek()"),
+    (LOOKS, "self.ground.peek()", "loop self.ground.peek()"),
+    (LOOKS, "use oneshot_word", "const A: fn() = peek; use oneshot_word"),
+    ("crates/oneshot_ends/src/pair.rt", "use oneshot_word::{", "use oneshot_word::{Peek, "),
+    ("crates/oneshot_reply/src/ticket.rt", "replies.is_closed()", "replies.has_message()"),
+    ("crates/oneshot_reply/src/requests.rt", "self.reply.is_closed()", "while self.reply.is_closed()"),
+    ("crates/oneshot_watch/src/replies.rt", "replies.has_message()", "replies.is_closed()"),
+    # what is unsafe, or forgets a value
+    *(("crates/oneshot_drive/src/lib.rt", ROOT, f"{words} {ROOT}") for words in FORGETS),
+    *((f"crates/oneshot_{crate}/src/lib.rt", ROOT, f"unsafe {ROOT}") for crate in CHANNEL),
+    ("crates/oneshot_ends/src/freed.rt", "unsafe impl", "impl"),
+    # a call that no more has the clauses of another, and one that lacks
+    ("crates/oneshot_watch/src/ticket.rt", "ensures right {", "ensures rights {"),
+    ("crates/oneshot_watch/src/replies.rt", "same_waker", "waker"),
+    ("crates/oneshot_watch/src/replies.rt", "TakesReady result self.old.took", "TakesReady result self.new.took"),
+    ("crates/oneshot_watch/src/requests.rt", "requires fits {", "requires fitting {"),
+    ("crates/oneshot_watch/src/ticket.rt", "fn is_closed", "fn is_done"),
+    # a definition that an example reached: of a function, of a trait, of its impl, and of a ghost member
+    ("crates/oneshot_contract_examples/specs/DriverExamples.antt", "HandsNoWaker", "IsOpenAt"),
+    ("crates/oneshot_contract_examples/specs/DriverExamples.antt", "SenderAsks", "IsOpenAt"),
+    ("crates/oneshot_contract_examples/specs/EndExamples.antt", "HasMade", "IsOpen"),
+    ("crates/oneshot_contract_examples/specs/OwnExamples.antt", "KeepsLent", "KeepsOwn"),
+]
