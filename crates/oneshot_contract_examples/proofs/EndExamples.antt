@@ -29,7 +29,8 @@ use Rattle.oneshot_machine.proofs.FirstSteps.{tries_once, tries_in_vain, sends_w
 use Rattle.oneshot_word.proofs.Between.{between}
 use Rattle.oneshot_word.proofs.RuleImplies.{Is, word_between}
 use Rattle.oneshot_ends.specs.Ends.{Waking, SenderGrew, ReceiverGrew}
-use Rattle.oneshot_contract_examples.specs.EndExamples.{ran_out, EndsThatAre, EndsThatAreNot, CallsThatGrow, CallsThatDoNot, DeadlinesThatAre, DeadlinesThatAreNot, CopiesThatAre, CopiesThatAreNot, GroundsThatAre}
+use Rattle.oneshot_contract_examples.specs.EndExamples.{ran_out, EndsThatAre, EndsThatAreNot, CallsThatGrow, CallsThatDoNot, DeadlinesThatAre, DeadlinesThatAreNot, CopiesThatAre}
+use Rattle.oneshot_contract_examples.specs.EndExamples.{CopiesThatAreNot, GroundsThatAre}
 use Rattle.oneshot_ends.specs.OwnWakers.{is_waiting}
 use Rattle.oneshot_contract_examples.specs.EndExamples.{GroundsThatAreNot, OrdersThatAre, OrdersThatAreNot}
 use Rattle.oneshot_ends.proofs.CallsAnswered.{one_more, was_refused}

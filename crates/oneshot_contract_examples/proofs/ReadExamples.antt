@@ -9,7 +9,8 @@ use Rattle.oneshot_machine.proofs.InOrders.{in_order as reached_in_order}
 use Rattle.oneshot_word.specs.declared.rule.Role.TheVariants.{Sender, Receiver}
 use Rattle.oneshot_word.specs.EndLogs.{sent as sent_alone}
 use Rattle.oneshot_contract_examples.specs.ReadExamples.{sent}
-use Rattle.oneshot_word.specs.ReadRule.{Owned, both_open, sent as sent_row, sender_has_it, left_for_receiver, receiver_has_it, receiver_found_it, waits_for_receiver, Ruled, maker_alone, dealer_alone}
+use Rattle.oneshot_word.specs.ReadRule.{Owned, both_open, sent as sent_row, sender_has_it, left_for_receiver, receiver_has_it, receiver_found_it, waits_for_receiver, Ruled, maker_alone}
+use Rattle.oneshot_word.specs.ReadRule.{dealer_alone}
 use Rattle.oneshot_word.specs.ReadRule.{two_ends}
 use Rattle.oneshot_contract_examples.specs.SeatExamples.{keeps}
 use Rattle.oneshot_contract_examples.proofs.StateExamples.{states_that_are_not}

@@ -4,7 +4,8 @@ use Rattle.oneshot_word.proofs.Names.{◌≢◌, Word, Add, sending, dropping, A
 use Rattle.oneshot_contract_examples.specs.StateExamples.{stopped_over, polled, polled_over, exchanged_back, left_meanwhile, sent_over, dropped_over, StatesThatAre}
 use Rattle.oneshot_word.proofs.Names.{Home, out, bare, has_waker, IsSenders, IsReceivers, IsWords, Owned, both_open, waker_stored, waker_claimed, claimed_overdue, claimed_gone}
 use Rattle.oneshot_contract_examples.specs.StateExamples.{StatesThatAreNot}
-use Rattle.oneshot_word.proofs.Names.{receiver_gone, sender_after, written, sender_has_it, left_for_sender, left_for_receiver, receiver_has_it, receiver_found_it, waits_for_receiver, waker_at_home}
+use Rattle.oneshot_word.proofs.Names.{receiver_gone, sender_after, written, sender_has_it, left_for_sender, left_for_receiver, receiver_has_it, receiver_found_it, waits_for_receiver}
+use Rattle.oneshot_word.proofs.Names.{waker_at_home}
 use Rattle.oneshot_word.proofs.Names.{EMPTY, RECEIVING, UNPARKING, DISCONNECTED, MESSAGE}
 use Rattle.oneshot_word.specs.declared.any_waker.AnyWaker.TheVariants as R
 use Rattle.oneshot_contract_examples.specs.StateExamples.{waits, claims}

@@ -9,7 +9,8 @@ use Rattle.oneshot_ends.specs.declared.token.Half.{Half}
 use Rattle.oneshot_ends.specs.declared.token.Half.TheVariants.{Both}
 use Rattle.oneshot_ends.specs.Tokens.{undivided, divides, gives, takes, Life, and_then, made, was_divided, was_given}
 use Rattle.oneshot_ends.specs.Woken.{IsWoken}
-use Rattle.oneshot_contract_examples.specs.TokenExamples.{any_wakes, none_wakes, up_to_its_wake, StatesThatAreNot, LivesThatAre, LivesThatAreNot, StepsThatWake, StepsThatDoNot, WakersThatWoke, WakersThatDidNot}
+use Rattle.oneshot_contract_examples.specs.TokenExamples.{any_wakes, none_wakes, up_to_its_wake, StatesThatAreNot, LivesThatAre, LivesThatAreNot, StepsThatWake, StepsThatDoNot}
+use Rattle.oneshot_contract_examples.specs.TokenExamples.{WakersThatWoke, WakersThatDidNot}
 use Rattle.oneshot_ends.proofs.TokenLives.{halves_gave, halves_took}
 use Rattle.oneshot_ends.proofs.Tokens.{Has, has, undivided_has}
 

@@ -10,7 +10,8 @@ use Rattle.oneshot_machine.specs.declared.machine.async_drop.AsyncDropPos.TheVar
 use Rattle.oneshot_machine.specs.declared.states.Op.TheVariants.{Load, Store, Swap, Exchange}
 use Rattle.oneshot_machine.specs.declared.states.TheConstants.{RECEIVING, UNPARKING, DISCONNECTED, EMPTY, MESSAGE}
 use Rattle.oneshot_machine.specs.Noted.{Noted}
-use Rattle.oneshot_machine.specs.Phases.{waits, polled, again, claimed, withdrew, full, by_future, by_poll, disconnected, resolved, found_closed, closed_itself, gone, ended, no_receiver, receiver_at}
+use Rattle.oneshot_machine.specs.Phases.{waits, polled, again, claimed, withdrew, full, by_future, by_poll, disconnected, resolved, found_closed, closed_itself, gone, ended, no_receiver}
+use Rattle.oneshot_machine.specs.Phases.{receiver_at}
 use Rattle.oneshot_machine.specs.Logs.{Event, did, took, handed, copied, worded}
 use Rattle.oneshot_contract_examples.specs.RunExamples.{ReceiverRun}
 

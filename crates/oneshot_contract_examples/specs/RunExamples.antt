@@ -18,7 +18,8 @@ use Rattle.oneshot_machine.specs.declared.states.Op.TheVariants.{Load, Store, Sw
 use Rattle.oneshot_machine.specs.declared.states.TheConstants.{RECEIVING, UNPARKING, DISCONNECTED, EMPTY, MESSAGE}
 use Rattle.oneshot_machine.specs.Sender.{sender_step, sender_row}
 use Rattle.oneshot_machine.specs.Receiver.{receiver_step, receiver_row}
-use Rattle.oneshot_machine.specs.Phases.{sending, dropping, fresh, owes, finished, late, overtaken, no_sender, sender_at, first, here, looked, between, waits, blocked, overdue, full, at_once, waited}
+use Rattle.oneshot_machine.specs.Phases.{sending, dropping, fresh, owes, finished, late, overtaken, no_sender, sender_at, first, here, looked, between, waits, blocked, overdue, full}
+use Rattle.oneshot_machine.specs.Phases.{at_once, waited}
 use Rattle.oneshot_machine.specs.Phases.{swapped, storing, stopping, unclosed, disconnected, found_closed, closed_itself, gone, ended, no_receiver, receiver_at}
 use Rattle.oneshot_machine.specs.Logs.{Event, did, wrote, took, handed, parked, clocked, worded, words, kept, messages_given, messages_got}
 use Rattle.oneshot_machine.specs.Runs.{Run}

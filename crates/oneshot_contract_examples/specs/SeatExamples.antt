@@ -15,7 +15,8 @@ use Rattle.oneshot_word.specs.declared.rule.Role.TheVariants.{Sender, Receiver}
 use Rattle.oneshot_word.specs.declared.rule.Slot.{Slot}
 use Rattle.oneshot_word.specs.declared.rule.Slot.TheVariants.{Empty, Message, Thread, Task}
 use Rattle.oneshot_word.specs.declared.rule.View.{View}
-use Rattle.oneshot_word.specs.Seats.{view, any, with_waker, Carried, message_of, waker_of, message_in, waker_in, MessageSlot, WakerSlot, Part, message_first, waker_first, carried_as, SeatOf, IsAt}
+use Rattle.oneshot_word.specs.Seats.{view, any, with_waker, Carried, message_of, waker_of, message_in, waker_in, MessageSlot, WakerSlot, Part, message_first, waker_first, carried_as, SeatOf}
+use Rattle.oneshot_word.specs.Seats.{IsAt}
 use Rattle.oneshot_word.specs.Seats.{GivesOnce, HoldsTaken, SenderSeat, ReceiverSeat, gave, took}
 
 abbrev pub keeps : ℕ → ℕ → Type 0

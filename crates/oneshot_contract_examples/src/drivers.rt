@@ -1,6 +1,7 @@
 //! Examples of what a driver leaves between two calls, and counterexamples.
 
-ghost use Rattle.oneshot_contract_examples.specs.DriverExamples.{EndsThatAre, EndsThatAreNot, CallsThatLeave, CallsThatDoNot, RepliesThatAre, HandsThatAre, HandsThatAreNot, GroundsThatAre, GroundsThatAreNot};
+ghost use Rattle.oneshot_contract_examples.specs.DriverExamples.{EndsThatAre, EndsThatAreNot, CallsThatLeave, CallsThatDoNot, RepliesThatAre, HandsThatAre, HandsThatAreNot, GroundsThatAre};
+ghost use Rattle.oneshot_contract_examples.specs.DriverExamples.{GroundsThatAreNot};
 ghost use Rattle.oneshot_contract_examples.specs.DriverExamples.{WakersThatAre, WakersThatAreNot};
 
 /// States by examples which phases are open, closed or between calls, what a call may leave and reply, which

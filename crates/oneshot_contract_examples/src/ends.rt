@@ -2,7 +2,8 @@
 
 ghost use Rattle.atomic_table.specs.Seated.{TableId};
 ghost use Rattle.futures.specs.declared.task.context.Context.{Context};
-ghost use Rattle.oneshot_contract_examples.specs.EndExamples.{EndsThatAre, EndsThatAreNot, CallsThatGrow, CallsThatDoNot, DeadlinesThatAre, DeadlinesThatAreNot, CopiesThatAre, CopiesThatAreNot, GroundsThatAre};
+ghost use Rattle.oneshot_contract_examples.specs.EndExamples.{EndsThatAre, EndsThatAreNot, CallsThatGrow, CallsThatDoNot, DeadlinesThatAre, DeadlinesThatAreNot, CopiesThatAre};
+ghost use Rattle.oneshot_contract_examples.specs.EndExamples.{CopiesThatAreNot, GroundsThatAre};
 ghost use Rattle.oneshot_contract_examples.specs.EndExamples.{GroundsThatAreNot, OrdersThatAre, OrdersThatAreNot};
 ghost use Rattle.oneshot_contract_examples.specs.OwnExamples.{UsesThatAre, UsesThatAreNot};
 ghost use Rattle.oneshot_contract_examples.specs.PatienceExamples.{WaitsThatAre, WaitsThatAreNot};

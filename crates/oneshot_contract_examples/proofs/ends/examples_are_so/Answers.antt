@@ -1,6 +1,7 @@
 -- Proofs of the goals that `examples_are_so` leaves.
 use Rattle.oneshot_contract_examples.proofs.TokenExamples.{states_that_are_not, lives_that_are, lives_that_are_not, steps_that_wake, steps_that_do_not, wakers_that_woke, wakers_that_did_not}
-use Rattle.oneshot_contract_examples.proofs.EndExamples.{ends_that_are, ends_that_are_not, calls_that_grow, calls_that_do_not, deadlines_that_are, deadlines_that_are_not, copies_that_are, copies_that_are_not}
+use Rattle.oneshot_contract_examples.proofs.EndExamples.{ends_that_are, ends_that_are_not, calls_that_grow, calls_that_do_not, deadlines_that_are, deadlines_that_are_not, copies_that_are}
+use Rattle.oneshot_contract_examples.proofs.EndExamples.{copies_that_are_not}
 use Rattle.oneshot_contract_examples.proofs.EndExamples.{grounds_that_are, grounds_that_are_not, orders_that_are, orders_that_are_not}
 use Rattle.oneshot_contract_examples.proofs.OwnExamples.{uses_that_are, uses_that_are_not}
 use Rattle.oneshot_contract_examples.proofs.PatienceExamples.{waits_that_are, waits_that_are_not}
