@@ -10,8 +10,6 @@ TEXTS = (*DEFINITIONS, "crates/*/src/**/*.rt", "crates/*/must-fail/*.edit",
          ".ci/run", "scripts/*", "scripts/parts/**/*.py", "scripts/parts/**/*.[ch]")
 # 120 columns; 200 of what is one line whatever its length: an import, a clause, and a text of a must-fail edit.
 LONG = r"^(?! *(?:(?:pub |ghost )?use|requires|ensures) |old: |new: ).{121}|^.{201}"
-# Edits that write a derived impl out, in one line.
-LEFT_OUT = {"empty_equals_closed.edit", "hash_leaves_the_variant_out.edit"}
 
 # What takes a code of the word, by an example that has a number in place of the name. Operations compute with numbers
 # (States.antt), and a written trace has those that its lines print (oneshot_law_examples).
@@ -34,8 +32,7 @@ RULES = {
 
 @functools.cache
 def files_of(patterns):
-    return [file for pattern in patterns for file in sorted(CRATES.parent.glob(pattern))
-            if file.is_file() and file.name not in LEFT_OUT]
+    return [file for pattern in patterns for file in sorted(CRATES.parent.glob(pattern)) if file.is_file()]
 
 
 @functools.cache
