@@ -1,16 +1,11 @@
 -- The examples of messages and wakers that pass, each from the rule, and why the others do not.
-use Rattle.std.proofs.Common.{◌≡◌, ℕ, List, [], ◌∷◌, Option, Some, refl}
-use mathlib.Core.Option as maybe
-use Rattle.oneshot_word.proofs.Names.{sym, ap, ◌∙◌, subst, Load, Add, Noted, has_made, nothing_made, sender_makes, receiver_makes, has_row, head, tail, View, both_views, ReceivedIsSent}
-use Rattle.oneshot_word.proofs.Names.{Home, has_message, lies_out, lies_bare, lies_filled, IsTaken, took_none, took_it, Tied, opened, dealt, runs, view}
+use Rattle.std.proofs.Common.{◌≡◌, [], ◌∷◌, refl}
+use Rattle.oneshot_word.proofs.Names.{◌∙◌, Load, Add, nothing_made, sender_makes, receiver_makes, has_row, head, tail}
+use Rattle.oneshot_word.proofs.Names.{lies_out, lies_bare, lies_filled, took_none, took_it, runs}
 use Rattle.oneshot_word.proofs.Names.{Swap, Exchange}
-use Rattle.oneshot_word.proofs.Names.{Word, Reaches, AnyWaker, Share, Held, away, held, waker_of, with_waker, bare, has_waker, Lies, IsPut, IsClaimed, claimed_none, claimed_it, WokenIsPut}
+use Rattle.oneshot_word.proofs.Names.{Word, Reaches, claimed_none, claimed_it}
 use Rattle.oneshot_word.proofs.Names.{RECEIVING, EMPTY, MESSAGE}
-use Rattle.oneshot_word.specs.declared.any_waker.AnyWaker.TheVariants as R
 use Rattle.oneshot_contract_examples.specs.StateExamples.{waits, polled}
-use Rattle.oneshot_word.proofs.SlotReads.{reads_back}
-use Rattle.oneshot_word.specs.declared.rule.Role.TheVariants.{Sender, Receiver}
-use Rattle.oneshot_word.proofs.RuleKeeps.{lies_so}
 use Rattle.oneshot_word.proofs.RuleReceives.{was_given, lies_given, was_put, never_claimed, rests_put}
 use Rattle.oneshot_contract_examples.specs.ReceivedExamples.{MessagesThatPass, MessagesThatDoNot, WakersThatPass, WakersThatDoNot}
 

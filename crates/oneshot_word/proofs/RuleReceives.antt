@@ -2,11 +2,9 @@
 -- and so it is with the waker.
 use Rattle.std.proofs.Common.{◌≡◌, ℕ, List, [], ◌∷◌, Option, Some, refl}
 use mathlib.Core.Option as maybe
-use Rattle.oneshot_word.proofs.Names.{sym, ap, ◌∙◌, subst, Load, Add, Noted, has_made, nothing_made, sender_makes, receiver_makes, has_row, head, tail, View, both_views, ReceivedIsSent}
-use Rattle.oneshot_word.proofs.Names.{MessagesThatPass, MessagesThatDoNot, Home, has_message, lies_out, lies_bare, lies_filled, IsTaken, took_none, took_it, Tied, opened, dealt, runs, view}
-use Rattle.oneshot_word.proofs.Names.{Swap, Exchange}
-use Rattle.oneshot_word.proofs.Names.{Word, Reaches, AnyWaker, Share, Held, away, held, waker_of, with_waker, bare, has_waker, Lies, IsPut, IsClaimed, claimed_none, claimed_it, WokenIsPut}
-use Rattle.oneshot_word.proofs.Names.{WakersThatPass, WakersThatDoNot, RECEIVING, EMPTY, MESSAGE}
+use Rattle.oneshot_word.proofs.Names.{sym, ap, ◌∙◌, subst, Noted, has_made, View, both_views, ReceivedIsSent}
+use Rattle.oneshot_word.proofs.Names.{Home, has_message, lies_out, lies_bare, lies_filled, IsTaken, took_none, took_it, Tied, opened, dealt, runs, view}
+use Rattle.oneshot_word.proofs.Names.{Reaches, AnyWaker, Share, Held, away, held, waker_of, with_waker, bare, has_waker, Lies, IsPut, IsClaimed, claimed_none, claimed_it, WokenIsPut}
 use Rattle.oneshot_word.specs.declared.any_waker.AnyWaker.TheVariants as R
 use Rattle.oneshot_word.proofs.SlotReads.{reads_back}
 use Rattle.oneshot_word.specs.declared.rule.Role.TheVariants.{Sender, Receiver}
