@@ -14,7 +14,7 @@ use Rattle.oneshot_word.specs.ReadRule.{dealer_alone}
 use Rattle.oneshot_word.specs.ReadRule.{two_ends}
 use Rattle.oneshot_contract_examples.specs.SeatExamples.{keeps}
 use Rattle.oneshot_contract_examples.proofs.StateExamples.{states_that_are_not}
-use Rattle.oneshot_word.proofs.RuleReceives.{messages_that_pass}
+use Rattle.oneshot_contract_examples.proofs.ReceivedExamples.{messages_that_pass}
 
 sends : Reaches sent [] MESSAGE
 sends = sender_makes Add nothing_made (has_row head)

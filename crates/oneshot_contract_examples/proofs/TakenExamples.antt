@@ -4,7 +4,7 @@ use Rattle.futures.specs.declared.task.waker.Waker.{Waker}
 use Rattle.std.specs.Prelude.{⊤}
 use Rattle.oneshot_machine.specs.declared.states.TheConstants.{MESSAGE}
 use Rattle.oneshot_word.specs.Rule.{out}
-use Rattle.oneshot_word.proofs.RuleReceives.{messages_that_pass, messages_that_do_not}
+use Rattle.oneshot_contract_examples.proofs.ReceivedExamples.{messages_that_pass, messages_that_do_not}
 use Rattle.oneshot_ends.specs.declared.token.WakingHalf.{WakingHalf}
 use Rattle.oneshot_ends.specs.Taken.{has_found}
 use Rattle.oneshot_contract_examples.specs.TakenExamples.{TakesThatAre, TakesThatAreNot}
