@@ -1,4 +1,4 @@
--- The examples of open and closed ends, logs of calls, orders, deadlines, copies and grounds, computed.
+-- The examples of open and closed ends, logs of calls, orders, copies and grounds, computed.
 use Rattle.std.proofs.Common.{◌≡◌, ℕ, Bool, true, false, List, [], ◌∷◌, Option, Some, None, get_or, drop, refl, sym, ap, ◌∙◌, subst, arith, inl, inr}
 use Rattle.atomic_table.specs.Seated.{TableId}
 use Rattle.futures.specs.declared.task.context.Context.{Context}
@@ -29,7 +29,7 @@ use Rattle.oneshot_machine.proofs.FirstSteps.{tries_once, tries_in_vain, sends_w
 use Rattle.oneshot_word.proofs.Between.{between}
 use Rattle.oneshot_word.proofs.RuleImplies.{Is, word_between}
 use Rattle.oneshot_ends.specs.Ends.{Waking, SenderGrew, ReceiverGrew}
-use Rattle.oneshot_contract_examples.specs.EndExamples.{ran_out, EndsThatAre, EndsThatAreNot, CallsThatGrow, CallsThatDoNot, DeadlinesThatAre, DeadlinesThatAreNot, CopiesThatAre}
+use Rattle.oneshot_contract_examples.specs.EndExamples.{ran_out, EndsThatAre, EndsThatAreNot, CallsThatGrow, CallsThatDoNot, CopiesThatAre}
 use Rattle.oneshot_contract_examples.specs.EndExamples.{CopiesThatAreNot, GroundsThatAre}
 use Rattle.oneshot_ends.specs.OwnWakers.{is_waiting}
 use Rattle.oneshot_contract_examples.specs.EndExamples.{GroundsThatAreNot, OrdersThatAre, OrdersThatAreNot}
@@ -178,36 +178,6 @@ orders_that_are_not =
     record {
       sent_over_a_message = λ (ys, word, reaches). elim (between reaches) [ ];
       found_a_waker_first = λ (xs, word, reaches). no_order (sender_at xs) (between reaches);
-    }
-
-pub deadlines_that_are : DeadlinesThatAre
-deadlines_that_are =
-    record {
-      over_past_it = λ end now e. omega arith;
-      over_unread = λ _. tt;
-      over_at_once = λ _. tt;
-      far = λ end now e. omega arith;
-      ends = λ _. refl;
-      ends_at_once = refl;
-      ends_never = refl;
-      after_a_failure = λ _. refl;
-      end_after_a_failure = λ _. tt;
-    }
-
-pub deadlines_that_are_not : DeadlinesThatAreNot
-deadlines_that_are_not =
-    record {
-      over_at_itself = λ end now e over. omega arith;
-      over_before = λ end now e over. omega arith;
-      over_without_end = λ _ over. over;
-      far_by_less = λ end now e far. omega arith;
-      far_unread = λ _ far. far;
-      never_after_a_failure = λ _ after. cc after;
-      later_after_a_failure = λ _ _ after. cc after;
-      passed_after_a_reading = λ _ _ after. after;
-      a_nanosecond_early = λ timeout now end e after. let at = after.0 in omega arith;
-      a_nanosecond_late = λ timeout now end e after. let at = after.0 in omega arith;
-      never_where_it_fits = λ _ _ fits never. never fits;
     }
 
 module _ (before after : Context) where

@@ -16,7 +16,6 @@ pub mod DriverExamples
 pub mod GroundExamples
 pub mod EndExamples
 pub mod OwnExamples
-pub mod PatienceExamples
 pub mod TakenExamples
 pub mod TokenExamples
 pub mod ReceivedExamples

@@ -1,8 +1,13 @@
 -- The examples of what readers of the rule find: each by its row or its order, and why the counterexamples have none.
 use Rattle.std.proofs.Common.{◌≡◌, ℕ, List, [], ◌∷◌, Option, None, refl}
-use Rattle.oneshot_word.proofs.Names.{◌⊎◌, inl, inr, sym, ap, subst, Load, Add, Noted, Reaches, nothing_made, sender_makes, receiver_makes, has_row, head, tail, Role, Maker}
+use Rattle.oneshot_word.proofs.Names.{◌⊎◌, inl, inr, sym, ap, subst, Load, Add, Noted, Reaches, nothing_made, sender_makes, receiver_makes, has_row, head, tail}
+use Rattle.oneshot_word.specs.declared.rule.Role.{Role}
+use Rattle.oneshot_word.specs.declared.rule.Role.TheVariants.{Maker}
 use Rattle.oneshot_contract_examples.proofs.OrderExamples.{orders_that_are_not}
-use Rattle.oneshot_word.proofs.Names.{Dealer, View, Ordered, maker_before, dealer_before, in_order, Home, AnyWaker}
+use Rattle.oneshot_word.proofs.Names.{Ordered, maker_before, dealer_before, in_order, Home}
+use Rattle.oneshot_word.specs.declared.rule.Role.TheVariants.{Dealer}
+use Rattle.oneshot_word.specs.declared.rule.View.{View}
+use Rattle.oneshot_word.specs.declared.any_waker.AnyWaker.{AnyWaker}
 use Rattle.oneshot_contract_examples.specs.ReadExamples.{both_in, both_out, one_out, alone, views, found, ReadsThatAre, ReadsThatAreNot}
 use Rattle.oneshot_word.proofs.Names.{both_views, view, MESSAGE, DISCONNECTED, EMPTY}
 use Rattle.oneshot_machine.proofs.InOrders.{in_order as reached_in_order}

@@ -5,13 +5,10 @@ use Rattle.std.specs.List.{list_all}
 use Rattle.oneshot_machine.specs.declared.states.Op.{Op}
 use Rattle.oneshot_machine.specs.Noted.{is_same_op}
 use Rattle.oneshot_machine.specs.Phases.{Share, none, empty, filled, Row}
-use Rattle.oneshot_contract_examples.specs.RowExamples.{no_slot, room, has, RowsThatLead, SlotsThatAre, SlotsThatAreNot}
+use Rattle.oneshot_contract_examples.specs.RowExamples.{no_slot, room, has, SlotsThatAre, SlotsThatAreNot}
 use Rattle.oneshot_machine.specs.Slots.{Held, away, vacant, held, IsSlot, is_away, is_vacant, is_held, Turns, stays_away, stays_vacant, stays_held, gives_room, gives_thing, gets_room, gets_thing}
 use Rattle.oneshot_machine.specs.Slots.{head, tail, May, may, Finds, finds, IsOwned, not_its_own, own_vacant, own_held, Owns, owns}
 use Rattle.oneshot_machine.proofs.Sameness.{each_passes, same_op}
-
-pub rows_that_lead : RowsThatLead
-rows_that_lead = record { goes = refl; answers = refl; goes_on = refl; ends = refl }
 
 pub slots_that_are : SlotsThatAre
 slots_that_are =

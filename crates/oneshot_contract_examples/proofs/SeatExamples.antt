@@ -1,7 +1,8 @@
 -- The examples of seats: each by its parts, and what the counterexamples lack.
 use Rattle.std.proofs.Common.{◌≡◌, ℕ, Bool, true, false, [], ◌∷◌, Option, Some, refl, if◌then◌else◌}
-use Rattle.oneshot_word.proofs.Names.{ap, subst, TableId, Word, Load, Swap, Add, Reaches, nothing_made, sender_makes, receiver_makes, has_row, Held, vacant, held, head, tail, AnyWaker}
-use Rattle.oneshot_word.proofs.Names.{Empty, Message}
+use Rattle.oneshot_word.proofs.Names.{ap, subst, TableId, Word, Load, Swap, Add, Reaches, nothing_made, sender_makes, receiver_makes, has_row, Held, vacant, held, head, tail}
+use Rattle.oneshot_word.specs.declared.any_waker.AnyWaker.{AnyWaker}
+use Rattle.oneshot_word.specs.declared.rule.Slot.TheVariants.{Empty, Message}
 use Rattle.oneshot_word.proofs.Names.{Front, slot_vacant, slot_held, MessageSlot, WakerSlot, message_of}
 use Rattle.oneshot_contract_examples.specs.SeatExamples.{Kept, Carries, MessagePart, WakerPart, received, SlotsAsSeen, SeatsThatAre, SeatsThatAreNot}
 use Rattle.oneshot_word.proofs.Names.{not_carried, carried, message_first, waker_first, SeatOf, seat_of, has_given, gave_none, holds_no_slot, holds_it, claims_no_slot, claims_it, RECEIVING}

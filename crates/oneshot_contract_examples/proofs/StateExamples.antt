@@ -1,6 +1,7 @@
 -- The examples of the rule: each state by its row, and why no row fits the counterexamples.
 use Rattle.std.proofs.Common.{[], ◌∷◌, refl}
-use Rattle.oneshot_word.proofs.Names.{◌≢◌, Word, Add, sending, dropping, AnyWaker}
+use Rattle.oneshot_word.proofs.Names.{◌≢◌, Word, Add, sending, dropping}
+use Rattle.oneshot_word.specs.declared.any_waker.AnyWaker.{AnyWaker}
 use Rattle.oneshot_contract_examples.specs.StateExamples.{stopped_over, polled, polled_over, exchanged_back, left_meanwhile, sent_over, dropped_over, StatesThatAre}
 use Rattle.oneshot_word.proofs.Names.{Home, out, bare, has_waker, IsSenders, IsReceivers, IsWords, Owned, both_open, waker_stored, waker_claimed, claimed_overdue, claimed_gone}
 use Rattle.oneshot_contract_examples.specs.StateExamples.{StatesThatAreNot}

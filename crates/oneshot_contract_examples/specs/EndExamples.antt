@@ -1,5 +1,5 @@
 -- Examples that the definitions of the ends accept or refuse: open and closed ends, logs of calls, logs that have an
--- order, deadlines, copies of wakers, and grounds.
+-- order, copies of wakers, and grounds.
 use Rattle.std.specs.Prelude.{◌≡◌, ◌≢◌, ⊤, ℕ, ◌+◌, true, false, List, [], ◌∷◌, ◌++◌, Option, Some, None}
 use Rattle.std.specs.Duration.{as_nanos}
 use Rattle.std.specs.declared.time.Duration.{Duration}
@@ -23,10 +23,8 @@ use Rattle.oneshot_machine.specs.Slots.{away, vacant, held}
 use Rattle.oneshot_word.specs.Side.{Side}
 use Rattle.oneshot_ends.specs.declared.copies.Copies.{Copies}
 use Rattle.oneshot_ends.specs.declared.copies.TaskCopy.{TaskCopy}
-use Rattle.oneshot_ends.specs.declared.deadline.Deadline.TheVariants.{At, Passed, Never}
 use Rattle.oneshot_ends.specs.Copies.{HasMade, HasNoneOf, PollHas}
 use Rattle.oneshot_ends.specs.OwnWakers.{RealWaker}
-use Rattle.oneshot_ends.specs.Deadlines.{IsOver, IsFar, has_end, IsAfter, HasEnd}
 use Rattle.oneshot_ends.specs.Ends.{Channel, EndOf, FutureEndOf, channel_at, Failed, SenderGrew, ReceiverGrew, TimeoutRan, TimeoutGrew, HasCalls, SenderIsOrdered, ReceiverIsOrdered, WasRefused}
 use Rattle.oneshot_ends.specs.Ends.{IsClosed, IsOpen, IsDone, IsUnfinished}
 use Rattle.oneshot_ends.specs.Grounds.{channel_of, slot_of, state_of, lent, left_of, MayBeFreed, IsNewSender, IsNewReceiver}
@@ -113,35 +111,6 @@ pub record OrdersThatAre : Type 0 where
 pub record OrdersThatAreNot : Type 0 where
   pub sent_over_a_message : SenderIsOrdered ((Add, Word MESSAGE) ∷ []) → ⊥
   pub found_a_waker_first : ReceiverIsOrdered ((Load, Word RECEIVING) ∷ []) → ⊥
-
--- DEADLINES
-pub record DeadlinesThatAre : Type 0 where
-  pub over_past_it : (end now : Instant) → instant_nanos now ≡ instant_nanos end + 1 → IsOver (At end) (Some now)
-  pub over_unread : (end : Instant) → IsOver (At end) None
-  pub over_at_once : (reading : Option Instant) → IsOver Passed reading
-  pub far : (end now : Instant) → instant_nanos now + 100_000_000 ≡ instant_nanos end → IsFar (At end) (Some now)
-  pub ends : (end : Instant) → has_end (At end) ≡ true
-  pub ends_at_once : has_end Passed ≡ true
-  pub ends_never : has_end Never ≡ false
-  pub after_a_failure : (timeout : Duration) → IsAfter timeout None Passed
-  pub end_after_a_failure : (timeout : Duration) → HasEnd timeout None
-
-pub record DeadlinesThatAreNot : Type 0 where
-  pub over_at_itself : (end now : Instant) → instant_nanos now ≡ instant_nanos end → IsOver (At end) (Some now) → ⊥
-  pub over_before : (end now : Instant) → instant_nanos now + 1 ≡ instant_nanos end → IsOver (At end) (Some now) → ⊥
-  pub over_without_end : (reading : Option Instant) → IsOver Never reading → ⊥
-  pub far_by_less : (end now : Instant) → instant_nanos now + 99_999_999 ≡ instant_nanos end
-      → IsFar (At end) (Some now) → ⊥
-  pub far_unread : (end : Instant) → IsFar (At end) None → ⊥
-  pub never_after_a_failure : (timeout : Duration) → IsAfter timeout None Never → ⊥
-  pub later_after_a_failure : (timeout : Duration) (end : Instant) → IsAfter timeout None (At end) → ⊥
-  pub passed_after_a_reading : (timeout : Duration) (now : Instant) → IsAfter timeout (Some now) Passed → ⊥
-  pub a_nanosecond_early : (timeout : Duration) (now end : Instant)
-      → instant_nanos end + 1 ≡ instant_nanos now + as_nanos timeout → IsAfter timeout (Some now) (At end) → ⊥
-  pub a_nanosecond_late : (timeout : Duration) (now end : Instant)
-      → instant_nanos end ≡ instant_nanos now + as_nanos timeout + 1 → IsAfter timeout (Some now) (At end) → ⊥
-  pub never_where_it_fits : (timeout : Duration) (now : Instant)
-      → FitsClock (instant_nanos now + as_nanos timeout) → IsAfter timeout (Some now) Never → ⊥
 
 -- COPIES of wakers: none, or one in hand
 abbrev pub copies_with : Option (TaskCopy Waker) → Copies Waker

@@ -16,6 +16,5 @@ pub mod ReceivedExamples
 pub mod DriverExamples
 pub mod EndExamples
 pub mod OwnExamples
-pub mod PatienceExamples
 pub mod TakenExamples
 pub mod TokenExamples

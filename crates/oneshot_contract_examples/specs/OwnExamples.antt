@@ -26,7 +26,7 @@ use Rattle.oneshot_ends.specs.Moments.{AtOneMoment}
 use Rattle.oneshot_ends.specs.NoLostWakeup.{SleepsOn, ParkerAt, HasGivenTokenOf, HasTokenThere, HasUsed, HasUsedWakerOf}
 use Rattle.oneshot_ends.specs.OwnWakers.{RealWaker, IsTaskOf, WaitsForTask, IsHalfOf, IsNoThread, WaitsByNoThread, WaitsByHalvesOf, BlockHas, is_waiting}
 use Rattle.oneshot_ends.specs.declared.patience.Patience.{Patience}
-use Rattle.oneshot_contract_examples.specs.PatienceExamples.{in_time, half_of}
+use Rattle.oneshot_ends.specs.PatienceExamples.{in_time, half_of}
 use Rattle.oneshot_ends.specs.Tokens.{ParkingView}
 use Rattle.oneshot_ends.specs.Woken.{Sending, HasWoken, HasEnded}
 

@@ -1,21 +1,10 @@
--- Examples of where a row leads, and of what the rows of the phases' table state of an end's slots, and do not.
+-- Examples of what the rows of the phases' table state of an end's slots, and do not.
 use Rattle.std.specs.Prelude.{◌≡◌, ℕ, Some, None}
-use Rattle.oneshot_machine.specs.declared.machine.Reply.TheVariants.{Sent}
-use Rattle.oneshot_machine.specs.declared.machine.RowEnd.TheVariants as Code
-use Rattle.oneshot_machine.specs.declared.machine.sender.SenderPos.{SenderPos}
-use Rattle.oneshot_machine.specs.declared.machine.sender.SenderPos.TheVariants.{SendAdd, SendWake}
 use Rattle.oneshot_machine.specs.declared.states.Op.TheVariants.{Load, Store, Swap, Exchange, Add, Xor}
 use Rattle.oneshot_machine.specs.declared.states.TheConstants.{RECEIVING, DISCONNECTED, EMPTY, MESSAGE}
 use Rattle.oneshot_machine.specs.Phases.{sending, dropping, fresh, owes, finished, late, no_sender, first, here, looked, waits, blocked, again, claimed, full, at_once, disconnected, found_closed}
 use Rattle.oneshot_machine.specs.Phases.{gone, no_receiver}
 use Rattle.oneshot_machine.specs.Slots.{Held, away, vacant, held, SenderMay, SenderFinds, SenderOwns, ReceiverMay, ReceiverFinds, ReceiverOwns}
-use Rattle.oneshot_machine.specs.TableRows.{Goes, Answers, outcome, leads}
-
-pub record RowsThatLead : Type 0 where
-  pub goes : leads {P = SenderPos} (Code.Goes SendAdd) ≡ Goes SendAdd
-  pub answers : leads {P = SenderPos} (Code.Answers Sent) ≡ Answers Sent
-  pub goes_on : outcome (SendAdd, None) ≡ Goes SendAdd
-  pub ends : outcome (SendWake, Some Sent) ≡ Answers Sent
 
 -- a slot that is not the end's, and an empty one that is
 abbrev pub no_slot : Held ℕ

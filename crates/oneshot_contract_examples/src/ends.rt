@@ -2,11 +2,10 @@
 
 ghost use Rattle.atomic_table.specs.Seated.{TableId};
 ghost use Rattle.futures.specs.declared.task.context.Context.{Context};
-ghost use Rattle.oneshot_contract_examples.specs.EndExamples.{EndsThatAre, EndsThatAreNot, CallsThatGrow, CallsThatDoNot, DeadlinesThatAre, DeadlinesThatAreNot, CopiesThatAre};
+ghost use Rattle.oneshot_contract_examples.specs.EndExamples.{EndsThatAre, EndsThatAreNot, CallsThatGrow, CallsThatDoNot, CopiesThatAre};
 ghost use Rattle.oneshot_contract_examples.specs.EndExamples.{CopiesThatAreNot, GroundsThatAre};
 ghost use Rattle.oneshot_contract_examples.specs.EndExamples.{GroundsThatAreNot, OrdersThatAre, OrdersThatAreNot};
 ghost use Rattle.oneshot_contract_examples.specs.OwnExamples.{UsesThatAre, UsesThatAreNot};
-ghost use Rattle.oneshot_contract_examples.specs.PatienceExamples.{WaitsThatAre, WaitsThatAreNot};
 ghost use Rattle.oneshot_contract_examples.specs.TakenExamples.{TakesThatAre, TakesThatAreNot};
 ghost use Rattle.oneshot_contract_examples.specs.TokenExamples.{StatesThatAreNot, LivesThatAre, LivesThatAreNot, StepsThatWake, StepsThatDoNot, WakersThatWoke, WakersThatDidNot};
 
@@ -18,8 +17,6 @@ pub fn examples_are_so<T>()
     ensures no_ends { (channel : TableId) → EndsThatAreNot channel }
     ensures calls { CallsThatGrow T }
     ensures no_calls { CallsThatDoNot T }
-    ensures deadlines { DeadlinesThatAre }
-    ensures no_deadlines { DeadlinesThatAreNot }
     ensures copies { (before after : Context) → CopiesThatAre before after }
     ensures no_copies { (before after : Context) → CopiesThatAreNot before after }
     ensures grounds { (table : TableId) → GroundsThatAre table }
@@ -31,8 +28,6 @@ pub fn examples_are_so<T>()
     ensures no_wakes { StepsThatDoNot }
     ensures woken { WakersThatWoke }
     ensures unwoken { WakersThatDidNot }
-    ensures waits { WaitsThatAre }
-    ensures no_waits { WaitsThatAreNot }
     ensures orders { OrdersThatAre }
     ensures no_orders { OrdersThatAreNot }
     ensures uses { UsesThatAre }

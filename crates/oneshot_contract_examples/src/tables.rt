@@ -5,7 +5,7 @@ ghost use Rattle.oneshot_contract_examples.specs.RunExamples.{LogsOfSender, Logs
 ghost use Rattle.oneshot_contract_examples.specs.FutureExamples.{LogsOfFuture, FutureRuns, FutureRunsThatAreNot};
 ghost use Rattle.oneshot_contract_examples.specs.CountExamples.{CountsThatAre, CountsThatAreNot};
 ghost use Rattle.oneshot_contract_examples.specs.LogExamples.{LogsThatGrow, LogsThatDoNot};
-ghost use Rattle.oneshot_contract_examples.specs.RowExamples.{RowsThatLead, SlotsThatAre, SlotsThatAreNot};
+ghost use Rattle.oneshot_contract_examples.specs.RowExamples.{SlotsThatAre, SlotsThatAreNot};
 ghost use Rattle.oneshot_contract_examples.specs.OverExamples.{EndsThatAreOver, EndsThatAreNotOver};
 ghost use Rattle.oneshot_contract_examples.specs.OrderExamples.{OrdersThatAre, OrdersThatAreNot};
 
@@ -28,7 +28,6 @@ pub fn examples_are_so()
     ensures no_orders { OrdersThatAreNot }
     ensures logs { LogsThatGrow }
     ensures no_logs { LogsThatDoNot }
-    ensures rows { RowsThatLead }
     ensures slots { SlotsThatAre }
     ensures no_slots { SlotsThatAreNot }
     ensures over { EndsThatAreOver }

@@ -18,3 +18,5 @@ mod TaskWakers
 pub mod CallsAnswered
 pub mod Tokens
 pub mod TokenLives
+mod PatienceExamples
+mod DeadlineExamples

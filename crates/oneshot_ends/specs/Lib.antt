@@ -12,6 +12,8 @@ pub mod OwnWakers
 pub mod Moments
 pub mod NoLostWakeup
 pub mod Patience
+pub mod PatienceExamples
+pub mod DeadlineExamples
 pub mod Keeps
 pub mod Invariants
 -- the definitions of the crates beneath that the contracts of `oneshot_reply` name

@@ -5,9 +5,11 @@ ghost use Rattle.futures.specs.declared.task.context.Context.{Context};
 ghost use Rattle.std.specs.Prelude.{◌≡◌, [], None};
 ghost use Rattle.oneshot_machine.specs.Called.{as_receiver, as_future};
 ghost use Rattle.oneshot_ends.specs.Ends.{IsOpen, IsUnfinished, HasCalls, CallsAddUp, SenderIsOrdered, ReceiverIsOrdered, WasRefused};
+ghost use Rattle.oneshot_ends.specs.DeadlineExamples.{DeadlinesThatAre, DeadlinesThatAreNot};
 ghost use Rattle.oneshot_ends.specs.Moments.{TookWhatWasGiven};
 ghost use Rattle.oneshot_ends.specs.NoLostWakeup.{EndedSendersGaveTokens, NoSleeperIsForgotten, FuturesWakeNoThread};
 ghost use Rattle.oneshot_ends.specs.NoLostWakeup.{EndedSendersWokeTasks, NoTaskIsForgotten, GivenTokensStay};
+ghost use Rattle.oneshot_ends.specs.PatienceExamples.{WaitsThatAre, WaitsThatAreNot};
 ghost use Rattle.oneshot_ends.specs.Taken.{TookAsFound};
 ghost use Rattle.oneshot_ends.specs.Tokens.{LivesLeadToStates, TokensAreGivenOnce, HasOneWakingHalf};
 
@@ -168,4 +170,13 @@ pub fn no_wakeup_is_lost<T, P: Promise<T>>()
     ensures futures { FuturesWakeNoThread P.keeps }
     ensures tasks { EndedSendersWokeTasks P.keeps }
     ensures registered { NoTaskIsForgotten P.keeps }
+{}
+
+/// Examples of deadlines and of receives that wait, and counterexamples. No other crate can name their types; the other
+/// examples of the ends are in `oneshot_contract_examples`.
+pub fn examples_are_so()
+    ensures deadlines { DeadlinesThatAre }
+    ensures no_deadlines { DeadlinesThatAreNot }
+    ensures waits { WaitsThatAre }
+    ensures no_waits { WaitsThatAreNot }
 {}

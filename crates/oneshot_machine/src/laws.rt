@@ -1,6 +1,7 @@
 //! Laws of the definitions that contracts cite: each function's contract is a law, and its body is empty.
 
 ghost use Rattle.oneshot_machine.specs.Exact.{SenderIsExact, ReceiverIsExact};
+ghost use Rattle.oneshot_machine.specs.LeadExamples.{RowsThatLead};
 ghost use Rattle.oneshot_machine.specs.Orders.{ReachedInOrder};
 
 /// After each log the definitions allow an end exactly its table's operations and only words with rows there.
@@ -13,4 +14,10 @@ pub fn tables_are_exact<T, W>()
 /// one before it left.
 pub fn phases_keep_order()
     ensures { ReachedInOrder }
+{}
+
+/// Examples of where a row leads. No other crate can name the type of a row's end; the other examples of the tables are
+/// in `oneshot_contract_examples`.
+pub fn examples_are_so()
+    ensures { RowsThatLead }
 {}

@@ -1,10 +1,9 @@
 -- Proofs of the goals that `examples_are_so` leaves.
 use Rattle.oneshot_contract_examples.proofs.TokenExamples.{states_that_are_not, lives_that_are, lives_that_are_not, steps_that_wake, steps_that_do_not, wakers_that_woke, wakers_that_did_not}
-use Rattle.oneshot_contract_examples.proofs.EndExamples.{ends_that_are, ends_that_are_not, calls_that_grow, calls_that_do_not, deadlines_that_are, deadlines_that_are_not, copies_that_are}
+use Rattle.oneshot_contract_examples.proofs.EndExamples.{ends_that_are, ends_that_are_not, calls_that_grow, calls_that_do_not, copies_that_are}
 use Rattle.oneshot_contract_examples.proofs.EndExamples.{copies_that_are_not}
 use Rattle.oneshot_contract_examples.proofs.EndExamples.{grounds_that_are, grounds_that_are_not, orders_that_are, orders_that_are_not}
 use Rattle.oneshot_contract_examples.proofs.OwnExamples.{uses_that_are, uses_that_are_not}
-use Rattle.oneshot_contract_examples.proofs.PatienceExamples.{waits_that_are, waits_that_are_not}
 use Rattle.oneshot_contract_examples.proofs.TakenExamples.{takes_that_are, takes_that_are_not}
 use Rattle.oneshot_contract_examples.proofs.ends.examples_are_so.Goals as goal
 
@@ -15,8 +14,6 @@ returns g c =
       no_ends = ends_that_are_not;
       calls = calls_that_grow;
       no_calls = calls_that_do_not;
-      deadlines = deadlines_that_are;
-      no_deadlines = deadlines_that_are_not;
       copies = copies_that_are;
       no_copies = copies_that_are_not;
       grounds = grounds_that_are;
@@ -28,8 +25,6 @@ returns g c =
       no_wakes = steps_that_do_not;
       woken = wakers_that_woke;
       unwoken = wakers_that_did_not;
-      waits = waits_that_are;
-      no_waits = waits_that_are_not;
       orders = orders_that_are;
       no_orders = orders_that_are_not;
       uses = uses_that_are;

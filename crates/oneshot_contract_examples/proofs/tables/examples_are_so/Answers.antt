@@ -5,7 +5,7 @@ use Rattle.oneshot_contract_examples.proofs.NoRunExamples.{runs_that_are_not}
 use Rattle.oneshot_contract_examples.proofs.FutureExamples.{logs_of_future, future_runs, future_runs_that_are_not}
 use Rattle.oneshot_contract_examples.proofs.CountExamples.{counts_that_are, counts_that_are_not}
 use Rattle.oneshot_contract_examples.proofs.LogExamples.{logs_that_grow, logs_that_do_not}
-use Rattle.oneshot_contract_examples.proofs.RowExamples.{rows_that_lead, slots_that_are, slots_that_are_not}
+use Rattle.oneshot_contract_examples.proofs.RowExamples.{slots_that_are, slots_that_are_not}
 use Rattle.oneshot_contract_examples.proofs.OverExamples.{ends_that_are_over, ends_that_are_not_over}
 use Rattle.oneshot_contract_examples.proofs.OrderExamples.{orders_that_are, orders_that_are_not}
 use Rattle.oneshot_contract_examples.proofs.tables.examples_are_so.Goals as goal
@@ -28,7 +28,6 @@ returns c =
       no_orders = orders_that_are_not;
       logs = logs_that_grow;
       no_logs = logs_that_do_not;
-      rows = rows_that_lead;
       slots = slots_that_are;
       no_slots = slots_that_are_not;
       over = ends_that_are_over;

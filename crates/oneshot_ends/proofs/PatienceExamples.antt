@@ -7,7 +7,7 @@ use Rattle.oneshot_ends.specs.declared.deadline.NextReading.{NextReading}
 use Rattle.oneshot_ends.specs.declared.deadline.NextReading.TheVariants.{Due, Taken}
 use Rattle.oneshot_ends.specs.declared.deadline.Reading.{Reading}
 use Rattle.oneshot_ends.specs.Patience.{MaySpin, instant_of}
-use Rattle.oneshot_contract_examples.specs.PatienceExamples.{in_time, WaitsThatAre, WaitsThatAreNot}
+use Rattle.oneshot_ends.specs.PatienceExamples.{in_time, WaitsThatAre, WaitsThatAreNot}
 
 took_of : {half next : ParkingView} → half ≡ next → half.taken ≡ next.taken
 took_of e = ap (λ (half : ParkingView). half.taken) e
