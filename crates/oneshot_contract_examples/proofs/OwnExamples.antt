@@ -167,7 +167,7 @@ uses_that_are =
         refl,
         refl,
       );
-      spun_and_took = λ s parker.
+      spun_and_took = λ s deadline parker.
           record {
             about = refl;
             deadline = refl;
@@ -242,7 +242,7 @@ uses_that_are_not =
       forgets_its_message = λ s next took none keeps. let e = sym none ∙ keeps.taken.stays tt took in absurd (cc e);
       gives_its_token_back = λ s patience parker keeps. let e : false ≡ true = keeps.token refl in absurd (cc e);
       parks_by_another = λ s patience parker other apart keeps. apart (sym keeps.parker);
-      sets_its_spins_back = λ s half keeps. let few = keeps.spins in omega arith;
-      moves_its_deadline = λ s half keeps. let e = keeps.deadline in cc e;
+      sets_its_spins_back = λ s deadline half keeps. let few = keeps.spins in omega arith;
+      moves_its_deadline = λ s deadline other half moved keeps. moved keeps.deadline;
       polls_by_another = λ s cx keeps. let e : 1 ≡ 2 = keeps.source in cc e;
     }

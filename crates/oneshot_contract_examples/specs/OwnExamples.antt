@@ -17,7 +17,6 @@ use Rattle.oneshot_word.specs.declared.any_waker.AnyWaker.TheVariants.{Thread, T
 use Rattle.oneshot_contract_examples.specs.StateExamples.{waits as blocks, polled, claims, stopped_over, sent_over}
 use Rattle.oneshot_contract_examples.specs.SeatExamples.{table}
 use Rattle.oneshot_word.specs.Side.{Side}
-use Rattle.oneshot_ends.specs.declared.deadline.Deadline.TheVariants.{Passed, Never}
 use Rattle.oneshot_ends.specs.declared.token.Given.{Given}
 use Rattle.oneshot_ends.specs.declared.token.WakingHalf.{WakingHalf}
 use Rattle.oneshot_ends.specs.Ends.{FutureEndOf, WillBeWoken, registered_by}
@@ -25,7 +24,6 @@ use Rattle.oneshot_ends.specs.Keeps.{KeepsOwn, KeepsLent, KeepsPolled}
 use Rattle.oneshot_ends.specs.Moments.{AtOneMoment}
 use Rattle.oneshot_ends.specs.NoLostWakeup.{SleepsOn, ParkerAt, HasGivenTokenOf, HasTokenThere, HasUsed, HasUsedWakerOf}
 use Rattle.oneshot_ends.specs.OwnWakers.{RealWaker, IsTaskOf, WaitsForTask, IsHalfOf, IsNoThread, WaitsByNoThread, WaitsByHalvesOf, BlockHas, is_waiting}
-use Rattle.oneshot_ends.specs.declared.patience.Patience.{Patience}
 use Rattle.oneshot_ends.specs.PatienceExamples.{in_time, half_of}
 use Rattle.oneshot_ends.specs.Tokens.{ParkingView}
 use Rattle.oneshot_ends.specs.Woken.{Sending, HasWoken, HasEnded}
@@ -117,8 +115,8 @@ pub record UsesThatAre : Type 0 where
       × (is_waiting (receiver_at polled) ≡ true) × (registered_by (side_with polled (Task waker)) ≡ Some waker)
   -- steps of a ground that keep what it has
   pub keeps_all : (s : Side ⊤ RealWaker ⊤) → KeepsOwn s s
-  pub spun_and_took : (s : Side ⊤ RealWaker ⊤) (parker : TableId)
-      → KeepsLent s s (in_time Never None 3) (in_time Never None 4) (half_of parker false) (half_of parker true)
+  pub spun_and_took : (s : Side ⊤ RealWaker ⊤) (deadline : _) (parker : TableId)
+      → KeepsLent s s (in_time deadline None 3) (in_time deadline None 4) (half_of parker false) (half_of parker true)
   pub keeps_its_task : (s : Side ⊤ RealWaker ⊤) (cx : Context) (source : ℕ) → KeepsPolled s s cx cx source source
 
 -- senders and receivers with real logs, each wrong in one thing, and wakers that are not a parker's own
@@ -174,12 +172,12 @@ pub record UsesThatAreNot : Type 0 where
   -- steps of a ground that lose the message, the token, the parker, the spins, the deadline or the source
   pub forgets_its_message : (s next : Side ⊤ RealWaker ⊤) → s.passed ≡ Some tt → next.passed ≡ None
       → KeepsOwn s next → ⊥
-  pub gives_its_token_back : (s : Side ⊤ RealWaker ⊤) (patience : Patience) (parker : TableId)
+  pub gives_its_token_back : (s : Side ⊤ RealWaker ⊤) (patience : _) (parker : TableId)
       → KeepsLent s s patience patience (half_of parker true) (half_of parker false) → ⊥
-  pub parks_by_another : (s : Side ⊤ RealWaker ⊤) (patience : Patience) (parker other : TableId) → parker ≢ other
+  pub parks_by_another : (s : Side ⊤ RealWaker ⊤) (patience : _) (parker other : TableId) → parker ≢ other
       → KeepsLent s s patience patience (half_of parker false) (half_of other false) → ⊥
-  pub sets_its_spins_back : (s : Side ⊤ RealWaker ⊤) (half : ParkingView)
-      → KeepsLent s s (in_time Never None 5) (in_time Never None 0) half half → ⊥
-  pub moves_its_deadline : (s : Side ⊤ RealWaker ⊤) (half : ParkingView)
-      → KeepsLent s s (in_time Passed None 0) (in_time Never None 0) half half → ⊥
+  pub sets_its_spins_back : (s : Side ⊤ RealWaker ⊤) (deadline : _) (half : ParkingView)
+      → KeepsLent s s (in_time deadline None 5) (in_time deadline None 0) half half → ⊥
+  pub moves_its_deadline : (s : Side ⊤ RealWaker ⊤) (deadline other : _) (half : ParkingView) → other ≢ deadline
+      → KeepsLent s s (in_time deadline None 0) (in_time other None 0) half half → ⊥
   pub polls_by_another : (s : Side ⊤ RealWaker ⊤) (cx : Context) → KeepsPolled s s cx cx 1 2 → ⊥
