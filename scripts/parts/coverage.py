@@ -8,13 +8,13 @@ from parts.functions import functions
 from parts.pages import TOP
 from parts.printed import shown, table
 from parts.reference import STARTS
-from parts.sources import CRATES, code_of, section, sources, text_of
+from parts.sources import CRATES, code_of, crates, section, sources, text_of
 
 # The crates of each kind of test. Those of the tests that none names are of the first kind.
 KINDS = {
     "Unit": ["oneshot_use_tests"],
-    "Race": ["oneshot_rounds", "oneshot_test_uses"],
-    "Interleaving": ["oneshot_scheduled"],
+    "Race": ["oneshot_rounds"],
+    "Interleaving": ["oneshot_scheduled", "oneshot_calls"],
     "Out of memory": ["oneshot_out_of_memory"],
     "Original": ["oneshot_original_tests"],
 }
@@ -36,6 +36,20 @@ DROPPED = ["Sender", "Receiver", "AsyncReceiver", "SendError", "Request", "Ticke
 DRIVERS = {
     "AsyncReceiver::try_recv": ["async_try_recv"], "Sender::drop": ["drop_sender"], "SendError::drop": ["drop_error"],
     "Receiver::drop": ["drop_receiver"], "AsyncReceiver::drop": ["drop_async"],
+}
+# The calls that the words of a script make (oneshot_calls), by whose word it is.
+CALLED = {
+    "S": {"closed": "Sender::is_closed", "send": "Sender::send", "drop": "Sender::drop", "dropraw": "Sender::into_raw",
+          "raw": "Sender::into_raw Sender::from_raw"},
+    "error": {"inner": "SendError::as_inner", "into": "SendError::into_inner", "drop": "SendError::drop"},
+    "R": {"closed": "Receiver::is_closed", "full": "Receiver::has_message", "try": "Receiver::try_recv",
+          "tries": "Receiver::try_recv", "ref": "Receiver::recv_ref", "recv": "Receiver::recv",
+          "deadline": "Receiver::recv_deadline", "timeout": "Receiver::recv_timeout",
+          "forever": "Receiver::recv_timeout", "drop": "Receiver::drop", "dropraw": "Receiver::into_raw",
+          "raw": "Receiver::into_raw Receiver::from_raw", "future": "Receiver::into_future"},
+    "future": {"closed": "AsyncReceiver::is_closed", "full": "AsyncReceiver::has_message",
+               "try": "AsyncReceiver::try_recv", "poll": "AsyncReceiver::poll", "polls": "AsyncReceiver::poll",
+               "await": "AsyncReceiver::poll", "drop": "AsyncReceiver::drop"},
 }
 # The families of positions of the words, by where a word begins.
 FAMILIES = [("Look", "LookPos"), ("Try", "TryPos"), ("Async(?:Try)", "FuturePos"), ("Async", "AsyncDropPos"),
@@ -125,13 +139,50 @@ def made_in(text, known):
     return {call for call in made if call in known}
 
 
+def calls_of(words, end, kinds):
+    """The calls that these words of an end make; none if it lacks one. `kinds` has what each end is, and is kept."""
+    made = []
+    for word in words:
+        if word not in CALLED[kinds[end]]:
+            return []
+        made += CALLED[kinds[end]][word].split()
+        kinds[end] = {"send": "error", "future": "future"}.get(word, kinds[end])
+    return made
+
+
+@functools.cache
+def called_in(text):
+    """The calls that the scripts in the texts of a file make. Each is a text, or a line of one that begins with a
+    channel: what stands there before ` = `. Both ends' looks follow such a line."""
+    called = set()
+    for script in re.findall(r'"((?:[^"\\]|\\.)*)"', re.sub(r"\b(?:zero|far|long|past)|(?<=\bpoll)[12]", "", text)):
+        channel, *lines = re.split(r"\\n|\n", script)
+        if channel in ("channel", "async_channel"):
+            kinds = {"S": "S", "R": "R" if channel == "channel" else "future"}
+            for end, *words in (line.split(" = ")[0].split() for line in lines):
+                called.update(calls_of(words, end, kinds), calls_of(["closed"], "S", {"S": "S"}),
+                              calls_of(["closed", "full"], "R", kinds))
+        else:
+            for end in "SR":
+                called.update(calls_of(script.split(), end, {"S": "S", "R": "R"}))
+    return called
+
+
+def testing(call, kind, known):
+    """The files of this kind of test that make a call, themselves or by a script."""
+    for crate in crates_of(kind):
+        has_scripts = "oneshot_calls" in crates()[crate]
+        for file in sources(crate):
+            if call in made_in(code_of(file), known) or has_scripts and call in called_in(code_of(file)):
+                yield file
+
+
 def of_calls():
     """Prints the table of the calls."""
     known, changed, stated, rows = tuple(calls()), list(edits()), contracts(), []
     for call in known:
         edited = [edit.stem for edit, function in changed if is_edited(call, edit, function)]
-        cells = [[shown(file) for file in sources(*crates_of(kind)) if call in made_in(code_of(file), known)]
-                 for kind in KINDS]
+        cells = [[shown(file) for file in testing(call, kind, known)] for kind in KINDS]
         file = stated.get(call) or stated.get(f"Drop for {call}")
         rows.append((f"`{call}`", shown(file) if file else "", joined(edited), *map(joined, cells)))
     return table(["Call", "Contract", "Edits", *KINDS], rows)

@@ -1,6 +1,7 @@
 //! What the ends of a channel return, and how often.
 
-use std::fmt::Debug;
+use oneshot_calls::shows;
+use std::fmt::Display;
 use std::process::Abort;
 
 /// What one side of a round returned.
@@ -16,29 +17,36 @@ fn often<A>(outcomes: &[Outcome<A>]) -> usize {
     (outcomes.len() / 100).max(1)
 }
 
-/// Fails unless each of `answers` came often, and no other came.
-pub(super) fn assert_answers<A: Debug + PartialEq>(
+/// Fails unless each of `answers` came often, and no other came. `about` names the rounds.
+pub(super) fn assert_answers<A: Display>(
     rt: &impl Abort,
+    about: &str,
     outcomes: &[Outcome<A>],
-    answers: &[A],
+    answers: &[&str],
 ) {
     for outcome in outcomes {
         let answer = &outcome.answer;
-        assert!(rt; answers.contains(answer), "{answer:?} came");
+        assert!(rt;
+            answers.iter().any(|text| shows(answer, *text)),
+            "{about}: {answer} came"
+        );
     }
-    for answer in answers {
-        let count = outcomes.iter().filter(|o| o.answer == *answer).count();
-        assert!(rt; count >= often(outcomes), "{answer:?} came {count} times");
+    for text in answers {
+        let count = outcomes.iter().filter(|o| shows(&o.answer, *text)).count();
+        assert!(rt;
+            count >= often(outcomes),
+            "{about}: {text} came {count} times"
+        );
     }
 }
 
 /// Fails unless a side often began after the other's call was over, and often before.
-pub(super) fn assert_both_orders<A>(rt: &impl Abort, outcomes: &[Outcome<A>]) {
+pub(super) fn assert_both_orders<A>(rt: &impl Abort, about: &str, outcomes: &[Outcome<A>]) {
     let late = outcomes.iter().filter(|outcome| outcome.late).count();
     let early = outcomes.iter().filter(|outcome| !outcome.late).count();
     assert!(rt;
         late >= often(outcomes) && early >= often(outcomes),
-        "late {late} times, early {early} times"
+        "{about}: late {late} times, early {early} times"
     );
 }
 
@@ -48,19 +56,19 @@ const EARLY: [Outcome<u8>; 1] = [Outcome {
 }];
 
 #[test]
-#[should_panic(expected = "1 came")]
+#[should_panic(expected = "recv: 1 came")]
 fn an_answer_that_may_not_come_ends_a_test(rt: HostRuntime) {
-    assert_answers(&rt, &EARLY, &[2]);
+    assert_answers(&rt, "recv", &EARLY, &["2"]);
 }
 
 #[test]
-#[should_panic(expected = "2 came 0 times")]
+#[should_panic(expected = "recv: 2 came 0 times")]
 fn an_answer_that_does_not_come_ends_a_test(rt: HostRuntime) {
-    assert_answers(&rt, &EARLY, &[1, 2]);
+    assert_answers(&rt, "recv", &EARLY, &["1", "2"]);
 }
 
 #[test]
-#[should_panic(expected = "late 0 times, early 1 times")]
+#[should_panic(expected = "recv: late 0 times, early 1 times")]
 fn one_order_ends_a_test(rt: HostRuntime) {
-    assert_both_orders(&rt, &EARLY);
+    assert_both_orders(&rt, "recv", &EARLY);
 }

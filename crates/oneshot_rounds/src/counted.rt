@@ -1,5 +1,6 @@
 //! A message that counts its drops.
 
+use oneshot_calls::Numbered;
 use oneshot_channel::Sender;
 use std::alloc::Global;
 use std::process::Abort;
@@ -9,7 +10,7 @@ use std::test::Fail;
 
 /// A message whose drop is counted.
 pub(super) struct Counted {
-    pub(super) value: u64,
+    value: u64,
     drops: Arc<AtomicU64>,
 }
 
@@ -42,10 +43,10 @@ pub(super) fn load(
     Ok((loaded, Drops(counts)))
 }
 
-/// Sends. `Err`: the number in the message, which came back.
-pub(super) fn send((sender, message): Loaded) -> Result<(), u64> {
-    let sent = sender.send(message);
-    sent.map_err(|refused| refused.into_inner().value)
+impl Numbered for Counted {
+    fn number(&self) -> u64 {
+        self.value
+    }
 }
 
 impl Drops {

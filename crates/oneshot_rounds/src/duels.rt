@@ -1,10 +1,10 @@
-//! A use of a receiver that races with the sender's one call, in many rounds.
+//! The script of a receiver that races with its sender's, in many rounds.
 
 use super::answers::{Outcome, assert_answers, assert_both_orders};
 use super::channels::channels;
-use super::counted::{load, send};
+use super::counted::load;
 use super::races::race;
-use oneshot_test_uses::{Silence, Use};
+use oneshot_calls::{ReceiverCall, Receiving, Reply, SenderCall, Sending, Tasks, script};
 use std::process::Abort;
 use std::random::RandomSource;
 use std::sync::Wait;
@@ -14,47 +14,37 @@ use std::time::Clock;
 
 const ROUNDS: u64 = 10_000;
 
-/// Sends 999 in each round. Fails unless both ends return each of these answers often, and no other.
-pub(super) fn beside_a_send<R: Threads + Wait + Abort + Clock + AllocGlobal + RandomSource + Sync>(
+/// Makes the calls of both scripts in each round, with a message of 999. Returns the outcomes of the sender. Fails
+/// unless the last call of each script returns each of these texts often, and no other, and each message is dropped
+/// once.
+pub(super) fn duel<R: Threads + Wait + Abort + Clock + AllocGlobal + RandomSource + Sync>(
     rt: &R,
-    using: &Use,
-    sent: &[Result<(), u64>],
-    received: &[Result<u64, Silence>],
-) -> Result<(), Fail> {
+    sends: &str,
+    receives: &str,
+    sent: &[&str],
+    received: &[&str],
+) -> Result<Vec<Outcome<Reply<u64>>>, Fail> {
+    let about = format!(in rt.alloc(); "S {sends}, R {receives}")?;
+    let sends = script::<SenderCall>(rt.alloc(), sends)?;
+    let receives = script::<ReceiverCall>(rt.alloc(), receives)?;
+    let tasks = Tasks::new(rt)?;
     let (senders, receivers) = channels(rt, ROUNDS)?;
     let (loaded, drops) = load(rt.alloc(), senders)?;
-    let (sends, receives) = race(
+    let (ones, others) = race(
         rt,
         rt.alloc(),
         loaded,
         receivers,
-        |loaded| send(loaded),
-        |receiver| using.receive(rt, receiver).map(|message| message.value),
+        |(sender, message)| Sending::new(sender, Some(message))
+            .make_all(&sends)
+            .numbered(),
+        |receiver| Receiving::new(receiver)
+            .make_all(rt, Some(&tasks), &receives)
+            .numbered(),
     );
-    assert_answers(rt, &sends, sent);
-    assert_answers(rt, &receives, received);
+    assert_answers(rt, &about, &ones, sent);
+    assert_answers(rt, &about, &others, received);
     drops.assert_once(rt);
-    assert_both_orders(rt, &receives);
-    Ok(())
-}
-
-/// Drops the sender in each round, and returns the outcomes of the drops. Fails unless the receiver returns
-/// each of these answers often, and no other.
-pub(super) fn beside_a_drop<R: Threads + Wait + Abort + Clock + AllocGlobal + RandomSource + Sync>(
-    rt: &R,
-    using: &Use,
-    received: &[Result<u64, Silence>],
-) -> Result<Vec<Outcome<()>>, Fail> {
-    let (senders, receivers) = channels::<u64, _>(rt, ROUNDS)?;
-    let (drops, receives) = race(
-        rt,
-        rt.alloc(),
-        senders,
-        receivers,
-        |sender| drop(sender),
-        |receiver| using.receive(rt, receiver),
-    );
-    assert_answers(rt, &receives, received);
-    assert_both_orders(rt, &receives);
-    Ok(drops)
+    assert_both_orders(rt, &about, &others);
+    Ok(ones)
 }

@@ -22,10 +22,10 @@ mod notes;
 #[cfg(test)]
 mod races;
 #[cfg(test)]
+mod receives;
+#[cfg(test)]
 mod sizes;
 #[cfg(test)]
 mod two_channels;
-#[cfg(test)]
-mod uses;
 #[cfg(test)]
 mod waits;

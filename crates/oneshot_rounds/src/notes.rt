@@ -3,8 +3,8 @@
 use super::answers::{assert_answers, assert_both_orders};
 use super::channels::channels;
 use super::races::race;
-use super::uses::{blocking_uses, trying_uses};
-use oneshot_test_uses::Use;
+use super::receives::{BLOCKING, TRYING};
+use oneshot_calls::{ReceiverCall, Receiving, Tasks, script};
 use std::alloc::{AllocError, Global};
 use std::process::{Abort, Termination};
 use std::random::RandomSource;
@@ -52,13 +52,15 @@ fn beside_rounds<E: Drop>(
 // Fails unless after each receive its round's note has the number that the sender wrote there.
 fn assert_finds_notes<R: Threads + Wait + Abort + Clock + AllocGlobal + RandomSource + Sync>(
     rt: &R,
-    using: &Use,
+    receives: &str,
 ) -> Result<(), Fail> {
+    let calls = script::<ReceiverCall>(rt.alloc(), receives)?;
+    let tasks = Tasks::new(rt)?;
     let rounds = make_rounds(rt.alloc())?;
     let (senders, receivers) = channels::<(), _>(rt, ROUNDS)?;
     let senders = beside_rounds(rt.alloc(), &rounds, senders)?;
     let receivers = beside_rounds(rt.alloc(), &rounds, receivers)?;
-    let (sends, receives) = race(
+    let (sends, receipts) = race(
         rt,
         rt.alloc(),
         senders,
@@ -68,21 +70,21 @@ fn assert_finds_notes<R: Threads + Wait + Abort + Clock + AllocGlobal + RandomSo
             sender.send(()).is_ok()
         },
         |(round, receiver)| {
-            let received = using.receive(rt, receiver);
+            let reply = Receiving::new(receiver).make_all(rt, Some(&tasks), &calls);
             round.assert_noted(rt);
-            received
+            reply.message().is_some()
         },
     );
-    assert_answers(rt, &sends, &[true]);
-    assert_answers(rt, &receives, &[Ok(())]);
-    assert_both_orders(rt, &receives);
+    assert_answers(rt, receives, &sends, &["true"]);
+    assert_answers(rt, receives, &receipts, &["true"]);
+    assert_both_orders(rt, receives, &receipts);
     Ok(())
 }
 
 #[test]
 fn each_wait_comes_after_the_note(rt: HostRuntime) -> Result<(), Fail> {
-    for using in &blocking_uses() {
-        assert_finds_notes(&rt, using)?;
+    for receives in BLOCKING {
+        assert_finds_notes(&rt, receives)?;
     }
     Ok(())
 }
@@ -94,17 +96,17 @@ fn a_note_that_is_not_there_ends_a_test(rt: HostRuntime) {
     Round { number: 7, note }.assert_noted(&rt);
 }
 
-// A use that waits for nothing gets no message, and comes before the note in many rounds.
+// A call that waits for nothing gets no message, and comes before the note in many rounds.
 #[test]
 #[should_panic]
 fn a_use_that_waits_for_nothing_ends_a_test(rt: HostRuntime) {
-    let _ = assert_finds_notes(&rt, &Use::JustDrop).report(&rt);
+    let _ = assert_finds_notes(&rt, "drop").report(&rt);
 }
 
 #[test]
 fn each_try_and_poll_comes_after_the_note(rt: HostRuntime) -> Result<(), Fail> {
-    for using in &trying_uses(&rt)? {
-        assert_finds_notes(&rt, using)?;
+    for receives in TRYING {
+        assert_finds_notes(&rt, receives)?;
     }
     Ok(())
 }

@@ -3,22 +3,17 @@
 use super::answers::assert_answers;
 use super::channels::channels;
 use super::races::race;
-use super::uses::{blocking_uses, trying_uses};
+use super::receives::{BLOCKING, TRYING};
+use oneshot_calls::{ReceiverCall, Receiving, Tasks, script};
 use oneshot_channel::Sender;
-use oneshot_test_uses::Use;
-use std::fmt::Debug;
 use std::process::{Abort, Termination};
 use std::random::RandomSource;
 use std::sync::Wait;
 use std::test::Fail;
 use std::thread::Threads;
-use std::time::{Clock, Duration, Instant};
+use std::time::Clock;
 
 const ROUNDS: u64 = 100;
-
-/// How many seconds are left until the one deadline of all rounds: more than they take. A receive with a limit of its
-/// own comes first, and fails if its wake is lost.
-const SECONDS: u64 = 3_600;
 
 // A function: in a closure this takes a minute longer to prove.
 fn is_sent<T: Send + Drop>(sender: Sender<T>, message: T) -> bool {
@@ -28,32 +23,36 @@ fn is_sent<T: Send + Drop>(sender: Sender<T>, message: T) -> bool {
 // Fails unless `message` comes in each round.
 fn assert_comes<
     R: Threads + Wait + Abort + Clock + AllocGlobal + RandomSource + Sync,
-    T: Copy + Debug + PartialEq + Send + Sync,
->(rt: &R, using: &Use, message: T) -> Result<(), Fail> {
+    T: Copy + PartialEq + Send + Sync,
+>(rt: &R, receives: &str, message: T) -> Result<(), Fail> {
+    let calls = script::<ReceiverCall>(rt.alloc(), receives)?;
+    let tasks = Tasks::new(rt)?;
     let (senders, receivers) = channels(rt, ROUNDS)?;
-    let (sends, receives) = race(
+    let (sends, receipts) = race(
         rt,
         rt.alloc(),
         senders,
         receivers,
         |sender| is_sent(sender, message),
-        |receiver| using.receive(rt, receiver) == Ok(message),
+        |receiver| {
+            let reply = Receiving::new(receiver).make_all(rt, Some(&tasks), &calls);
+            reply.message() == Some(message)
+        },
     );
-    assert_answers(rt, &sends, &[true]);
-    assert_answers(rt, &receives, &[true]);
+    assert_answers(rt, receives, &sends, &["true"]);
+    assert_answers(rt, receives, &receipts, &["true"]);
     Ok(())
 }
 
+// A receive with a limit of ten seconds comes first, and fails if its wake is lost.
 fn assert_comes_by_every_receive<
     R: Threads + Wait + Abort + Clock + AllocGlobal + RandomSource + Sync,
-    T: Copy + Debug + PartialEq + Send + Sync,
+    T: Copy + PartialEq + Send + Sync,
 >(rt: &R, message: T) -> Result<(), Fail> {
-    let deadline = Instant::now(rt)?.checked_add(Duration::from_secs(SECONDS));
-    let deadline = deadline.expect(rt, "an instant can hold it");
-    for using in blocking_uses().iter().chain(&trying_uses(rt)?) {
-        assert_comes(rt, using, message)?;
+    for receives in BLOCKING.iter().chain(&TRYING) {
+        assert_comes(rt, receives, message)?;
     }
-    assert_comes(rt, &Use::RecvDeadline(deadline), message)
+    assert_comes(rt, "fardeadline", message)
 }
 
 #[test]
@@ -73,5 +72,5 @@ fn a_message_of_a_page_comes_whole(rt: HostRuntime) -> Result<(), Fail> {
 #[test]
 #[should_panic(expected = "false came")]
 fn a_message_that_does_not_come_ends_a_test(rt: HostRuntime) {
-    let _ = assert_comes(&rt, &Use::JustDrop, 1u8).report(&rt);
+    let _ = assert_comes(&rt, "drop", 1u8).report(&rt);
 }

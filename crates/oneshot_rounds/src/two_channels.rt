@@ -3,10 +3,13 @@
 use super::answers::assert_answers;
 use super::channels::channels;
 use super::races::race;
+use oneshot_calls::{Bare, ReceiverCall, Receiving, Reply, script};
 use oneshot_channel::{Receiver, Sender};
-use oneshot_test_uses::limit;
 use std::alloc::{AllocError, Global};
+use std::random::RandomSource;
+use std::sync::Wait;
 use std::test::Fail;
+use std::time::Clock;
 
 const ROUNDS: u64 = 1_000;
 
@@ -21,8 +24,25 @@ fn both_ends<'r, R>(
     senders.into_iter().zip(receivers).collect(alloc)
 }
 
+fn receive<R: Wait + Clock + RandomSource + AllocGlobal>(
+    rt: &R,
+    calls: &[ReceiverCall],
+    receiver: Receiver<u64, &R>,
+) -> Reply<u64> {
+    Receiving::new(receiver).make_all(rt, None, calls)
+}
+
+fn if_sent(sent: bool, received: Reply<u64>) -> Reply<u64> {
+    if sent {
+        received
+    } else {
+        Reply::Bare(Bare::Refused)
+    }
+}
+
 #[test]
 fn each_thread_gets_the_message_of_the_other(rt: HostRuntime) -> Result<(), Fail> {
+    let calls = script::<ReceiverCall>(rt.alloc(), "longtimeout")?;
     let (to_other, from_one) = channels::<u64, _>(&rt, ROUNDS)?;
     let (to_one, from_other) = channels::<u64, _>(&rt, ROUNDS)?;
     let (ones, others) = race(
@@ -30,16 +50,16 @@ fn each_thread_gets_the_message_of_the_other(rt: HostRuntime) -> Result<(), Fail
         rt.alloc(),
         both_ends(rt.alloc(), to_other, from_other)?,
         both_ends(rt.alloc(), to_one, from_one)?,
-        |(sender, mut receiver)| {
+        |(sender, receiver)| {
             let sent = sender.send(1).is_ok();
-            (sent, receiver.recv_timeout(limit()))
+            if_sent(sent, receive(&rt, &calls, receiver))
         },
-        |(sender, mut receiver)| {
-            let received = receiver.recv_timeout(limit());
-            (sender.send(2).is_ok(), received)
+        |(sender, receiver)| {
+            let received = receive(&rt, &calls, receiver);
+            if_sent(sender.send(2).is_ok(), received)
         },
     );
-    assert_answers(&rt, &ones, &[(true, Ok(2))]);
-    assert_answers(&rt, &others, &[(true, Ok(1))]);
+    assert_answers(&rt, "the one", &ones, &["Ok(2)"]);
+    assert_answers(&rt, "the other", &others, &["Ok(1)"]);
     Ok(())
 }

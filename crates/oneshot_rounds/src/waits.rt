@@ -1,6 +1,6 @@
 //! How a thread waits for what another is about to do.
 
-use oneshot_test_uses::is_overdue;
+use oneshot_calls::is_overdue;
 use std::hint::spin_loop;
 use std::process::Abort;
 use std::thread::sleep;

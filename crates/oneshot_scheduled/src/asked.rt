@@ -1,7 +1,7 @@
 //! What the arguments ask for: the kind of the channel, and both scripts.
 
 use crate::run::{Kind, Scripts};
-use crate::words::{receiver_word_of, sender_word_of};
+use oneshot_calls::{ReceiverCall, SenderCall, Word};
 use std::alloc::{AllocError, Global};
 
 /// The arguments so far.
@@ -42,12 +42,12 @@ impl Asked {
                 Some(kind) => self.kind = kind,
                 None => return Ok(false),
             },
-            (Part::Sender, _) => match sender_word_of(text) {
-                Some(word) => self.scripts.sends.push(word)?,
+            (Part::Sender, _) => match SenderCall::of_word(text) {
+                Some(call) => self.scripts.sends.push(call)?,
                 None => return Ok(false),
             },
-            (Part::Receiver, _) => match receiver_word_of(text) {
-                Some(word) => self.scripts.receives.push(word)?,
+            (Part::Receiver, _) => match ReceiverCall::of_word(text) {
+                Some(call) => self.scripts.receives.push(call)?,
                 None => return Ok(false),
             },
         }

@@ -43,7 +43,7 @@ pub fn run_sent_sender<R: Threads + Wait + Clock + RandomSource + AllocGlobal + 
         rt,
         || {
             bring(rt, brings, bringing);
-            let receiving = receive_each(rt, &scripts.receives, waits, &None);
+            let receiving = receive_each(rt, &scripts.receives, waits, None);
             tell(rt, END_SENDER);
             drop(receiving);
         },
@@ -84,7 +84,7 @@ pub fn run_sent_receiver<R: Threads + Wait + Clock + RandomSource + AllocGlobal 
         || {
             let mut received = None;
             if let Some(end) = get(rt, gets) {
-                received = Some(receive_each(rt, &scripts.receives, end, &None));
+                received = Some(receive_each(rt, &scripts.receives, end, None));
             }
             tell(rt, END_RECEIVER);
             drop(received);

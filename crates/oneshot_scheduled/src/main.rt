@@ -6,15 +6,12 @@
 mod asked;
 mod brought;
 mod parcel;
-mod polls;
-mod receivers;
+mod promised;
 mod receives;
 mod run;
-mod senders;
 mod sends;
 mod told;
 mod two;
-mod words;
 
 use asked::Asked;
 use run::run;

@@ -3,8 +3,9 @@
 
 ghost use Rattle.std.specs.Prelude.{⊤};
 
+use oneshot_calls::Numbered;
+use oneshot_channel::Sender;
 use oneshot_channel::reply::Answer;
-use oneshot_channel::{Promise, Sender};
 
 /// What is asked of each request.
 pub const QUESTION: u64 = 5;
@@ -26,9 +27,11 @@ impl Parcel {
             _inner: inner,
         }
     }
+}
 
-    /// The number in the block.
-    pub fn number(&self) -> u64 {
+/// The number in the block.
+impl Numbered for Parcel {
+    fn number(&self) -> u64 {
         *self.content
     }
 }
@@ -45,12 +48,4 @@ impl Answer<u64> for Parcel {
     fn question(&self) -> &u64 {
         &self.question
     }
-}
-
-/// A promise that every message keeps.
-#[derive(Drop)]
-pub struct Any;
-
-impl Promise<Parcel> for Any {
-    ghost keeps = { λ _ _. ⊤ };
 }

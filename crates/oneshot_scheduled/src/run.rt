@@ -1,15 +1,13 @@
 //! Makes a channel of some kind, and runs a script of each end in a thread.
 
 use crate::brought::{run_sent_receiver, run_sent_sender};
-use crate::parcel::{Any, Parcel, QUESTION};
-use crate::polls::tasks_of;
-use crate::receivers::Receives;
-use crate::receives::receive_all;
-use crate::senders::Sends;
+use crate::parcel::{Parcel, QUESTION};
+use crate::promised::Any;
+use crate::receives::{receive_all, tasks_of};
 use crate::sends::send_all;
 use crate::told::{DONE, OPENED, OPENING, READY, RECORD, RELEASE, tell};
 use crate::two::run_two;
-use crate::words::{ReceiverWord, SenderWord};
+use oneshot_calls::{ReceiverCall, SenderCall};
 use oneshot_channel::reply::request;
 use oneshot_channel::{channel, channel_for};
 use std::alloc::{AllocError, AllocGlobal};
@@ -42,8 +40,8 @@ pub const NUMBER: u64 = 7;
 /// Both scripts.
 #[derive(Drop)]
 pub struct Scripts {
-    pub sends: Vec<SenderWord>,
-    pub receives: Vec<ReceiverWord>,
+    pub sends: Vec<SenderCall>,
+    pub receives: Vec<ReceiverCall>,
 }
 
 /// Makes a channel of this kind, and runs both scripts, each in a thread.
@@ -58,26 +56,67 @@ pub fn run<R: Threads + Wait + Clock + RandomSource + AllocGlobal + Sync>(
     let content = Box::new(rt.alloc(), NUMBER)?;
     tell(rt, OPENING);
     match kind {
-        Kind::Plain => {
-            let (sender, receiver) = channel(rt, rt.alloc())?;
-            run_ends(rt, scripts, Parcel::new(content, None), sender, receiver);
-        }
-        Kind::Promise => {
-            let (sender, receiver) = channel_for(rt, rt.alloc(), &Any)?;
-            run_ends(rt, scripts, Parcel::new(content, None), sender, receiver);
-        }
-        Kind::Request => {
-            let Ok((sender, receiver)) = request(rt, rt.alloc(), QUESTION) else {
-                return Err(AllocError);
-            };
-            run_ends(rt, scripts, Parcel::new(content, None), sender, receiver);
-        }
+        Kind::Plain => run_plain(rt, scripts, Parcel::new(content, None))?,
+        Kind::Promise => run_promised(rt, scripts, Parcel::new(content, None))?,
+        Kind::Request => run_request(rt, scripts, Parcel::new(content, None))?,
         Kind::Nested => run_nested(rt, scripts, content)?,
         Kind::TwoChannels => run_two(rt, &scripts, content)?,
         Kind::SentSender => run_sent_sender(rt, &scripts, content)?,
         Kind::SentReceiver => run_sent_receiver(rt, &scripts, content)?,
     }
     tell(rt, DONE);
+    Ok(())
+}
+
+/// Runs both scripts, each in a thread. A macro, since the borrow checker covers no `join` of ends whose types are
+/// parameters.
+macro_rules! run_ends {
+    ($rt:ident, $scripts:ident, $parcel:ident, $sender:ident, $receiver:ident) => {{
+        tell($rt, OPENED);
+        let Scripts { sends, receives } = $scripts;
+        let tasks = tasks_of($rt, &receives);
+        tell($rt, RELEASE);
+        tell($rt, READY);
+        // What the sender's script leaves is dropped here, when no end runs any more.
+        let mut left = None;
+        join(
+            $rt,
+            || left = Some(send_all($rt, sends, $sender, $parcel)),
+            || receive_all($rt, receives, $receiver, tasks),
+        );
+        drop(left);
+    }};
+}
+
+fn run_plain<R: Threads + Wait + Clock + RandomSource + AllocGlobal + Sync>(
+    rt: &R,
+    scripts: Scripts,
+    parcel: Parcel,
+) -> Result<(), AllocError> {
+    let (sender, receiver) = channel(rt, rt.alloc())?;
+    run_ends!(rt, scripts, parcel, sender, receiver);
+    Ok(())
+}
+
+fn run_promised<R: Threads + Wait + Clock + RandomSource + AllocGlobal + Sync>(
+    rt: &R,
+    scripts: Scripts,
+    parcel: Parcel,
+) -> Result<(), AllocError> {
+    let (sender, receiver) = channel_for(rt, rt.alloc(), &Any)?;
+    run_ends!(rt, scripts, parcel, sender, receiver);
+    Ok(())
+}
+
+fn run_request<R: Threads + Wait + Clock + RandomSource + AllocGlobal + Sync>(
+    rt: &R,
+    scripts: Scripts,
+    parcel: Parcel,
+) -> Result<(), AllocError> {
+    let Ok((sender, receiver)) = request(rt, rt.alloc(), QUESTION) else {
+        return Err(AllocError);
+    };
+    run_ends!(rt, scripts, parcel, sender, receiver);
     Ok(())
 }
 
@@ -91,35 +130,8 @@ fn run_nested<R: Threads + Wait + Clock + RandomSource + AllocGlobal + Sync>(
     tell(rt, OPENED);
     tell(rt, OPENING);
     let (inner, waits) = channel((), rt.alloc())?;
-    run_ends(
-        rt,
-        scripts,
-        Parcel::new(content, Some(inner)),
-        sender,
-        receiver,
-    );
+    let parcel = Parcel::new(content, Some(inner));
+    run_ends!(rt, scripts, parcel, sender, receiver);
     drop(waits);
     Ok(())
-}
-
-fn run_ends<R, S, E>(rt: &R, scripts: Scripts, parcel: Parcel, sender: S, receiver: E)
-where
-    R: Threads + Wait + Clock + RandomSource + AllocGlobal + Sync,
-    S: Sends + Send,
-    S::Refused: Send,
-    E: Receives + Send,
-{
-    tell(rt, OPENED);
-    let Scripts { sends, receives } = scripts;
-    let tasks = tasks_of(rt, &receives);
-    tell(rt, RELEASE);
-    tell(rt, READY);
-    // What the sender's script leaves is dropped here, when no end runs any more.
-    let mut left = None;
-    join(
-        rt,
-        || left = Some(send_all(rt, sends, sender, parcel)),
-        || receive_all(rt, receives, receiver, tasks),
-    );
-    drop(left);
 }

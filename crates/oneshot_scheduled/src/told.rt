@@ -1,8 +1,7 @@
 //! What the program reports to the scheduler, by the length of a sleep in nanoseconds.
 
 use crate::parcel::Parcel;
-use futures::task::Poll;
-use oneshot_channel::{RecvError, RecvTimeoutError, TryRecvError};
+use oneshot_calls::{Ask, Bare, Numbered, ReceiverCall, Reply, Task, Tasks};
 pub use oneshot_codes::{
     AT_FIRST, AT_SECOND, BEGIN_RECEIVER, BEGIN_SENDER, DEADLINE, DISCONNECTED, DONE, DROPPED,
     EMPTY, END_RECEIVER, END_SENDER, FUTURE, GOT, MESSAGE, NO, OPENED, OPENING, PENDING, READY,
@@ -11,75 +10,60 @@ pub use oneshot_codes::{
 use std::thread::sleep;
 use std::time::{Clock, Duration};
 
-/// Why a receive returned no parcel.
-#[derive(Clone, Copy, Debug, PartialEq, Eq)]
-pub enum Unreceived {
-    Empty,
-    Disconnected,
-    TimedOut,
-}
-
-impl Unreceived {
-    /// The code that reports it.
-    pub fn code(self) -> u64 {
-        match self {
-            Unreceived::Empty => EMPTY,
-            Unreceived::Disconnected => DISCONNECTED,
-            Unreceived::TimedOut => TIMED_OUT,
-        }
-    }
-}
-
 /// Reports `code` to the scheduler.
 pub fn tell<R: Clock>(rt: &R, code: u64) {
     sleep(rt, Duration::from_nanos(code));
 }
 
-/// Reports what a look returned.
-pub fn tell_whether<R: Clock>(rt: &R, yes: bool) {
-    tell(rt, if yes { YES } else { NO });
-}
-
-/// Reports what a receive returned, and drops its parcel.
-pub fn tell_received<R: Clock>(rt: &R, received: Result<Parcel, Unreceived>) {
-    match received {
-        Ok(parcel) => tell_parcel(rt, parcel),
-        Err(why) => tell(rt, why.code()),
+/// Reports that a receive comes which reads the clock first.
+pub fn tell_call<R: Clock>(rt: &R, call: ReceiverCall) {
+    match call {
+        ReceiverCall::Ask(Ask::Deadline(_) | Ask::PastDeadline) => tell(rt, DEADLINE),
+        ReceiverCall::Ask(Ask::Timeout(_)) => tell(rt, TIMEOUT),
+        _ => {}
     }
 }
 
-/// Reports the number of a parcel, and drops the parcel.
-pub fn tell_parcel<R: Clock>(rt: &R, parcel: Parcel) {
-    tell(rt, GOT.wrapping_add(parcel.number()));
-    drop(parcel);
-}
-
-/// Reports what a poll returned, and drops its parcel.
-pub fn tell_polled<R: Clock>(rt: &R, polled: Poll<Result<Parcel, RecvError>>) {
-    match polled {
-        Poll::Pending => tell(rt, PENDING),
-        Poll::Ready(Ok(parcel)) => tell_parcel(rt, parcel),
-        Poll::Ready(Err(RecvError)) => tell(rt, DISCONNECTED),
+/// Reports what a call returned, and drops its parcel.
+pub fn tell_reply<R: Clock>(rt: &R, reply: Reply<Parcel>) {
+    match reply {
+        Reply::Message(_, parcel) => {
+            tell(rt, GOT.wrapping_add(parcel.number()));
+            drop(parcel);
+        }
+        Reply::Inner(number) => tell(rt, GOT.wrapping_add(number)),
+        Reply::Bare(reply) => {
+            if let Some(code) = code_of(reply) {
+                tell(rt, code);
+            }
+        }
     }
 }
 
-/// What an error of `try_recv` means.
-pub fn why_of_try(error: TryRecvError) -> Unreceived {
-    match error {
-        TryRecvError::Empty => Unreceived::Empty,
-        TryRecvError::Disconnected => Unreceived::Disconnected,
-    }
+/// The code that reports this reply. `None`: it is not reported.
+fn code_of(reply: Bare) -> Option<u64> {
+    let code = match reply {
+        Bare::Sent => SENT,
+        Bare::Refused => REFUSED,
+        Bare::Yes => YES,
+        Bare::No => NO,
+        Bare::Empty => EMPTY,
+        Bare::Timeout => TIMED_OUT,
+        Bare::Disconnected | Bare::Ended | Bare::ReadyEnded => DISCONNECTED,
+        Bare::Pending => PENDING,
+        Bare::Future => FUTURE,
+        Bare::Dropped => DROPPED,
+        Bare::Raw | Bare::NotAwaited | Bare::Nothing => return None,
+    };
+    Some(code)
 }
 
-/// What an error of `recv_timeout` or `recv_deadline` means.
-pub fn why_of_timed(error: RecvTimeoutError) -> Unreceived {
-    match error {
-        RecvTimeoutError::Timeout => Unreceived::TimedOut,
-        RecvTimeoutError::Disconnected => Unreceived::Disconnected,
-    }
+/// Reports of each task whether it is woken.
+pub fn tell_woken<R: Clock>(rt: &R, tasks: &Tasks) {
+    tell(rt, woken_code(TASKS, tasks.is_woken(Task::One)));
+    tell(rt, woken_code(TASKS + 2, tasks.is_woken(Task::Two)));
 }
 
-/// What an error of `recv` or `recv_ref` means.
-pub fn why_of_received(_: RecvError) -> Unreceived {
-    Unreceived::Disconnected
+fn woken_code(task: u64, is_woken: bool) -> u64 {
+    if is_woken { task.wrapping_add(1) } else { task }
 }

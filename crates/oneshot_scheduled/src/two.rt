@@ -1,15 +1,14 @@
 //! Two channels of two threads: each thread sends on the one, and then receives on the other.
 
 use crate::parcel::Parcel;
-use crate::receivers::Receives;
 use crate::receives::receive_each;
 use crate::run::{NUMBER, Scripts};
-use crate::senders::Sends;
-use crate::sends::{Sending, send_each};
+use crate::sends::send_each;
 use crate::told::{
     AT_FIRST, AT_SECOND, BEGIN_RECEIVER, BEGIN_SENDER, END_RECEIVER, END_SENDER, MESSAGE, OPENED,
     OPENING, READY, RELEASE, tell,
 };
+use oneshot_calls::{Receives, Sending, Sends};
 use oneshot_channel::channel;
 use std::alloc::{AllocError, AllocGlobal};
 use std::random::RandomSource;
@@ -79,17 +78,17 @@ fn use_both<R, S, E>(
     sender: S,
     parcel: Parcel,
     receiver: E,
-) -> Sending<S>
+) -> Sending<Parcel, S>
 where
-    R: Clock + RandomSource + AllocGlobal,
-    S: Sends,
-    E: Receives,
+    R: Wait + Clock + RandomSource + AllocGlobal,
+    S: Sends<Parcel>,
+    E: Receives<Parcel>,
 {
     tell(rt, codes.sends);
     tell(rt, codes.begins);
     let sending = send_each(rt, &scripts.sends, sender, parcel);
     tell(rt, codes.receives);
-    let receiving = receive_each(rt, &scripts.receives, receiver, &None);
+    let receiving = receive_each(rt, &scripts.receives, receiver, None);
     tell(rt, codes.ends);
     drop(receiving);
     sending

@@ -1,7 +1,6 @@
 //! The calls of a future over a ground in memory: what becomes of the copies of a waker, and how often the
 //! task is woken.
 
-use crate::drive::turns::Answer::{Disconnected, Done, NothingYet, Received};
 use crate::drive::turns::Deed::{First, Goes, Look, Refuse, Second, Sends, WillGo, WillSend};
 use crate::drive::turns::{Life, assert_life};
 use std::process::Termination;
@@ -10,50 +9,50 @@ use std::test::Fail;
 const WAITS: &[Life; 5] = &[
     (
         &[
-            (First, NothingYet, (1, 0, 0), (0, 0, 0)),
-            (Sends, Done, (1, 1, 1), (0, 0, 0)),
-            (First, Received(7), (1, 1, 1), (0, 0, 0)),
+            (First, "Pending", (1, 0, 0), (0, 0, 0)),
+            (Sends, "", (1, 1, 1), (0, 0, 0)),
+            (First, "Ready(Ok(7))", (1, 1, 1), (0, 0, 0)),
         ],
         None,
-        "load:3, copy:made, write-waker, exchange 3 0:3, load:4, store 2, take-message",
+        "load:3, copy, write-waker, exchange 3 0:3, load:4, store 2, take-message",
     ),
     (
         &[
-            (First, NothingYet, (1, 0, 0), (0, 0, 0)),
-            (Second, NothingYet, (1, 1, 0), (1, 0, 0)),
-            (Sends, Done, (1, 1, 0), (1, 1, 1)),
+            (First, "Pending", (1, 0, 0), (0, 0, 0)),
+            (Second, "Pending", (1, 1, 0), (1, 0, 0)),
+            (Sends, "", (1, 1, 0), (1, 1, 1)),
         ],
         None,
-        "load:3, copy:made, write-waker, exchange 3 0:3, load:0, copy:made, exchange 0 3:0, \
+        "load:3, copy, write-waker, exchange 3 0:3, load:0, copy, exchange 0 3:0, \
         withdraw, write-waker, exchange 3 0:3",
     ),
     // The exchange finds that the sender has acted. At a second poll the sender uses the copy of the first.
     (
         &[
-            (WillSend(0), Done, (0, 0, 0), (0, 0, 0)),
-            (First, Received(7), (1, 1, 0), (0, 0, 0)),
+            (WillSend(0), "", (0, 0, 0), (0, 0, 0)),
+            (First, "Ready(Ok(7))", (1, 1, 0), (0, 0, 0)),
         ],
         None,
-        "load:3, copy:made, write-waker, exchange 3 0:4, withdraw, store 2, take-message",
+        "load:3, copy, write-waker, exchange 3 0:4, withdraw, store 2, take-message",
     ),
     (
         &[
-            (First, NothingYet, (1, 0, 0), (0, 0, 0)),
-            (WillSend(0), Done, (1, 0, 0), (0, 0, 0)),
-            (First, Received(7), (2, 2, 1), (0, 0, 0)),
+            (First, "Pending", (1, 0, 0), (0, 0, 0)),
+            (WillSend(0), "", (1, 0, 0), (0, 0, 0)),
+            (First, "Ready(Ok(7))", (2, 2, 1), (0, 0, 0)),
         ],
         None,
-        "load:3, copy:made, write-waker, exchange 3 0:3, load:0, copy:made, exchange 0 3:4, \
+        "load:3, copy, write-waker, exchange 3 0:3, load:0, copy, exchange 0 3:4, \
         store 2, take-message",
     ),
     (
         &[
-            (First, NothingYet, (1, 0, 0), (0, 0, 0)),
-            (WillGo, Done, (1, 0, 0), (0, 0, 0)),
-            (First, Disconnected, (2, 2, 1), (0, 0, 0)),
+            (First, "Pending", (1, 0, 0), (0, 0, 0)),
+            (WillGo, "", (1, 0, 0), (0, 0, 0)),
+            (First, "Ready(Err(RecvError))", (2, 2, 1), (0, 0, 0)),
         ],
         None,
-        "load:3, copy:made, write-waker, exchange 3 0:3, load:0, copy:made, exchange 0 3:2",
+        "load:3, copy, write-waker, exchange 3 0:3, load:0, copy, exchange 0 3:2",
     ),
 ];
 
@@ -69,38 +68,38 @@ const REFUSED_COPIES: &[Life; 3] = &[
     // The task is woken at once.
     (
         &[
-            (Refuse, Done, (0, 0, 0), (0, 0, 0)),
-            (First, NothingYet, (0, 0, 1), (0, 0, 0)),
-            (Sends, Done, (0, 0, 1), (0, 0, 0)),
-            (First, Received(7), (0, 0, 1), (0, 0, 0)),
+            (Refuse, "", (0, 0, 0), (0, 0, 0)),
+            (First, "Pending", (0, 0, 1), (0, 0, 0)),
+            (Sends, "", (0, 0, 1), (0, 0, 0)),
+            (First, "Ready(Ok(7))", (0, 0, 1), (0, 0, 0)),
         ],
         None,
-        "load:3, copy:refused, wake-own, load:4, store 2, take-message",
+        "load:3, copy refused, wake own, load:4, store 2, take-message",
     ),
     // The stored copy stays, and the sender uses it.
     (
         &[
-            (First, NothingYet, (1, 0, 0), (0, 0, 0)),
-            (Refuse, Done, (1, 0, 0), (0, 0, 0)),
-            (Second, NothingYet, (1, 0, 0), (0, 0, 1)),
-            (Goes, Done, (1, 1, 1), (0, 0, 1)),
-            (Second, Disconnected, (1, 1, 1), (0, 0, 1)),
+            (First, "Pending", (1, 0, 0), (0, 0, 0)),
+            (Refuse, "", (1, 0, 0), (0, 0, 0)),
+            (Second, "Pending", (1, 0, 0), (0, 0, 1)),
+            (Goes, "", (1, 1, 1), (0, 0, 1)),
+            (Second, "Ready(Err(RecvError))", (1, 1, 1), (0, 0, 1)),
         ],
         None,
-        "load:3, copy:made, write-waker, exchange 3 0:3, load:0, copy:refused, wake-own, load:2",
+        "load:3, copy, write-waker, exchange 3 0:3, load:0, copy refused, wake own, load:2",
     ),
     // By the third poll, the second has taken the first task's copy back.
     (
         &[
-            (First, NothingYet, (1, 0, 0), (0, 0, 0)),
-            (Second, NothingYet, (1, 1, 0), (1, 0, 0)),
-            (Refuse, Done, (1, 1, 0), (1, 0, 0)),
-            (First, NothingYet, (1, 1, 1), (1, 0, 0)),
-            (Sends, Done, (1, 1, 1), (1, 1, 1)),
+            (First, "Pending", (1, 0, 0), (0, 0, 0)),
+            (Second, "Pending", (1, 1, 0), (1, 0, 0)),
+            (Refuse, "", (1, 1, 0), (1, 0, 0)),
+            (First, "Pending", (1, 1, 1), (1, 0, 0)),
+            (Sends, "", (1, 1, 1), (1, 1, 1)),
         ],
         None,
-        "load:3, copy:made, write-waker, exchange 3 0:3, load:0, copy:made, exchange 0 3:0, \
-        withdraw, write-waker, exchange 3 0:3, load:0, copy:refused, wake-own",
+        "load:3, copy, write-waker, exchange 3 0:3, load:0, copy, exchange 0 3:0, \
+        withdraw, write-waker, exchange 3 0:3, load:0, copy refused, wake own",
     ),
 ];
 
@@ -115,10 +114,10 @@ fn a_refused_copy_wakes_its_task_and_leaves_the_stored_one(rt: HostRuntime) -> R
 const LOOKS: &[Life; 3] = &[
     (
         &[
-            (Look, NothingYet, (0, 0, 0), (0, 0, 0)),
-            (Sends, Done, (0, 0, 0), (0, 0, 0)),
-            (Look, Received(7), (0, 0, 0), (0, 0, 0)),
-            (Look, Disconnected, (0, 0, 0), (0, 0, 0)),
+            (Look, "Err(Empty)", (0, 0, 0), (0, 0, 0)),
+            (Sends, "", (0, 0, 0), (0, 0, 0)),
+            (Look, "Ok(7)", (0, 0, 0), (0, 0, 0)),
+            (Look, "Err(Disconnected)", (0, 0, 0), (0, 0, 0)),
         ],
         None,
         "load:3, load:4, store 2, take-message, load:2",
@@ -126,28 +125,28 @@ const LOOKS: &[Life; 3] = &[
     // The copy stays in its slot while the word is 0, or the sender would wake nobody.
     (
         &[
-            (First, NothingYet, (1, 0, 0), (0, 0, 0)),
-            (Look, NothingYet, (1, 0, 0), (0, 0, 0)),
-            (Look, NothingYet, (1, 0, 0), (0, 0, 0)),
-            (Goes, Done, (1, 1, 1), (0, 0, 0)),
-            (Look, Disconnected, (1, 1, 1), (0, 0, 0)),
+            (First, "Pending", (1, 0, 0), (0, 0, 0)),
+            (Look, "Err(Empty)", (1, 0, 0), (0, 0, 0)),
+            (Look, "Err(Empty)", (1, 0, 0), (0, 0, 0)),
+            (Goes, "", (1, 1, 1), (0, 0, 0)),
+            (Look, "Err(Disconnected)", (1, 1, 1), (0, 0, 0)),
         ],
         None,
-        "load:3, copy:made, write-waker, exchange 3 0:3, load:0, load:0, load:2",
+        "load:3, copy, write-waker, exchange 3 0:3, load:0, load:0, load:2",
     ),
     // The sender lingers for three pauses: the second poll's exchange and the first two `try_recv` find it.
     (
         &[
-            (First, NothingYet, (1, 0, 0), (0, 0, 0)),
-            (WillSend(3), Done, (1, 0, 0), (0, 0, 0)),
-            (First, NothingYet, (2, 1, 1), (0, 0, 0)),
-            (Look, NothingYet, (2, 1, 1), (0, 0, 0)),
-            (Look, NothingYet, (2, 2, 2), (0, 0, 0)),
-            (Look, Received(7), (2, 2, 2), (0, 0, 0)),
+            (First, "Pending", (1, 0, 0), (0, 0, 0)),
+            (WillSend(3), "", (1, 0, 0), (0, 0, 0)),
+            (First, "Pending", (2, 1, 1), (0, 0, 0)),
+            (Look, "Err(Empty)", (2, 1, 1), (0, 0, 0)),
+            (Look, "Err(Empty)", (2, 2, 2), (0, 0, 0)),
+            (Look, "Ok(7)", (2, 2, 2), (0, 0, 0)),
         ],
         None,
-        "load:3, copy:made, write-waker, exchange 3 0:3, load:0, copy:made, exchange 0 3:1, \
-        wake-own, load:1, load:1, load:4, store 2, take-message",
+        "load:3, copy, write-waker, exchange 3 0:3, load:0, copy, exchange 0 3:1, \
+        wake own, load:1, load:1, load:4, store 2, take-message",
     ),
 ];
 
@@ -163,30 +162,30 @@ const BETWEEN_TWO_SWAPS: &[Life; 2] = &[
     // Each poll performs one load, and wakes its task.
     (
         &[
-            (First, NothingYet, (1, 0, 0), (0, 0, 0)),
-            (WillSend(u64::MAX), Done, (1, 0, 0), (0, 0, 0)),
-            (Look, NothingYet, (1, 0, 0), (0, 0, 0)),
-            (First, NothingYet, (1, 0, 1), (0, 0, 0)),
-            (First, NothingYet, (1, 0, 2), (0, 0, 0)),
-            (First, NothingYet, (1, 0, 3), (0, 0, 0)),
+            (First, "Pending", (1, 0, 0), (0, 0, 0)),
+            (WillSend(u64::MAX), "", (1, 0, 0), (0, 0, 0)),
+            (Look, "Err(Empty)", (1, 0, 0), (0, 0, 0)),
+            (First, "Pending", (1, 0, 1), (0, 0, 0)),
+            (First, "Pending", (1, 0, 2), (0, 0, 0)),
+            (First, "Pending", (1, 0, 3), (0, 0, 0)),
         ],
         None,
-        "load:3, copy:made, write-waker, exchange 3 0:3, load:0, load:1, wake-own, load:1, \
-        wake-own, load:1, wake-own",
+        "load:3, copy, write-waker, exchange 3 0:3, load:0, load:1, wake own, load:1, \
+        wake own, load:1, wake own",
     ),
     // The sender finishes after the third poll's load.
     (
         &[
-            (First, NothingYet, (1, 0, 0), (0, 0, 0)),
-            (WillSend(2), Done, (1, 0, 0), (0, 0, 0)),
-            (Look, NothingYet, (1, 0, 0), (0, 0, 0)),
-            (First, NothingYet, (1, 0, 1), (0, 0, 0)),
-            (First, NothingYet, (1, 1, 3), (0, 0, 0)),
-            (First, Received(7), (1, 1, 3), (0, 0, 0)),
+            (First, "Pending", (1, 0, 0), (0, 0, 0)),
+            (WillSend(2), "", (1, 0, 0), (0, 0, 0)),
+            (Look, "Err(Empty)", (1, 0, 0), (0, 0, 0)),
+            (First, "Pending", (1, 0, 1), (0, 0, 0)),
+            (First, "Pending", (1, 1, 3), (0, 0, 0)),
+            (First, "Ready(Ok(7))", (1, 1, 3), (0, 0, 0)),
         ],
         None,
-        "load:3, copy:made, write-waker, exchange 3 0:3, load:0, load:1, wake-own, load:1, \
-        wake-own, load:4, store 2, take-message",
+        "load:3, copy, write-waker, exchange 3 0:3, load:0, load:1, wake own, load:1, \
+        wake own, load:4, store 2, take-message",
     ),
 ];
 
@@ -202,37 +201,37 @@ fn no_poll_takes_longer_because_the_sender_is_between_its_two_swaps(
 
 const DROPS: &[Life; 4] = &[
     (
-        &[(First, NothingYet, (1, 0, 0), (0, 0, 0))],
+        &[(First, "Pending", (1, 0, 0), (0, 0, 0))],
         Some((1, 1, 0)),
-        "load:3, copy:made, write-waker, exchange 3 0:3, load:0, exchange 0 3:0, withdraw, swap 2:3",
+        "load:3, copy, write-waker, exchange 3 0:3, load:0, exchange 0 3:0, withdraw, swap 2:3",
     ),
     // A sender about to finish has the copy, and uses it once. The sender frees the block, not the future.
     (
         &[
-            (First, NothingYet, (1, 0, 0), (0, 0, 0)),
-            (WillSend(9), Done, (1, 0, 0), (0, 0, 0)),
-            (Look, NothingYet, (1, 0, 0), (0, 0, 0)),
+            (First, "Pending", (1, 0, 0), (0, 0, 0)),
+            (WillSend(9), "", (1, 0, 0), (0, 0, 0)),
+            (Look, "Err(Empty)", (1, 0, 0), (0, 0, 0)),
         ],
         Some((1, 1, 1)),
-        "load:3, copy:made, write-waker, exchange 3 0:3, load:0, load:1, swap 2:1",
+        "load:3, copy, write-waker, exchange 3 0:3, load:0, load:1, swap 2:1",
     ),
     // The sender begins between the drop's load and its exchange.
     (
         &[
-            (First, NothingYet, (1, 0, 0), (0, 0, 0)),
-            (WillSend(9), Done, (1, 0, 0), (0, 0, 0)),
+            (First, "Pending", (1, 0, 0), (0, 0, 0)),
+            (WillSend(9), "", (1, 0, 0), (0, 0, 0)),
         ],
         Some((1, 1, 1)),
-        "load:3, copy:made, write-waker, exchange 3 0:3, load:0, exchange 0 3:1, swap 2:1",
+        "load:3, copy, write-waker, exchange 3 0:3, load:0, exchange 0 3:1, swap 2:1",
     ),
     // The sender finishes between the drop's load and its exchange, and wakes the task.
     (
         &[
-            (First, NothingYet, (1, 0, 0), (0, 0, 0)),
-            (WillSend(0), Done, (1, 0, 0), (0, 0, 0)),
+            (First, "Pending", (1, 0, 0), (0, 0, 0)),
+            (WillSend(0), "", (1, 0, 0), (0, 0, 0)),
         ],
         Some((1, 1, 1)),
-        "load:3, copy:made, write-waker, exchange 3 0:3, load:0, exchange 0 3:4, swap 2:4, \
+        "load:3, copy, write-waker, exchange 3 0:3, load:0, exchange 0 3:4, swap 2:4, \
         drop-message, free",
     ),
 ];
@@ -248,13 +247,13 @@ fn a_dropped_future_ends_its_copy(rt: HostRuntime) -> Result<(), Fail> {
 #[test]
 #[should_panic(expected = "(1, 0, 0)")]
 fn other_counts_end_a_test(rt: HostRuntime) {
-    let turns = &[(First, NothingYet, (2, 0, 0), (0, 0, 0))];
+    let turns = &[(First, "Pending", (2, 0, 0), (0, 0, 0))];
     let _ = assert_life(&rt, &(turns, None, "")).report(&rt);
 }
 
 #[test]
 #[should_panic(expected = "load:3")]
 fn other_steps_of_a_future_end_a_test(rt: HostRuntime) {
-    let turns = &[(Look, NothingYet, (0, 0, 0), (0, 0, 0))];
+    let turns = &[(Look, "Err(Empty)", (0, 0, 0), (0, 0, 0))];
     let _ = assert_life(&rt, &(turns, None, "")).report(&rt);
 }

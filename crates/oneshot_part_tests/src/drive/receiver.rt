@@ -87,15 +87,15 @@ const WAITS_BY_REFERENCE: &[Case; 7] = &[
         Last::Stays,
         "Ok(7), Err(RecvError)",
         None,
-        "load:3, write-waker, swap 0:3, park:unwoken, load:0, park:unwoken, load:0, \
-        park:woken, load:4, store 2, take-message, load:2",
+        "load:3, write-waker, swap 0:3, park spurious, load:0, park spurious, load:0, \
+        park token-, load:4, store 2, take-message, load:2",
     ),
     (
         &[WillSend(1, 1), RecvRef],
         Last::Stays,
         "Ok(7)",
         None,
-        "load:3, write-waker, swap 0:3, park:unwoken, load:1, park:woken, load:4, \
+        "load:3, write-waker, swap 0:3, park spurious, load:1, park token-, load:4, \
         store 2, take-message",
     ),
     (
@@ -103,7 +103,7 @@ const WAITS_BY_REFERENCE: &[Case; 7] = &[
         Last::Stays,
         "Err(RecvError)",
         None,
-        "load:3, write-waker, swap 0:3, park:woken, load:2",
+        "load:3, write-waker, swap 0:3, park token-, load:2",
     ),
     // The swap finds that the sender has acted, and the receiver withdraws its waker.
     (
@@ -147,7 +147,7 @@ const WAITS_BY_VALUE: &[Case; 6] = &[
         Last::Recv,
         "Ok(7)",
         None,
-        "load:3, write-waker, swap 0:3, park:unwoken, load:0, park:woken, load:4, \
+        "load:3, write-waker, swap 0:3, park spurious, load:0, park token-, load:4, \
         take-message, free",
     ),
     (
@@ -155,7 +155,7 @@ const WAITS_BY_VALUE: &[Case; 6] = &[
         Last::Recv,
         "Err(RecvError)",
         None,
-        "load:3, write-waker, swap 0:3, park:woken, load:2, free",
+        "load:3, write-waker, swap 0:3, park token-, load:2, free",
     ),
     (
         &[WillSend(0, 0)],
@@ -198,14 +198,14 @@ const WAITS_UNTIL_A_DEADLINE: &[Case; 9] = &[
         Last::Stays,
         "Err(Timeout)",
         Some(9),
-        "load:3, write-waker, swap 0:3, clock:over, swap 3:0, withdraw",
+        "load:3, write-waker, swap 0:3, clock over, swap 3:0, withdraw",
     ),
     (
         &[OverAfter(1), RecvDeadline],
         Last::Stays,
         "Err(Timeout)",
         Some(9),
-        "load:3, write-waker, swap 0:3, clock:left, park:unwoken, load:0, clock:over, \
+        "load:3, write-waker, swap 0:3, clock left, park spurious, load:0, clock over, \
         swap 3:0, withdraw",
     ),
     (
@@ -213,7 +213,7 @@ const WAITS_UNTIL_A_DEADLINE: &[Case; 9] = &[
         Last::Stays,
         "Ok(7)",
         None,
-        "load:3, write-waker, swap 0:3, clock:left, park:woken, load:4, store 2, \
+        "load:3, write-waker, swap 0:3, clock left, park token-, load:4, store 2, \
         take-message",
     ),
     (
@@ -221,16 +221,16 @@ const WAITS_UNTIL_A_DEADLINE: &[Case; 9] = &[
         Last::Stays,
         "Err(Disconnected)",
         None,
-        "load:3, write-waker, swap 0:3, clock:left, park:unwoken, load:0, clock:left, \
-        park:woken, load:2",
+        "load:3, write-waker, swap 0:3, clock left, park spurious, load:0, clock left, \
+        park token-, load:2",
     ),
     (
         &[OverAfter(9), WillSend(2, 2), RecvDeadline],
         Last::Stays,
         "Ok(7)",
         None,
-        "load:3, write-waker, swap 0:3, clock:left, park:unwoken, load:1, clock:left, \
-        park:woken, load:4, store 2, take-message",
+        "load:3, write-waker, swap 0:3, clock left, park spurious, load:1, clock left, \
+        park token-, load:4, store 2, take-message",
     ),
     (
         &[WillSend(0, 0), RecvDeadline],
@@ -259,14 +259,14 @@ const DEADLINES_THAT_COME_TOO_LATE: &[Case; 4] = &[
         Last::Stays,
         "Ok(7)",
         None,
-        "load:3, write-waker, swap 0:3, clock:over, swap 3:4, store 2, take-message",
+        "load:3, write-waker, swap 0:3, clock over, swap 3:4, store 2, take-message",
     ),
     (
         &[WillGo(1, 0), RecvDeadline, TryRecv],
         Last::Stays,
         "Err(Disconnected), Err(Disconnected)",
         None,
-        "load:3, write-waker, swap 0:3, clock:over, swap 3:2, store 2, load:2",
+        "load:3, write-waker, swap 0:3, clock over, swap 3:2, store 2, load:2",
     ),
     // The sender is about to finish, and the receiver waits for it.
     (
@@ -274,15 +274,15 @@ const DEADLINES_THAT_COME_TOO_LATE: &[Case; 4] = &[
         Last::Stays,
         "Ok(7)",
         None,
-        "load:3, write-waker, swap 0:3, clock:over, swap 3:1, park:unwoken, load:3, \
-        park:woken, load:4, store 2, take-message",
+        "load:3, write-waker, swap 0:3, clock over, swap 3:1, park spurious, load:3, \
+        park token-, load:4, store 2, take-message",
     ),
     (
         &[WillGo(1, 1), RecvDeadline],
         Last::Stays,
         "Err(Disconnected)",
         None,
-        "load:3, write-waker, swap 0:3, clock:over, swap 3:1, park:woken, load:2",
+        "load:3, write-waker, swap 0:3, clock over, swap 3:1, park token-, load:2",
     ),
 ];
 
@@ -297,7 +297,7 @@ const AFTER_A_DEADLINE: &[Case; 3] = &[
         Last::Stays,
         "Err(Timeout), Err(Empty), Ok(7)",
         Some(9),
-        "load:3, write-waker, swap 0:3, clock:over, swap 3:0, withdraw, load:3, load:4, \
+        "load:3, write-waker, swap 0:3, clock over, swap 3:0, withdraw, load:3, load:4, \
         store 2, take-message",
     ),
     (
@@ -305,15 +305,15 @@ const AFTER_A_DEADLINE: &[Case; 3] = &[
         Last::Stays,
         "Err(Timeout), Err(RecvError)",
         None,
-        "load:3, write-waker, swap 0:3, clock:over, swap 3:0, withdraw, load:3, \
-        write-waker, swap 0:3, park:woken, load:2",
+        "load:3, write-waker, swap 0:3, clock over, swap 3:0, withdraw, load:3, \
+        write-waker, swap 0:3, park token-, load:2",
     ),
     (
         &[RecvDeadline, Sends],
         Last::Drop,
         "Err(Timeout)",
         Some(9),
-        "load:3, write-waker, swap 0:3, clock:over, swap 3:0, withdraw, swap 2:4, \
+        "load:3, write-waker, swap 0:3, clock over, swap 3:0, withdraw, swap 2:4, \
         drop-message, free",
     ),
 ];
@@ -329,21 +329,21 @@ const TIMEOUTS: &[Case; 4] = &[
         Last::Stays,
         "Ok(7)",
         Some(9),
-        "clock:over, load:4, store 2, take-message",
+        "clock over, load:4, store 2, take-message",
     ),
     (
         &[Goes, RecvTimeout(false)],
         Last::Stays,
         "Err(Disconnected)",
         Some(9),
-        "clock:over, load:2",
+        "clock over, load:2",
     ),
     (
         &[OverAfter(1), RecvTimeout(true)],
         Last::Stays,
         "Err(Timeout)",
         Some(9),
-        "clock:left, load:3, write-waker, swap 0:3, clock:over, swap 3:0, withdraw",
+        "clock left, load:3, write-waker, swap 0:3, clock over, swap 3:0, withdraw",
     ),
     // No instant can hold the sum, so the receiver waits without a deadline.
     (
@@ -351,7 +351,7 @@ const TIMEOUTS: &[Case; 4] = &[
         Last::Stays,
         "Ok(7)",
         None,
-        "clock:over, load:3, write-waker, swap 0:3, park:unwoken, load:0, park:woken, \
+        "clock over, load:3, write-waker, swap 0:3, park spurious, load:0, park token-, \
         load:4, store 2, take-message",
     ),
 ];

@@ -105,11 +105,11 @@ fn the_error_of_a_receiver_that_left_meanwhile_frees_once(rt: HostRuntime) -> Re
 }
 
 const DROPS: &[(Receiver, &str); 5] = &[
-    (Receiver::Here, "flip:3"),
-    (Receiver::Waits, "flip:0, take-waker, swap 2:1, wake"),
-    (Receiver::Stops, "flip:0, take-waker, swap 2:3, wake"),
-    (Receiver::Gone, "flip:2, free"),
-    (Receiver::Leaves, "flip:0, take-waker, swap 2:2, wake, free"),
+    (Receiver::Here, "xor:3"),
+    (Receiver::Waits, "xor:0, take-waker, swap 2:1, wake"),
+    (Receiver::Stops, "xor:0, take-waker, swap 2:3, wake"),
+    (Receiver::Gone, "xor:2, free"),
+    (Receiver::Leaves, "xor:0, take-waker, swap 2:2, wake, free"),
 ];
 
 #[test]

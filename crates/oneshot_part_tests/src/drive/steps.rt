@@ -1,4 +1,4 @@
-//! Writes the steps of a ground in memory as a line of text.
+//! Writes the steps of a ground in memory as a line of text, in the words in which `oneshot-run` prints a step.
 
 use oneshot_machine::machine::{Seen, Step};
 use oneshot_machine::states::Op;
@@ -31,7 +31,7 @@ fn push_step(text: &mut String, step: Step) -> Result<(), AllocError> {
         Step::Clock => text.push_str("clock"),
         Step::Copy => text.push_str("copy"),
         Step::Wake => text.push_str("wake"),
-        Step::WakeOwn => text.push_str("wake-own"),
+        Step::WakeOwn => text.push_str("wake own"),
         Step::Free => text.push_str("free"),
         Step::Plain => text.push_str("plain"),
     }
@@ -44,19 +44,18 @@ fn push_operation(text: &mut String, op: Op) -> Result<(), AllocError> {
         Op::Swap(new) => write!(text, "swap {new}"),
         Op::Exchange(expected, new) => write!(text, "exchange {expected} {new}"),
         Op::Add => text.push_str("add"),
-        Op::Xor => text.push_str("flip"),
+        Op::Xor => text.push_str("xor"),
     }
 }
 
 fn push_seen(text: &mut String, seen: Seen) -> Result<(), AllocError> {
     match seen {
-        Seen::Done => Ok(()),
+        Seen::Done | Seen::Refused(false) => Ok(()),
         Seen::Word(word) => write!(text, ":{word}"),
-        Seen::Over(true) => text.push_str(":over"),
-        Seen::Over(false) => text.push_str(":left"),
-        Seen::Refused(true) => text.push_str(":refused"),
-        Seen::Refused(false) => text.push_str(":made"),
-        Seen::Token(true) => text.push_str(":woken"),
-        Seen::Token(false) => text.push_str(":unwoken"),
+        Seen::Over(true) => text.push_str(" over"),
+        Seen::Over(false) => text.push_str(" left"),
+        Seen::Refused(true) => text.push_str(" refused"),
+        Seen::Token(true) => text.push_str(" token-"),
+        Seen::Token(false) => text.push_str(" spurious"),
     }
 }

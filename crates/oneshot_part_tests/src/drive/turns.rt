@@ -4,11 +4,9 @@ ghost use Rattle.oneshot_drive.specs.Polls.{IsPolled};
 
 use crate::asserts::assert_same;
 use crate::drive::steps::steps_of;
-use futures::task::Poll;
 use oneshot_drive::{async_try_recv, drop_async, poll};
-use oneshot_errors::{RecvError, TryRecvError};
 use oneshot_memory::{MemoryFuture, MemoryTask};
-use std::alloc::AllocGlobal;
+use std::alloc::{AllocError, AllocGlobal, Global};
 use std::process::Abort;
 use std::sync::Wait;
 use std::test::Fail;
@@ -34,24 +32,11 @@ pub(crate) enum Deed {
     WillGo,
 }
 
-/// What a deed returns.
-#[derive(Clone, Copy, Debug, Eq, PartialEq)]
-pub(crate) enum Answer {
-    /// Nothing.
-    Done,
-    /// `Pending` or `Empty`.
-    NothingYet,
-    /// This message.
-    Received(u64),
-    /// `RecvError` or `Disconnected`.
-    Disconnected,
-}
-
 /// How many copies of a task's waker were made, how many were used or dropped, and the task's wakes.
 type Counts = (u64, u64, u64);
 
-/// A deed and its answer, and the counts of both tasks after it.
-type Turn = (Deed, Answer, Counts, Counts);
+/// A deed and what it returns, and the counts of both tasks after it.
+type Turn = (Deed, &'static str, Counts, Counts);
 
 /// The turns; the counts of the first task after the future's drop, unless it is not dropped; and all steps of
 /// the future.
@@ -61,29 +46,15 @@ fn counts(task: &MemoryTask) -> Counts {
     (task.copies(), task.ended(), task.wakes())
 }
 
-fn polled(answer: Poll<Result<u64, RecvError>>) -> Answer {
-    match answer {
-        Poll::Pending => Answer::NothingYet,
-        Poll::Ready(Ok(message)) => Answer::Received(message),
-        Poll::Ready(Err(RecvError)) => Answer::Disconnected,
-    }
-}
-
-fn tried(answer: Result<u64, TryRecvError>) -> Answer {
-    match answer {
-        Ok(message) => Answer::Received(message),
-        Err(TryRecvError::Empty) => Answer::NothingYet,
-        Err(TryRecvError::Disconnected) => Answer::Disconnected,
-    }
-}
-
 type Future<'a, 't, R> = MemoryFuture<'a, 't, u64, R>;
 
+/// Does a deed, and returns the text of what it returns.
 fn perform<'t, R: Wait>(
+    alloc: Global,
     future: &mut Future<'_, 't, R>,
     tasks: &'t [MemoryTask; 2],
     deed: Deed,
-) -> Answer
+) -> Result<String, AllocError>
     requires { IsPolled future.old.receiver.state }
     ensures { IsPolled future.new.receiver.state }
 {
@@ -91,13 +62,18 @@ fn perform<'t, R: Wait>(
     match deed {
         Deed::First => {
             future.task = first;
-            return polled(poll(future));
+            let polled = poll(future);
+            return format!(in alloc; "{polled:?}");
         }
         Deed::Second => {
             future.task = second;
-            return polled(poll(future));
+            let polled = poll(future);
+            return format!(in alloc; "{polled:?}");
         }
-        Deed::Look => return tried(async_try_recv(future)),
+        Deed::Look => {
+            let tried = async_try_recv(future);
+            return format!(in alloc; "{tried:?}");
+        }
         Deed::Refuse => future.refuses = true,
         Deed::Sends => future.receiver.sender_sends(7),
         Deed::Goes => future.receiver.sender_drops(),
@@ -107,7 +83,7 @@ fn perform<'t, R: Wait>(
         }
         Deed::WillGo => future.receiver.sender_will_drop(0),
     }
-    Answer::Done
+    Ok(String::new(alloc))
 }
 
 /// Fails unless each deed has its answer and leaves its counts, and the future makes these steps.
@@ -116,9 +92,9 @@ pub(crate) fn assert_life<R: Wait + Abort + AllocGlobal>(rt: &R, life: &Life) ->
     let tasks = [MemoryTask::new(), MemoryTask::new()];
     let mut future = Future::new(rt, rt.alloc(), &tasks[0]);
     for (deed, answer, first, second) in *turns {
-        let found = perform(&mut future, &tasks, *deed);
+        let found = perform(rt.alloc(), &mut future, &tasks, *deed)?;
         assert_eq!(rt;
-            (found, counts(&tasks[0]), counts(&tasks[1])),
+            (found.as_str(), counts(&tasks[0]), counts(&tasks[1])),
             (*answer, *first, *second),
             "{deed:?} of {turns:?}"
         );

@@ -1,7 +1,8 @@
 //! A receive that waits sleeps: it uses little processor time, however long it waits.
 
-use super::beside::{Act, Pace, Receive, beside, hour};
+use super::beside::{Calls, Pace, WAITS, beside};
 use super::clocks::assert_spins;
+use oneshot_calls::{ReceiverCall, Reply, SenderCall, script, shows};
 use std::alloc::AllocGlobal;
 use std::hint::spin_loop;
 use std::io;
@@ -22,23 +23,27 @@ const TRIES: u32 = 10;
 const SHORT: u64 = 10;
 
 /// How many short waits are measured.
-const WAITS: u32 = 10;
+const SHORT_WAITS: u32 = 10;
 
 /// How many hints to the processor are measured. A wait uses less processor time than they do: it gives some five
 /// hundred before it sleeps.
 const HINTS: u32 = 50_000;
 
-/// The message that a receive gets from a sender that sleeps for `lingers` milliseconds, and the receive's
+/// The reply of a receive from a sender that sleeps for `lingers` milliseconds and sends 19, and the receive's
 /// processor time.
 fn time_of<R: Threads + Wait + Clock + CpuClock + RandomSource + AllocGlobal + Sync>(
     rt: &R,
-    by: Receive,
+    receives: &[ReceiverCall],
     lingers: u64,
-) -> Result<(Option<u64>, Duration), Fail> {
+) -> Result<(Reply<u64>, Duration), Fail> {
     let message = Arc::new(rt.alloc(), 19)?;
+    let calls = Calls {
+        sends: &[SenderCall::Closed, SenderCall::Send],
+        receives,
+    };
     let pace = Pace::Sleep(Duration::from_millis(lingers));
-    let outcome = beside(rt, message, Act::Send, &pace, by)?;
-    Ok((outcome.received.ok().map(|message| *message), outcome.used))
+    let outcome = beside(rt, message, calls, &pace)?;
+    Ok((outcome.received.numbered(), outcome.used))
 }
 
 /// The processor time of `HINTS` hints.
@@ -51,25 +56,26 @@ fn time_of_hints(rt: &impl CpuClock) -> io::Result<Duration> {
 }
 
 /// Whether a receive from a sender that sleeps for `lingers` milliseconds uses more processor time than
-/// `HINTS` hints, and the message. The hints are given beside it, since other programs slow both.
+/// `HINTS` hints, and its reply. The hints are given beside it, since other programs slow both.
 fn spins<R: Threads + Wait + Clock + CpuClock + RandomSource + AllocGlobal + Sync>(
     rt: &R,
-    by: Receive,
+    receives: &[ReceiverCall],
     lingers: u64,
-) -> Result<(bool, Option<u64>), Fail> {
+) -> Result<(bool, Reply<u64>), Fail> {
     let much = time_of_hints(rt)?;
-    let (received, used) = time_of(rt, by, lingers)?;
+    let (received, used) = time_of(rt, receives, lingers)?;
     Ok((used > much, received))
 }
 
 /// Whether a receive that waits long sleeps in one of `TRIES` tries. Fails unless it gets the message in each.
 fn sleeps<R: Threads + Wait + Clock + CpuClock + RandomSource + AllocGlobal + Abort + Sync>(
     rt: &R,
-    by: Receive,
+    receives: &str,
 ) -> Result<bool, Fail> {
+    let calls = script::<ReceiverCall>(rt.alloc(), receives)?;
     for _ in 0..TRIES {
-        let (spins, received) = spins(rt, by, LONG)?;
-        assert!(rt; received == Some(19), "{by:?}");
+        let (spins, received) = spins(rt, &calls, LONG)?;
+        assert!(rt; shows(&received, "Ok(19)"), "{receives}: {received}");
         if !spins {
             return Ok(true);
         }
@@ -79,17 +85,8 @@ fn sleeps<R: Threads + Wait + Clock + CpuClock + RandomSource + AllocGlobal + Ab
 
 #[test]
 fn a_receive_that_waits_uses_little_processor_time(rt: HostRuntime) -> Result<(), Fail> {
-    let receives = [
-        Receive::Recv,
-        Receive::RecvRef,
-        Receive::RecvDeadline(hour()),
-        Receive::RecvTimeout(hour()),
-        // No instant is that late.
-        Receive::RecvTimeout(Duration::MAX),
-        Receive::BlockOn,
-    ];
-    for by in receives {
-        assert!(rt; sleeps(&rt, by)?, "{by:?} does not sleep");
+    for receives in WAITS {
+        assert!(rt; sleeps(&rt, receives)?, "{receives} does not sleep");
     }
     Ok(())
 }
@@ -98,16 +95,20 @@ fn a_receive_that_waits_uses_little_processor_time(rt: HostRuntime) -> Result<()
 fn a_receive_spins_little_before_it_sleeps(rt: HostRuntime) -> Result<(), Fail> {
     assert_spins(&rt)?;
     // These read no clock that could count their spins.
-    for by in [Receive::Recv, Receive::RecvRef] {
+    for receives in ["recv", "ref try ref"] {
+        let calls = script::<ReceiverCall>(rt.alloc(), receives)?;
         let mut spinning = 0u32;
-        for _ in 0..WAITS {
-            let (spins, _received) = spins(&rt, by, SHORT)?;
+        for _ in 0..SHORT_WAITS {
+            let (spins, _received) = spins(&rt, &calls, SHORT)?;
             if spins {
                 spinning = spinning.saturating_add(1);
             }
         }
         // Other programs may have disturbed a few of the waits.
-        assert!(rt; spinning < WAITS / 2, "{by:?} spun in {spinning} waits");
+        assert!(rt;
+            spinning < SHORT_WAITS / 2,
+            "{receives} spun in {spinning} waits"
+        );
     }
     Ok(())
 }

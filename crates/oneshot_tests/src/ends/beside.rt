@@ -1,11 +1,9 @@
 //! A receive on one thread beside the sender's act on another. If a wake did nothing, it would not end.
 
-use self::Act::{Drop, DropRaw, Send};
-use self::Receive::{
-    BlockOn, Recv, RecvDeadline, RecvRef, RecvTimeout, UntilDeadline, UntilTimeout,
+use oneshot_calls::{
+    Bare, Numbered, ReceiverCall, Receiving, Reply, SenderCall, Sending, script, shows,
 };
-use futures::executor::block_on;
-use oneshot_channel::{Receiver, RecvError, RecvTimeoutError, Sender, channel};
+use oneshot_channel::{Receiver, Sender, channel};
 use std::alloc::AllocGlobal;
 use std::process::Abort;
 use std::random::RandomSource;
@@ -13,36 +11,23 @@ use std::sync::atomic::{AtomicU64, Ordering};
 use std::sync::{Arc, Wait};
 use std::test::Fail;
 use std::thread::{Threads, join, sleep, yield_now};
-use std::time::{Clock, CpuClock, Duration, Instant};
+use std::time::{Clock, CpuClock, Duration};
 
-/// How the sender acts.
-#[derive(Clone, Copy, Debug)]
-pub(super) enum Act {
-    /// It sends the message.
-    Send,
-    /// It is dropped.
-    Drop,
-    /// Its raw value is dropped.
-    DropRaw,
-}
+/// Scripts of receivers that wait for an hour or longer. After `ref`, each later receive fails.
+pub(super) const WAITS: [&str; 6] = [
+    "recv",
+    "ref try ref",
+    "fardeadline",
+    "fartimeout",
+    "forever",
+    "future await",
+];
 
-/// A receive that waits.
+/// What both ends do: their scripts.
 #[derive(Clone, Copy, Debug)]
-pub(super) enum Receive {
-    /// `recv`.
-    Recv,
-    /// `recv_ref`, after which each later receive fails.
-    RecvRef,
-    /// `recv_deadline`, so long from now.
-    RecvDeadline(Duration),
-    /// `recv_timeout`.
-    RecvTimeout(Duration),
-    /// `recv_deadline`, and `recv` if that runs out.
-    UntilDeadline(Duration),
-    /// `recv_timeout`, and `recv` if that runs out.
-    UntilTimeout(Duration),
-    /// `block_on` of its future.
-    BlockOn,
+pub(super) struct Calls<'a> {
+    pub(super) sends: &'a [SenderCall],
+    pub(super) receives: &'a [ReceiverCall],
 }
 
 /// When both threads act.
@@ -57,17 +42,12 @@ pub(super) enum Pace<'a> {
 /// What came of a receive beside the sender's act.
 #[derive(Drop)]
 pub(super) struct Outcome {
-    /// The message, or why there is none.
-    pub(super) received: Result<Arc<u64>, RecvTimeoutError>,
+    /// The first reply that has the message, or states that none comes.
+    pub(super) received: Reply<Arc<u64>>,
     /// The processor time of the receive.
     pub(super) used: Duration,
-    /// Whether the message was sent.
-    sent: bool,
-}
-
-/// Longer than any test.
-pub(super) fn hour() -> Duration {
-    Duration::from_secs(3_600)
+    /// The last reply of the sender.
+    sent: Reply<Arc<u64>>,
 }
 
 /// More loads than a thread makes while another starts.
@@ -112,93 +92,70 @@ impl Pace<'_> {
     }
 }
 
-impl Act {
-    /// Acts at its pace. `true`: the message was sent.
-    fn make(
-        self,
-        rt: &impl Clock,
-        pace: &Pace<'_>,
-        sender: Sender<Arc<u64>>,
-        message: Arc<u64>,
-    ) -> bool {
-        pace.act(rt);
-        match self {
-            Send => return !sender.is_closed() && sender.send(message).is_ok(),
-            Drop => drop(sender),
-            DropRaw => drop(sender.into_raw()),
+/// What the calls return: the first reply that has the message, or states that none comes. After it, a receive that
+/// gets one is an error.
+fn receive<R: Wait + Clock + RandomSource + AllocGlobal>(
+    rt: &R,
+    calls: &[ReceiverCall],
+    receiver: Receiver<Arc<u64>, &R>,
+) -> Result<Reply<Arc<u64>>, Fail> {
+    let mut receiving = Receiving::new(receiver);
+    let mut first = Reply::Bare(Bare::Nothing);
+    for call in calls {
+        let reply = receiving.make(rt, None, *call);
+        if matches!(
+            first,
+            Reply::Bare(Bare::Nothing | Bare::Timeout | Bare::Future)
+        ) {
+            first = reply;
+        } else if reply.message().is_some() {
+            return Err(Fail::new("a second receive gets a message"));
         }
-        false
     }
+    Ok(first)
 }
 
-type Received = Result<Arc<u64>, RecvTimeoutError>;
-
-fn untimed(received: Result<Arc<u64>, RecvError>) -> Received {
-    match received {
-        Ok(message) => Ok(message),
-        Err(RecvError) => Err(RecvTimeoutError::Disconnected),
-    }
-}
-
-/// An instant so long from now.
-fn later(rt: &impl Clock, time: Duration) -> Result<Instant, Fail> {
-    let end = Instant::now(rt)?.checked_add(time);
-    Ok(end.ok_or("an instant can hold it")?)
-}
-
-impl Receive {
-    fn receive<R: Wait + Clock + RandomSource + AllocGlobal>(
-        self,
-        rt: &R,
-        mut receiver: Receiver<Arc<u64>, &R>,
-    ) -> Result<Received, Fail> {
-        let received = match self {
-            Recv => return Ok(untimed(receiver.recv())),
-            RecvRef => {
-                let received = untimed(receiver.recv_ref());
-                if receiver.try_recv().is_ok() || receiver.recv_ref().is_ok() {
-                    return Err(Fail::new("a second receive gets a message"));
-                }
-                received
-            }
-            RecvDeadline(time) | UntilDeadline(time) => receiver.recv_deadline(later(rt, time)?),
-            RecvTimeout(time) | UntilTimeout(time) => receiver.recv_timeout(time),
-            BlockOn => return Ok(untimed(block_on(rt, receiver.into_future())?)),
-        };
-        let runs_out = matches!(received, Err(RecvTimeoutError::Timeout));
-        if runs_out && matches!(self, UntilDeadline(_) | UntilTimeout(_)) {
-            return Ok(untimed(receiver.recv()));
+/// The last reply of the calls, or `true` of a look that finds the receiver gone.
+fn send(calls: &[SenderCall], sender: Sender<Arc<u64>>, message: Arc<u64>) -> Reply<Arc<u64>> {
+    let mut sending = Sending::new(sender, Some(message));
+    let mut last = Reply::Bare(Bare::Nothing);
+    for call in calls {
+        last = sending.make(*call);
+        if matches!(last, Reply::Bare(Bare::Yes)) {
+            break;
         }
-        Ok(received)
     }
-
-    /// Receives at its pace, and measures its processor time.
-    fn make<R: Wait + Clock + CpuClock + RandomSource + AllocGlobal>(
-        self,
-        rt: &R,
-        pace: &Pace<'_>,
-        receiver: Receiver<Arc<u64>, &R>,
-    ) -> Result<(Received, Duration), Fail> {
-        pace.receive();
-        let before = rt.thread_cpu_time()?;
-        let received = self.receive(rt, receiver)?;
-        Ok((received, rt.thread_cpu_time()?.saturating_sub(before)))
-    }
+    last
 }
 
-/// Makes a receive on one thread and the sender's act on another.
+/// Receives at this pace, and measures the processor time.
+fn receive_at<R: Wait + Clock + CpuClock + RandomSource + AllocGlobal>(
+    rt: &R,
+    pace: &Pace<'_>,
+    calls: &[ReceiverCall],
+    receiver: Receiver<Arc<u64>, &R>,
+) -> Result<(Reply<Arc<u64>>, Duration), Fail> {
+    pace.receive();
+    let before = rt.thread_cpu_time()?;
+    let received = receive(rt, calls, receiver)?;
+    Ok((received, rt.thread_cpu_time()?.saturating_sub(before)))
+}
+
+/// Makes both ends' calls, each on a thread of its own.
 pub(super) fn beside<R: Threads + Wait + Clock + CpuClock + RandomSource + AllocGlobal + Sync>(
     rt: &R,
     message: Arc<u64>,
-    act: Act,
+    calls: Calls<'_>,
     pace: &Pace<'_>,
-    by: Receive,
 ) -> Result<Outcome, Fail> {
     let (sender, receiver) = channel(rt, rt.alloc())?;
     let (received, sent) = join(
         rt,
-        || by.make(rt, pace, receiver),
-        || act.make(rt, pace, sender, message),
+        || receive_at(rt, pace, calls.receives, receiver),
+        || {
+            pace.act(rt);
+            send(calls.sends, sender, message)
+        },
     );
     let (received, used) = received?;
     Ok(Outcome {
@@ -212,73 +169,80 @@ pub(super) fn beside<R: Threads + Wait + Clock + CpuClock + RandomSource + Alloc
 /// the message then has no other owner.
 pub(super) fn assert_receives<
     R: Threads + Wait + Clock + CpuClock + RandomSource + AllocGlobal + Abort + Sync,
->(rt: &R, act: Act, pace: &Pace<'_>, by: Receive) -> Result<(), Fail> {
+>(rt: &R, calls: Calls<'_>, pace: &Pace<'_>) -> Result<(), Fail> {
     let shared = Arc::new(rt.alloc(), 19)?;
-    let outcome = beside(rt, Arc::try_clone(&shared)?, act, pace, by)?;
-    assert_outcome(rt, act, by, &shared, outcome);
+    let outcome = beside(rt, Arc::try_clone(&shared)?, calls, pace)?;
+    assert_outcome(rt, calls, &shared, outcome);
     Ok(())
 }
 
-/// Fails unless this is the outcome of a receive beside `act` of the sender, which sends `shared` or is dropped, and
-/// unless `shared` then has no other owner.
-fn assert_outcome(rt: &impl Abort, act: Act, by: Receive, shared: &Arc<u64>, outcome: Outcome) {
-    let sends = matches!(act, Send);
+/// Fails unless this is the outcome of these calls, of which the sender's sends `shared` or drops it, and unless
+/// `shared` then has no other owner.
+fn assert_outcome(rt: &impl Abort, calls: Calls<'_>, shared: &Arc<u64>, outcome: Outcome) {
+    let sends = calls.sends.contains(&SenderCall::Send);
     let owners = if sends { 2 } else { 1 };
+    let sent = outcome.sent.numbered();
     assert!(rt;
-        outcome.sent == sends && Arc::strong_count(shared) == owners,
-        "{act:?}, {by:?}: sent {}",
-        outcome.sent
+        shows(&sent, if sends { "Ok" } else { "dropped" }) && Arc::strong_count(shared) == owners,
+        "{calls:?}: {sent}"
     );
-    match outcome.received {
-        Ok(message) => assert!(rt; sends && *message == 19, "{act:?}, {by:?}"),
-        Err(error) => assert!(rt;
-            !sends && error == RecvTimeoutError::Disconnected,
-            "{act:?}, {by:?}: {error:?}"
-        ),
-    }
-    assert!(rt; Arc::strong_count(shared) == 1, "{act:?}, {by:?}: kept");
+    let received = outcome.received.numbered();
+    let texts = if sends {
+        ["Ok(19)", "Ok(19)"]
+    } else {
+        ["Err(RecvError)", "Err(Disconnected)"]
+    };
+    assert!(rt;
+        texts.iter().any(|text| shows(&received, *text)),
+        "{calls:?}: {received}"
+    );
+    assert!(rt; Arc::strong_count(shared) == 1, "{calls:?}: kept");
 }
 
-/// An outcome without a message.
-fn without_message(error: RecvTimeoutError, sent: bool) -> Outcome {
-    Outcome {
-        received: Err(error),
+/// Fails, since the receive of a dropped sender's channel, or of a sent message, has this reply without a message.
+fn assert_without_message(
+    rt: &(impl Abort + AllocGlobal),
+    call: SenderCall,
+    sent: Bare,
+    received: Bare,
+) {
+    let shared = Arc::new(rt.alloc(), 19).ok().expect(rt, "memory");
+    let outcome = Outcome {
+        received: Reply::Bare(received),
         used: Duration::ZERO,
-        sent,
-    }
+        sent: Reply::Bare(sent),
+    };
+    let calls = Calls {
+        sends: &[call],
+        receives: &[ReceiverCall::Recv],
+    };
+    assert_outcome(rt, calls, &shared, outcome);
 }
 
 #[test]
-#[should_panic(expected = "Drop, Recv: Timeout")]
+#[should_panic(expected = "sends: [Drop], receives: [Recv] }: Err(Timeout)")]
 fn a_receive_that_runs_out_ends_a_test(rt: HostRuntime) {
-    let shared = Arc::new(rt.alloc(), 19).ok().expect(&rt, "memory");
-    let outcome = without_message(RecvTimeoutError::Timeout, false);
-    assert_outcome(&rt, Drop, Recv, &shared, outcome);
+    assert_without_message(&rt, SenderCall::Drop, Bare::Dropped, Bare::Timeout);
 }
 
 #[test]
-#[should_panic(expected = "Send, Recv: sent false")]
+#[should_panic(expected = "sends: [Send], receives: [Recv] }: Err")]
 fn a_message_that_is_not_sent_ends_a_test(rt: HostRuntime) {
-    let shared = Arc::new(rt.alloc(), 19).ok().expect(&rt, "memory");
-    let outcome = without_message(RecvTimeoutError::Disconnected, false);
-    assert_outcome(&rt, Send, Recv, &shared, outcome);
+    assert_without_message(&rt, SenderCall::Send, Bare::Refused, Bare::Ended);
 }
 
 #[test]
 fn each_receive_waits_for_each_act(rt: HostRuntime) -> Result<(), Fail> {
-    let receives = [
-        Recv,
-        RecvRef,
-        RecvDeadline(hour()),
-        RecvTimeout(hour()),
-        // No instant is that late.
-        RecvTimeout(Duration::MAX),
-        BlockOn,
-    ];
     let pace = Pace::Sleep(Duration::from_millis(2));
-    for act in [Send, Drop, DropRaw] {
-        for by in receives {
-            assert_receives(&rt, act, &pace, by)?;
+    for sends in ["closed send", "drop", "dropraw"] {
+        let sends = script::<SenderCall>(rt.alloc(), sends)?;
+        for receives in WAITS {
+            let receives = script::<ReceiverCall>(rt.alloc(), receives)?;
+            let calls = Calls {
+                sends: &sends,
+                receives: &receives,
+            };
+            assert_receives(&rt, calls, &pace)?;
         }
     }
     Ok(())

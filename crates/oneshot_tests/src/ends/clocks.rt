@@ -1,6 +1,7 @@
 //! Receives by clocks that return written readings, count them, or have the sender act at one.
 
 use crate::asserts::{assert_same, assert_that};
+use oneshot_calls::{SenderCall, Sending};
 use oneshot_channel::{Receiver, RecvTimeoutError, Sender, channel};
 use std::alloc::{AllocError, AllocGlobal, Global};
 use std::cell::Cell;
@@ -281,12 +282,8 @@ fn a_receive_spins_few_times_before_it_sleeps(rt: HostRuntime) -> Result<(), Fai
     Ok(())
 }
 
-/// What the sender does.
-#[derive(Drop)]
-enum Act {
-    Send(Sender<u8>, u8),
-    Go(Sender<u8>),
-}
+/// The sender, and the call that it makes.
+type Act = (Sending<u64, Sender<u64>>, SenderCall);
 
 /// A runtime whose clock always reads an hour. At its next reading the sender acts.
 #[derive(Drop)]
@@ -303,9 +300,9 @@ impl<'a, R> Meanwhile<'a, R> {
         }
     }
 
-    // Sets what the sender does at the next reading.
-    fn will(&self, act: Act) {
-        self.act.set(Some(act));
+    // Sets which call the sender makes at the next reading. Its message is 19.
+    fn will(&self, sender: Sender<u64>, call: SenderCall) {
+        self.act.set(Some((Sending::new(sender, Some(19)), call)));
     }
 }
 
@@ -313,12 +310,8 @@ impl<'a, R: Wait> Wait for Meanwhile<'a, R> {}
 
 impl<'a, R> Clock for Meanwhile<'a, R> {
     fn monotonic(&self) -> io::Result<Duration> {
-        match self.act.take() {
-            Some(Act::Send(sender, message)) => {
-                let _ = sender.send(message);
-            }
-            Some(Act::Go(sender)) => drop(sender),
-            None => {}
+        if let Some((mut sending, call)) = self.act.take() {
+            let _ = sending.make(call);
         }
         Ok(Duration::from_secs(3_600))
     }
@@ -332,8 +325,8 @@ impl<'a, R> Clock for Meanwhile<'a, R> {
 #[test]
 fn a_message_that_comes_at_the_deadline_is_found(rt: HostRuntime) -> Result<(), Fail> {
     let clock = Meanwhile::new(&rt);
-    let (sender, mut receiver) = channel::<u8, _>(&clock, rt.alloc())?;
-    clock.will(Act::Send(sender, 19));
+    let (sender, mut receiver) = channel::<u64, _>(&clock, rt.alloc())?;
+    clock.will(sender, SenderCall::Send);
     assert_same(&rt, receiver.recv_deadline(instant_at(&rt, 5)?), Ok(19));
     assert_that(&rt, receiver.is_closed());
     Ok(())
@@ -342,8 +335,8 @@ fn a_message_that_comes_at_the_deadline_is_found(rt: HostRuntime) -> Result<(), 
 #[test]
 fn a_drop_at_the_deadline_is_found(rt: HostRuntime) -> Result<(), Fail> {
     let clock = Meanwhile::new(&rt);
-    let (sender, mut receiver) = channel::<u8, _>(&clock, rt.alloc())?;
-    clock.will(Act::Go(sender));
+    let (sender, mut receiver) = channel::<u64, _>(&clock, rt.alloc())?;
+    clock.will(sender, SenderCall::Drop);
     let received = receiver.recv_deadline(instant_at(&rt, 5)?);
     assert_same(&rt, received, Err(RecvTimeoutError::Disconnected));
     assert_that(&rt, receiver.is_closed());

@@ -1,8 +1,8 @@
 //! Receives with a timeout: how long they take, and two threads that wait for each other.
 
 use crate::asserts::{assert_same, assert_that};
+use oneshot_calls::{is_overdue, limit};
 use oneshot_channel::{Receiver, RecvTimeoutError, channel};
-use oneshot_test_uses::{is_overdue, limit};
 use std::io;
 use std::process::Abort;
 use std::sync::Wait;

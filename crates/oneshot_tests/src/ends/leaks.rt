@@ -1,7 +1,8 @@
 //! However a channel or a request ends on one thread, all the memory that it took is freed. `scripts/schedules` looks
 //! for what two threads leave.
 
-use super::lives::{DROPPED, Life, OVER, RAW, READY, RECEIVED, TRIED, UNRECEIVED, live};
+use super::lives::{DROPPED, OVER, RAW, READY, RECEIVED, TRIED, UNRECEIVED, live};
+use super::steps::read;
 use crate::pages::{grown_pages, resident_pages};
 use crate::reply::{answer, ask};
 use std::alloc::{AllocError, Global};
@@ -72,11 +73,12 @@ fn assert_leaves_nothing<F: FnMut() -> io::Result<()>>(
 /// Fails if a channel leaks some memory each time that it lives one of these lives.
 fn assert_none_leaks(
     rt: &(impl Files + Print + Wait + Clock + AllocGlobal + RandomSource + Abort),
-    lives: &[Life<'_>],
+    lives: &[&str],
 ) -> Result<(), Fail> {
     if compares_memory(rt)? {
-        for (number, life) in lives.iter().enumerate() {
-            assert_leaves_nothing(rt, number, || live(rt, life))?;
+        for (number, text) in lives.iter().enumerate() {
+            let life = read(rt.alloc(), text)?;
+            assert_leaves_nothing(rt, number, || live(rt, &life))?;
         }
     }
     Ok(())

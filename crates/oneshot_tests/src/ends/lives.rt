@@ -1,313 +1,246 @@
-//! Lives of a channel as tables: what each step returns, and what the looks of both ends return after it.
+//! Lives of a channel, line by line: what each step returns, and what the looks of both ends return after it.
 
-use super::steps::Answer::{Disconnected, Done, NothingYet, Received, Refused, Sent};
-use super::steps::Limit::{Hour, Never, Now, Past};
-use super::steps::Look::{Closed, Full, Gone, Open};
-use super::steps::Step::{
-    DropRawReceiver, DropRawSender, DropReceiver, DropSender, IntoFuture, Make, MakeAsync,
-    PollFuture, ReceiverThroughRaw, Recv, RecvDeadline, RecvRef, RecvTimeout, SendMessage,
-    SendOrTakeBack, SenderThroughRaw, TryRecv,
-};
-use super::steps::{Answer, Ends, Look, Step};
-use futures::test::MockTask;
+use super::steps::{Ends, Life, read};
+use crate::asserts::assert_same;
+use oneshot_calls::{Fault, Tasks, shows};
 use std::alloc::AllocGlobal;
 use std::io;
-use std::process::Abort;
+use std::process::{Abort, Termination};
 use std::random::RandomSource;
 use std::sync::{Arc, Wait};
 use std::test::Fail;
 use std::time::{Clock, Duration};
 
-/// The steps, each with its answer, and with the looks of the sender and of the receiver after it.
-pub(super) type Life<'a> = &'a [(Step, Answer, Look, Look)];
-
 /// Futures that become ready.
-pub(super) const READY: &[Life<'static>; 4] = &[
-    &[
-        (MakeAsync, Done, Open, Open),
-        (SendMessage, Sent, Gone, Full),
-        (PollFuture, Received, Gone, Closed),
-        (PollFuture, Disconnected, Gone, Closed),
-    ],
-    &[
-        (Make, Done, Open, Open),
-        (IntoFuture, Done, Open, Open),
-        (PollFuture, NothingYet, Open, Open),
-        (PollFuture, NothingYet, Open, Open),
-        (SendMessage, Sent, Gone, Full),
-        (PollFuture, Received, Gone, Closed),
-        (DropReceiver, Done, Gone, Gone),
-    ],
-    &[
-        (MakeAsync, Done, Open, Open),
-        (PollFuture, NothingYet, Open, Open),
-        (DropSender, Done, Gone, Closed),
-        (PollFuture, Disconnected, Gone, Closed),
-    ],
-    &[
-        (MakeAsync, Done, Open, Open),
-        (DropSender, Done, Gone, Closed),
-        (PollFuture, Disconnected, Gone, Closed),
-    ],
+pub(super) const READY: &[&str; 4] = &[
+    "async_channel
+    S send = Ok | gone full
+    R poll1 = Ready(Ok(19)) | gone closed
+    R poll1 = Ready(Err(RecvError)) | gone closed",
+    "channel
+    R future = future | open open
+    R poll1 = Pending | open open
+    R poll1 = Pending | open open
+    S send = Ok | gone full
+    R poll1 = Ready(Ok(19)) | gone closed
+    R drop = dropped | gone gone",
+    "async_channel
+    R poll1 = Pending | open open
+    S drop = dropped | gone closed
+    R poll1 = Ready(Err(RecvError)) | gone closed",
+    "async_channel
+    S drop = dropped | gone closed
+    R poll1 = Ready(Err(RecvError)) | gone closed",
 ];
 
 /// Futures with `try_recv` before their polls, between them and after them.
-pub(super) const TRIED: &[Life<'static>; 5] = &[
-    &[
-        (MakeAsync, Done, Open, Open),
-        (TryRecv, NothingYet, Open, Open),
-        (SendMessage, Sent, Gone, Full),
-        (TryRecv, Received, Gone, Closed),
-        (TryRecv, Disconnected, Gone, Closed),
-        (PollFuture, Disconnected, Gone, Closed),
-    ],
-    &[
-        (MakeAsync, Done, Open, Open),
-        (PollFuture, NothingYet, Open, Open),
-        (TryRecv, NothingYet, Open, Open),
-        (TryRecv, NothingYet, Open, Open),
-        (PollFuture, NothingYet, Open, Open),
-        (TryRecv, NothingYet, Open, Open),
-        (SendMessage, Sent, Gone, Full),
-        (TryRecv, Received, Gone, Closed),
-        (PollFuture, Disconnected, Gone, Closed),
-        (TryRecv, Disconnected, Gone, Closed),
-    ],
-    &[
-        (MakeAsync, Done, Open, Open),
-        (PollFuture, NothingYet, Open, Open),
-        (TryRecv, NothingYet, Open, Open),
-        (SendMessage, Sent, Gone, Full),
-        (PollFuture, Received, Gone, Closed),
-        (TryRecv, Disconnected, Gone, Closed),
-    ],
-    &[
-        (Make, Done, Open, Open),
-        (IntoFuture, Done, Open, Open),
-        (PollFuture, NothingYet, Open, Open),
-        (TryRecv, NothingYet, Open, Open),
-        (DropSender, Done, Gone, Closed),
-        (TryRecv, Disconnected, Gone, Closed),
-        (PollFuture, Disconnected, Gone, Closed),
-    ],
-    &[
-        (MakeAsync, Done, Open, Open),
-        (PollFuture, NothingYet, Open, Open),
-        (TryRecv, NothingYet, Open, Open),
-        (DropReceiver, Done, Closed, Gone),
-        (SendMessage, Refused, Gone, Gone),
-    ],
+pub(super) const TRIED: &[&str; 5] = &[
+    "async_channel
+    R try = Err(Empty) | open open
+    S send = Ok | gone full
+    R try = Ok(19) | gone closed
+    R try = Err(Disconnected) | gone closed
+    R poll1 = Ready(Err(RecvError)) | gone closed",
+    "async_channel
+    R poll1 = Pending | open open
+    R try = Err(Empty) | open open
+    R try = Err(Empty) | open open
+    R poll1 = Pending | open open
+    R try = Err(Empty) | open open
+    S send = Ok | gone full
+    R try = Ok(19) | gone closed
+    R poll1 = Ready(Err(RecvError)) | gone closed
+    R try = Err(Disconnected) | gone closed",
+    "async_channel
+    R poll1 = Pending | open open
+    R try = Err(Empty) | open open
+    S send = Ok | gone full
+    R poll1 = Ready(Ok(19)) | gone closed
+    R try = Err(Disconnected) | gone closed",
+    "channel
+    R future = future | open open
+    R poll1 = Pending | open open
+    R try = Err(Empty) | open open
+    S drop = dropped | gone closed
+    R try = Err(Disconnected) | gone closed
+    R poll1 = Ready(Err(RecvError)) | gone closed",
+    "async_channel
+    R poll1 = Pending | open open
+    R try = Err(Empty) | open open
+    R drop = dropped | closed gone
+    S send = Err | error gone
+    S inner = 19 | error gone
+    S drop = dropped | gone gone",
 ];
 
 /// Futures that are dropped before they are ready.
-pub(super) const DROPPED: &[Life<'static>; 6] = &[
-    &[
-        (MakeAsync, Done, Open, Open),
-        (DropReceiver, Done, Closed, Gone),
-        (DropSender, Done, Gone, Gone),
-    ],
-    &[
-        (Make, Done, Open, Open),
-        (IntoFuture, Done, Open, Open),
-        (DropSender, Done, Gone, Closed),
-        (DropReceiver, Done, Gone, Gone),
-    ],
-    &[
-        (MakeAsync, Done, Open, Open),
-        (PollFuture, NothingYet, Open, Open),
-        (DropReceiver, Done, Closed, Gone),
-        (SendMessage, Refused, Gone, Gone),
-    ],
-    &[
-        (MakeAsync, Done, Open, Open),
-        (PollFuture, NothingYet, Open, Open),
-        (PollFuture, NothingYet, Open, Open),
-        (PollFuture, NothingYet, Open, Open),
-        (DropReceiver, Done, Closed, Gone),
-        (DropSender, Done, Gone, Gone),
-    ],
-    &[
-        (MakeAsync, Done, Open, Open),
-        (PollFuture, NothingYet, Open, Open),
-        (SendMessage, Sent, Gone, Full),
-        (DropReceiver, Done, Gone, Gone),
-    ],
-    &[
-        (MakeAsync, Done, Open, Open),
-        (PollFuture, NothingYet, Open, Open),
-        (DropSender, Done, Gone, Closed),
-        (DropReceiver, Done, Gone, Gone),
-    ],
+pub(super) const DROPPED: &[&str; 6] = &[
+    "async_channel
+    R drop = dropped | closed gone
+    S drop = dropped | gone gone",
+    "channel
+    R future = future | open open
+    S drop = dropped | gone closed
+    R drop = dropped | gone gone",
+    "async_channel
+    R poll1 = Pending | open open
+    R drop = dropped | closed gone
+    S send = Err | error gone
+    S inner = 19 | error gone
+    S drop = dropped | gone gone",
+    "async_channel
+    R poll1 = Pending | open open
+    R poll1 = Pending | open open
+    R poll1 = Pending | open open
+    R drop = dropped | closed gone
+    S drop = dropped | gone gone",
+    "async_channel
+    R poll1 = Pending | open open
+    S send = Ok | gone full
+    R drop = dropped | gone gone",
+    "async_channel
+    R poll1 = Pending | open open
+    S drop = dropped | gone closed
+    R drop = dropped | gone gone",
 ];
 
 /// Ends that were raw for a while.
-pub(super) const RAW: &[Life<'static>; 5] = &[
-    &[
-        (Make, Done, Open, Open),
-        (SenderThroughRaw, Done, Open, Open),
-        (ReceiverThroughRaw, Done, Open, Open),
-        (TryRecv, NothingYet, Open, Open),
-        (SendMessage, Sent, Gone, Full),
-        (ReceiverThroughRaw, Done, Gone, Full),
-        (TryRecv, Received, Gone, Closed),
-        (ReceiverThroughRaw, Done, Gone, Closed),
-        (TryRecv, Disconnected, Gone, Closed),
-    ],
-    &[
-        (Make, Done, Open, Open),
-        (TryRecv, NothingYet, Open, Open),
-        (DropRawSender, Done, Gone, Closed),
-        (TryRecv, Disconnected, Gone, Closed),
-        (DropRawReceiver, Done, Gone, Gone),
-    ],
-    &[
-        (Make, Done, Open, Open),
-        (DropRawReceiver, Done, Closed, Gone),
-        (SenderThroughRaw, Done, Closed, Gone),
-        (SendOrTakeBack, Refused, Gone, Gone),
-    ],
-    &[
-        (Make, Done, Open, Open),
-        (DropRawReceiver, Done, Closed, Gone),
-        (DropRawSender, Done, Gone, Gone),
-    ],
-    &[
-        (Make, Done, Open, Open),
-        (SendMessage, Sent, Gone, Full),
-        (DropRawReceiver, Done, Gone, Gone),
-    ],
+pub(super) const RAW: &[&str; 5] = &[
+    "channel
+    S raw = raw | open open
+    R raw = raw | open open
+    R try = Err(Empty) | open open
+    S send = Ok | gone full
+    R raw = raw | gone full
+    R try = Ok(19) | gone closed
+    R raw = raw | gone closed
+    R try = Err(Disconnected) | gone closed",
+    "channel
+    R try = Err(Empty) | open open
+    S dropraw = dropped | gone closed
+    R try = Err(Disconnected) | gone closed
+    R dropraw = dropped | gone gone",
+    "channel
+    R dropraw = dropped | closed gone
+    S raw = raw | closed gone
+    S send = Err | error gone
+    S into = 19 | gone gone",
+    "channel
+    R dropraw = dropped | closed gone
+    S dropraw = dropped | gone gone",
+    "channel
+    S send = Ok | gone full
+    R dropraw = dropped | gone gone",
 ];
 
 /// Receivers whose message is received.
-pub(super) const RECEIVED: &[Life<'static>; 3] = &[
-    &[
-        (Make, Done, Open, Open),
-        (SendMessage, Sent, Gone, Full),
-        (Recv, Received, Gone, Gone),
-    ],
-    &[
-        (Make, Done, Open, Open),
-        (SendMessage, Sent, Gone, Full),
-        (RecvRef, Received, Gone, Closed),
-        (RecvRef, Disconnected, Gone, Closed),
-        (TryRecv, Disconnected, Gone, Closed),
-        (Recv, Disconnected, Gone, Gone),
-    ],
-    &[
-        (Make, Done, Open, Open),
-        (SendMessage, Sent, Gone, Full),
-        (TryRecv, Received, Gone, Closed),
-        (TryRecv, Disconnected, Gone, Closed),
-        (RecvRef, Disconnected, Gone, Closed),
-        (RecvTimeout(Hour), Disconnected, Gone, Closed),
-    ],
+pub(super) const RECEIVED: &[&str; 3] = &[
+    "channel
+    S send = Ok | gone full
+    R recv = Ok(19) | gone gone",
+    "channel
+    S send = Ok | gone full
+    R ref = Ok(19) | gone closed
+    R ref = Err(RecvError) | gone closed
+    R try = Err(Disconnected) | gone closed
+    R recv = Err(RecvError) | gone gone",
+    "channel
+    S send = Ok | gone full
+    R try = Ok(19) | gone closed
+    R try = Err(Disconnected) | gone closed
+    R ref = Err(RecvError) | gone closed
+    R fartimeout = Err(Disconnected) | gone closed",
 ];
 
 /// Receivers whose message nobody receives, or that get none.
-pub(super) const UNRECEIVED: &[Life<'static>; 6] = &[
-    &[
-        (Make, Done, Open, Open),
-        (SendMessage, Sent, Gone, Full),
-        (DropReceiver, Done, Gone, Gone),
-    ],
-    &[
-        (Make, Done, Open, Open),
-        (DropReceiver, Done, Closed, Gone),
-        (SendMessage, Refused, Gone, Gone),
-    ],
-    &[
-        (Make, Done, Open, Open),
-        (DropReceiver, Done, Closed, Gone),
-        (SendOrTakeBack, Refused, Gone, Gone),
-    ],
-    &[
-        (Make, Done, Open, Open),
-        (DropSender, Done, Gone, Closed),
-        (DropReceiver, Done, Gone, Gone),
-    ],
-    &[
-        (Make, Done, Open, Open),
-        (DropReceiver, Done, Closed, Gone),
-        (DropSender, Done, Gone, Gone),
-    ],
-    &[
-        (Make, Done, Open, Open),
-        (DropSender, Done, Gone, Closed),
-        (RecvRef, Disconnected, Gone, Closed),
-        (Recv, Disconnected, Gone, Gone),
-    ],
+pub(super) const UNRECEIVED: &[&str; 6] = &[
+    "channel
+    S send = Ok | gone full
+    R drop = dropped | gone gone",
+    "channel
+    R drop = dropped | closed gone
+    S send = Err | error gone
+    S inner = 19 | error gone
+    S drop = dropped | gone gone",
+    "channel
+    R drop = dropped | closed gone
+    S send = Err | error gone
+    S into = 19 | gone gone",
+    "channel
+    S drop = dropped | gone closed
+    R drop = dropped | gone gone",
+    "channel
+    R drop = dropped | closed gone
+    S drop = dropped | gone gone",
+    "channel
+    S drop = dropped | gone closed
+    R ref = Err(RecvError) | gone closed
+    R recv = Err(RecvError) | gone gone",
 ];
 
 /// Receivers whose time is over before the sender acts. Their word shows that they wait only during a receive.
-pub(super) const OVER: &[Life<'static>; 5] = &[
-    &[
-        (Make, Done, Open, Open),
-        (TryRecv, NothingYet, Open, Open),
-        (RecvTimeout(Now), NothingYet, Open, Open),
-        (RecvDeadline(Past), NothingYet, Open, Open),
-        (RecvDeadline(Now), NothingYet, Open, Open),
-        (TryRecv, NothingYet, Open, Open),
-        (SendMessage, Sent, Gone, Full),
-        (RecvTimeout(Now), Received, Gone, Closed),
-        (RecvTimeout(Now), Disconnected, Gone, Closed),
-        (TryRecv, Disconnected, Gone, Closed),
-    ],
-    &[
-        (Make, Done, Open, Open),
-        (RecvTimeout(Now), NothingYet, Open, Open),
-        (SendMessage, Sent, Gone, Full),
-        (Recv, Received, Gone, Gone),
-    ],
-    &[
-        (Make, Done, Open, Open),
-        (RecvTimeout(Now), NothingYet, Open, Open),
-        (DropSender, Done, Gone, Closed),
-        (TryRecv, Disconnected, Gone, Closed),
-        (DropReceiver, Done, Gone, Gone),
-    ],
-    &[
-        (Make, Done, Open, Open),
-        (RecvTimeout(Now), NothingYet, Open, Open),
-        (DropReceiver, Done, Closed, Gone),
-        (SendMessage, Refused, Gone, Gone),
-    ],
-    &[
-        (Make, Done, Open, Open),
-        (RecvTimeout(Now), NothingYet, Open, Open),
-        (IntoFuture, Done, Open, Open),
-        (PollFuture, NothingYet, Open, Open),
-        (SendMessage, Sent, Gone, Full),
-        (PollFuture, Received, Gone, Closed),
-    ],
+pub(super) const OVER: &[&str; 5] = &[
+    "channel
+    R try = Err(Empty) | open open
+    R zerotimeout = Err(Timeout) | open open
+    R pastdeadline = Err(Timeout) | open open
+    R zerodeadline = Err(Timeout) | open open
+    R try = Err(Empty) | open open
+    S send = Ok | gone full
+    R zerotimeout = Ok(19) | gone closed
+    R zerotimeout = Err(Disconnected) | gone closed
+    R try = Err(Disconnected) | gone closed",
+    "channel
+    R zerotimeout = Err(Timeout) | open open
+    S send = Ok | gone full
+    R recv = Ok(19) | gone gone",
+    "channel
+    R zerotimeout = Err(Timeout) | open open
+    S drop = dropped | gone closed
+    R try = Err(Disconnected) | gone closed
+    R drop = dropped | gone gone",
+    "channel
+    R zerotimeout = Err(Timeout) | open open
+    R drop = dropped | closed gone
+    S send = Err | error gone
+    S inner = 19 | error gone
+    S drop = dropped | gone gone",
+    "channel
+    R zerotimeout = Err(Timeout) | open open
+    R future = future | open open
+    R poll1 = Pending | open open
+    S send = Ok | gone full
+    R poll1 = Ready(Ok(19)) | gone closed",
 ];
 
 /// Every life but those of `TIMED`.
-pub(super) const LIVES: &[&[Life<'static>]; 7] = &[
-    READY, TRIED, DROPPED, RAW, RECEIVED, UNRECEIVED, OVER,
-];
+const LIVES: &[&[&str]; 7] = &[READY, TRIED, DROPPED, RAW, RECEIVED, UNRECEIVED, OVER];
 
 /// Timed receives, which get what is there whenever their time is over.
-const TIMED: &[Step; 6] = &[
-    RecvTimeout(Past),
-    RecvTimeout(Hour),
-    RecvTimeout(Never),
-    RecvDeadline(Past),
-    RecvDeadline(Now),
-    RecvDeadline(Hour),
+const TIMED: &[&str; 6] = &[
+    "zerotimeout",
+    "fartimeout",
+    "forever",
+    "pastdeadline",
+    "zerodeadline",
+    "fardeadline",
 ];
 
-/// Makes the steps of a life, with a task of its own for polls, and drops the ends that are left. Fails
+/// Makes the steps of a life, with tasks of its own for polls, and drops the ends that are left. Fails
 /// unless each step returns what the life states, and the message then has no owner but the test.
 pub(super) fn live(
     rt: &(impl Wait + Clock + AllocGlobal + RandomSource + Abort),
-    life: Life<'_>,
+    life: &Life<'_>,
 ) -> io::Result<()> {
-    let task = MockTask::new(rt)?;
-    let mut ends = Ends::new(rt.alloc(), rt)?;
-    for (step, answer, _, _) in life {
-        assert_eq!(rt; ends.make(rt, &task, *step)?, *answer, "{step:?}");
+    let tasks = Tasks::new(rt)?;
+    let mut ends = Ends::open(rt.alloc(), rt, life)?;
+    for step in &life.steps {
+        let line = step.line;
+        let reply = ends.make(rt, &tasks, step.call)?;
+        assert!(rt; shows(&reply, step.reply), "{line}: {reply}");
     }
-    assert!(rt; ends.finish() == 1, "{life:?}");
+    let text = life.text;
+    assert!(rt; ends.finish() == 1, "{text}");
     Ok(())
 }
 
@@ -330,35 +263,48 @@ impl<'a, R: Clock> Clock for Counted<'a, R> {
     }
 }
 
-// The runtime lives as long as the receiver, and the message is in the channel where a look sees it.
+/// Makes the steps of a life. Fails unless each returns what the life states, and so do the looks after it; the
+/// runtime lives as long as the receiver, and the message is in the channel where a look sees it, or in its error.
+fn assert_looks(
+    rt: &(impl Wait + Clock + AllocGlobal + RandomSource + Abort),
+    text: &str,
+) -> Result<(), Fail> {
+    let alive = Arc::new(rt.alloc(), 0u8)?;
+    let tasks = Tasks::new(rt)?;
+    let life = read(rt.alloc(), text)?;
+    let counted = Counted {
+        rt,
+        _alive: Arc::try_clone(&alive)?,
+    };
+    let mut ends = Ends::open(rt.alloc(), counted, &life)?;
+    assert_eq!(rt; ends.looks(rt, &tasks), ("open", "open"), "{text}");
+    for step in &life.steps {
+        let line = step.line;
+        let reply = ends.make(rt, &tasks, step.call)?;
+        assert!(rt; shows(&reply, step.reply), "{line}: {reply}");
+        assert_eq!(rt; ends.looks(rt, &tasks), step.looks, "after {line}");
+        let (sender, receiver) = step.looks;
+        let message = if sender == "error" || receiver == "full" {
+            1
+        } else {
+            0
+        };
+        let runtime = if receiver == "gone" { 1 } else { 2 };
+        let owners = (ends.owners_inside(), Arc::strong_count(&alive));
+        assert_eq!(rt; owners, (message, runtime), "after {line}");
+    }
+    assert_eq!(rt;
+        (ends.finish(), Arc::strong_count(&alive)),
+        (1, 1),
+        "{text}"
+    );
+    Ok(())
+}
+
 #[test]
 fn the_looks_of_both_ends_and_what_they_own(rt: HostRuntime) -> Result<(), Fail> {
-    let alive = Arc::new(rt.alloc(), 0u8)?;
-    let task = MockTask::new(&rt)?;
     for life in LIVES.iter().copied().flatten() {
-        let counted = Counted {
-            rt: &rt,
-            _alive: Arc::try_clone(&alive)?,
-        };
-        let mut ends = Ends::new(rt.alloc(), counted)?;
-        for (number, (step, answer, sender, receiver)) in life.iter().enumerate() {
-            let found = ends.make(&rt, &task, *step)?;
-            let looks = (ends.sender_look(), ends.receiver_look());
-            assert_eq!(rt;
-                (found, looks),
-                (*answer, (*sender, *receiver)),
-                "step {number}, {step:?}"
-            );
-            let owners = (ends.owners_inside(), Arc::strong_count(&alive));
-            let message = if *receiver == Full { 1 } else { 0 };
-            let runtime = if *receiver == Gone { 1 } else { 2 };
-            assert_eq!(rt; owners, (message, runtime), "after step {number}, {step:?}");
-        }
-        assert_eq!(rt;
-            (ends.finish(), Arc::strong_count(&alive)),
-            (1, 1),
-            "{life:?}"
-        );
+        assert_looks(&rt, life)?;
     }
     Ok(())
 }
@@ -368,24 +314,53 @@ fn a_timed_receive_gets_what_is_there_whenever_its_time_is_over(
     rt: HostRuntime,
 ) -> Result<(), Fail> {
     for receive in TIMED {
-        let (receive, again) = (*receive, *receive);
-        live(
-            &rt,
-            &[
-                (Make, Done, Open, Open),
-                (SendMessage, Sent, Gone, Full),
-                (receive, Received, Gone, Closed),
-                (again, Disconnected, Gone, Closed),
-            ],
+        let sent = format!(in rt.alloc();
+            "channel
+            S send = Ok | gone full
+            R {receive} = Ok(19) | gone closed
+            R {receive} = Err(Disconnected) | gone closed"
         )?;
-        live(
-            &rt,
-            &[
-                (Make, Done, Open, Open),
-                (DropSender, Done, Gone, Closed),
-                (receive, Disconnected, Gone, Closed),
-            ],
+        live(&rt, &read(rt.alloc(), &sent)?)?;
+        let dropped = format!(in rt.alloc();
+            "channel
+            S drop = dropped | gone closed
+            R {receive} = Err(Disconnected) | gone closed"
         )?;
+        live(&rt, &read(rt.alloc(), &dropped)?)?;
     }
     Ok(())
+}
+
+fn live_by(
+    rt: &(impl Wait + Clock + AllocGlobal + RandomSource + Abort),
+    text: &str,
+) -> Result<(), Fail> {
+    Ok(live(rt, &read(rt.alloc(), text)?)?)
+}
+
+#[test]
+#[should_panic(expected = "R try = Ok(19) | gone open: Err(Empty)")]
+fn another_reply_ends_a_test(rt: HostRuntime) {
+    let _ = live_by(&rt, "channel\nR try = Ok(19) | gone open").report(&rt);
+}
+
+#[test]
+fn a_line_with_an_unknown_word_is_no_step(rt: HostRuntime) {
+    for line in [
+        "R tri = Ok(19) | gone open",
+        "R try Ok(19) | gone open",
+        "R try = Ok(19)",
+    ] {
+        let text = format!(in rt.alloc(); "channel\n    {line}")
+            .ok()
+            .expect(&rt, "memory");
+        let fault = read(rt.alloc(), &text).err();
+        assert_same(&rt, fault, Some(Fault::Unknown(line)));
+    }
+}
+
+#[test]
+#[should_panic(expected = "after R try = Err(Empty) | open full")]
+fn another_look_ends_a_test(rt: HostRuntime) {
+    let _ = assert_looks(&rt, "channel\nR try = Err(Empty) | open full").report(&rt);
 }

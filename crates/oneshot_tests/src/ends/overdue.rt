@@ -1,7 +1,8 @@
 //! Deadlines that pass during the sender's send or drop. After a lost wakeup, or with one wait more than
 //! wakes, this test would not end.
 
-use super::beside::{Act, Pace, Receive, assert_receives};
+use super::beside::{Calls, Pace, assert_receives};
+use oneshot_calls::{Ask, ReceiverCall, SenderCall};
 use std::io;
 use std::sync::atomic::AtomicU64;
 use std::test::Fail;
@@ -15,6 +16,10 @@ const FEWEST_ROUNDS: u64 = 1_000;
 /// For how many seconds each act is made in more than the fewest rounds.
 const SECONDS: u64 = 10;
 
+const SENDS: &[SenderCall] = &[SenderCall::Closed, SenderCall::Send];
+
+const DROPS: &[SenderCall] = &[SenderCall::Drop];
+
 /// Whether an act's time is over, and the fewest rounds are made.
 fn is_enough(rt: &impl Clock, first: Instant, round: u64) -> io::Result<bool> {
     let is_late = first.elapsed(rt)? > Duration::from_secs(SECONDS);
@@ -24,7 +29,7 @@ fn is_enough(rt: &impl Clock, first: Instant, round: u64) -> io::Result<bool> {
 // The limit is up to six microseconds, and the sender makes up to 399 loads.
 #[test]
 fn an_act_at_the_deadline_ends_the_receive(rt: HostRuntime) -> Result<(), Fail> {
-    for act in [Act::Send, Act::Drop] {
+    for sends in [SENDS, DROPS] {
         let first = Instant::now(&rt)?;
         for round in 0..ROUNDS {
             if is_enough(&rt, first, round)? {
@@ -32,12 +37,16 @@ fn an_act_at_the_deadline_ends_the_receive(rt: HostRuntime) -> Result<(), Fail> 
             }
             let here = AtomicU64::new(0);
             let limit = Duration::from_micros(round % 7);
-            let by = if round % 2 == 0 {
-                Receive::UntilDeadline(limit)
+            let timed = if round % 2 == 0 {
+                Ask::Deadline(limit)
             } else {
-                Receive::UntilTimeout(limit)
+                Ask::Timeout(limit)
             };
-            assert_receives(&rt, act, &Pace::Meet(&here, round % 400), by)?;
+            let calls = Calls {
+                sends,
+                receives: &[ReceiverCall::Ask(timed), ReceiverCall::Recv],
+            };
+            assert_receives(&rt, calls, &Pace::Meet(&here, round % 400))?;
         }
     }
     Ok(())

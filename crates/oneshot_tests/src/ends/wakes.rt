@@ -1,10 +1,10 @@
 //! Two tasks of one executor that wait for one future and for something else, and how often each is woken.
 
-use self::Deed::{First, Look, Second};
 use crate::asserts::{assert_same, assert_that};
 use futures::Future;
 use futures::executor::LocalPool;
 use futures::task::{Context, Poll, Source, Waker};
+use oneshot_calls::{Ask, ReceiverCall, Task, script};
 use oneshot_channel::{AsyncReceiver, Promise, TryRecvError, async_channel};
 use std::alloc::AllocError;
 use std::cell::Cell;
@@ -12,33 +12,22 @@ use std::process::Abort;
 use std::random::RandomSource;
 use std::test::Fail;
 
-/// What happens to a future before its sender acts.
-#[derive(Clone, Copy, Debug)]
-pub(crate) enum Deed {
-    /// The first task polls it.
-    First,
-    /// The second task polls it.
-    Second,
-    /// `try_recv`.
-    Look,
-}
-
-/// The deeds, and how often the sender's act after them wakes each task.
-pub(crate) type Waits = (&'static [Deed], [u64; 2]);
+/// The calls of a future before its sender acts, and how often that act wakes each task.
+pub(crate) type Waits = (&'static str, [u64; 2]);
 
 /// In no row does one task poll twice and then the other: that drops the spare copy of the first, which
 /// wakes it.
 pub(crate) const WAITS: &[Waits; 7] = &[
-    (&[First, First, First, First, First], [1, 0]),
-    (&[First, Second, First, Second, First, Second], [0, 1]),
-    (&[First, First, Look, First, Look, Look, First], [1, 0]),
-    (&[Look, First, Second, Look, First, Look, Look], [1, 0]),
-    (&[Look, Look, First, Look, Look, Look], [1, 0]),
-    (&[Second, Look, Second, Look, Second, Second], [0, 1]),
-    (&[Look, Look], [0, 0]),
+    ("poll1 poll1 poll1 poll1 poll1", [1, 0]),
+    ("poll1 poll2 poll1 poll2 poll1 poll2", [0, 1]),
+    ("poll1 poll1 try poll1 try try poll1", [1, 0]),
+    ("try poll1 poll2 try poll1 try try", [1, 0]),
+    ("try try poll1 try try try", [1, 0]),
+    ("poll2 try poll2 try poll2 poll2", [0, 1]),
+    ("try try", [0, 0]),
 ];
 
-/// More polls than any deed makes. A task that keeps waking itself makes this many.
+/// More polls than any call makes. A task that keeps waking itself makes this many.
 const MOST_POLLS: usize = 100;
 
 /// Where the future is while neither task polls it.
@@ -133,37 +122,47 @@ fn look<T: Drop, P: Promise<T>>(rt: &impl Abort, place: &Place<T, P>) {
     }
 }
 
-impl Deed {
-    /// Does the deed, and returns how often it wakes each task.
-    fn make<T: Drop, P: Promise<T>>(
-        self,
-        rt: &impl Abort,
-        [first, second]: &[Bell; 2],
-        place: &Place<T, P>,
-    ) -> [u64; 2] {
-        match self {
-            First => {
-                first.ring();
-                [1, 0]
-            }
-            Second => {
-                second.ring();
-                [0, 1]
-            }
-            Look => {
-                look(rt, place);
-                [0, 0]
-            }
+/// Makes a call, of which the executor's task makes a poll, and returns how often it wakes each task.
+fn make<T: Drop, P: Promise<T>>(
+    rt: &impl Abort,
+    [first, second]: &[Bell; 2],
+    place: &Place<T, P>,
+    call: ReceiverCall,
+) -> [u64; 2] {
+    match call {
+        ReceiverCall::Poll(Task::One) => {
+            first.ring();
+            [1, 0]
         }
+        ReceiverCall::Poll(Task::Two) => {
+            second.ring();
+            [0, 1]
+        }
+        ReceiverCall::Ask(Ask::Try) => {
+            look(rt, place);
+            [0, 0]
+        }
+        call => panic!(rt; "no task makes {call:?}"),
     }
 }
 
-/// Fails unless each task was woken so often since the last call, during these deeds.
-fn assert_wakes(rt: &impl Abort, [first, second]: &[Bell; 2], wakes: [u64; 2], deeds: &[Deed]) {
-    assert_eq!(rt; [first.count(), second.count()], wakes, "in {deeds:?}");
+/// Fails unless each task was woken so often since the last count, at this step of these calls: 0 is their beginning,
+/// and the step behind them the sender's.
+fn assert_wakes(
+    rt: &impl Abort,
+    [first, second]: &[Bell; 2],
+    wakes: [u64; 2],
+    step: usize,
+    calls: &str,
+) {
+    assert_eq!(rt;
+        [first.count(), second.count()],
+        wakes,
+        "at step {step} of {calls}"
+    );
 }
 
-/// Does the deeds, then the sender's `act`, and returns `future`. Fails at another count of wakes.
+/// Makes the calls, then the sender's `act`, and returns `future`. Fails at another count of wakes.
 pub(crate) fn waited_for<T: Drop, P: Promise<T>, F: FnOnce()>(
     rt: &(impl RandomSource + AllocGlobal + Abort),
     waits: &Waits,
@@ -172,19 +171,21 @@ pub(crate) fn waited_for<T: Drop, P: Promise<T>, F: FnOnce()>(
 ) -> Result<AsyncReceiver<T, (), P>, Fail>
     requires { F.IsAlwaysCallable act }
 {
-    let (deeds, woken) = waits;
+    let (calls, woken) = *waits;
     let place = Cell::new(Some(future));
     let bells = [Bell::new(), Bell::new()];
     let mut pool = listening(rt, &bells, &place)?;
-    assert_wakes(rt, &bells, [1, 1], &[]);
-    for (number, deed) in deeds.iter().enumerate() {
-        let wakes = deed.make(rt, &bells, &place);
+    assert_wakes(rt, &bells, [1, 1], 0, calls);
+    let mut step = 1usize;
+    for call in script::<ReceiverCall>(rt.alloc(), calls)? {
+        let wakes = make(rt, &bells, &place, call);
         pool.run_until_stalled(MOST_POLLS);
-        assert_wakes(rt, &bells, wakes, &deeds[..=number]);
+        assert_wakes(rt, &bells, wakes, step, calls);
+        step = step.saturating_add(1);
     }
     act();
     pool.run_until_stalled(MOST_POLLS);
-    assert_wakes(rt, &bells, *woken, deeds);
+    assert_wakes(rt, &bells, woken, step, calls);
     drop(pool);
     Ok(place.take().ok_or("the future is in its place")?)
 }
@@ -208,5 +209,5 @@ fn a_task_that_waits_beside_others_is_woken_by_the_sender_alone(
 #[test]
 #[should_panic(expected = "right: [0, 1]")]
 fn a_wake_that_nobody_made_ends_a_test(rt: HostRuntime) {
-    assert_wakes(&rt, &[Bell::new(), Bell::new()], [0, 1], &[]);
+    assert_wakes(&rt, &[Bell::new(), Bell::new()], [0, 1], 0, "");
 }
