@@ -163,15 +163,17 @@ def called_in(text):
                 called.update(calls_of(words, end, kinds), calls_of(["closed"], "S", {"S": "S"}),
                               calls_of(["closed", "full"], "R", kinds))
         else:
-            for end in "SR":
-                called.update(calls_of(script.split(), end, {"S": "S", "R": "R"}))
+            words = script.split()
+            called.update(calls_of(words, "S", {"S": "S"}),
+                          calls_of(words, "R", {"R": "R"}) or calls_of(words, "R", {"R": "future"}))
     return called
 
 
 def testing(call, kind, known):
-    """The files of this kind of test that make a call, themselves or by a script."""
+    """The files of this kind of test that make a call, themselves or by a script of real ends."""
     for crate in crates_of(kind):
-        has_scripts = "oneshot_calls" in crates()[crate]
+        uses = crates()[crate]
+        has_scripts = "oneshot_calls" in uses and ("oneshot_channel" in uses or "oneshot" in uses)
         for file in sources(crate):
             if call in made_in(code_of(file), known) or has_scripts and call in called_in(code_of(file)):
                 yield file

@@ -1,5 +1,6 @@
 //! Messages that a reply's text shows as a number.
 
+use oneshot_channel::reply::Length;
 use std::sync::Arc;
 
 /// A message that a reply's text shows as a number.
@@ -23,6 +24,13 @@ impl Numbered for i32 {
 impl Numbered for u128 {
     fn number(&self) -> u64 {
         u64::try_from(*self).unwrap_or(u64::MAX)
+    }
+}
+
+/// The length in bytes.
+impl Numbered for Length {
+    fn number(&self) -> u64 {
+        u64::try_from(self.bytes()).unwrap_or(u64::MAX)
     }
 }
 

@@ -1,10 +1,14 @@
 //! Makes the calls of a real receiver, and of the future that it becomes.
 
+ghost use Rattle.futures.specs.Task.{Keeps};
+
 use crate::future::{Tasks, call_future};
 use crate::receives::Receives;
 use crate::reply::{Bare, Reply};
 use crate::words::ReceiverCall;
-use oneshot_channel::AsyncReceiver;
+use futures::Future;
+use futures::task::Context;
+use oneshot_channel::{AsyncReceiver, Promise, Receiver};
 use std::random::RandomSource;
 use std::sync::Wait;
 use std::time::Clock;
@@ -16,20 +20,22 @@ pub struct Receiving<T, E: Receives<T>> {
     future: Option<AsyncReceiver<T, E::Rt, E::About>>,
 }
 
+impl<T: Drop, W: Wait + Clock + Drop, P: Promise<T>> Receiving<T, Receiver<T, W, P>> {
+    /// A future.
+    pub fn of_future(future: AsyncReceiver<T, W, P>) -> Receiving<T, Receiver<T, W, P>> {
+        Receiving {
+            receiver: None,
+            future: Some(future),
+        }
+    }
+}
+
 impl<T: Drop, E: Receives<T>> Receiving<T, E> {
     /// A receiver that is no future yet.
     pub fn new(receiver: E) -> Receiving<T, E> {
         Receiving {
             receiver: Some(receiver),
             future: None,
-        }
-    }
-
-    /// The future of a receiver.
-    pub fn of_future(future: AsyncReceiver<T, E::Rt, E::About>) -> Receiving<T, E> {
-        Receiving {
-            receiver: None,
-            future: Some(future),
         }
     }
 
@@ -64,6 +70,18 @@ impl<T: Drop, E: Receives<T>> Receiving<T, E> {
             Some(receiver) => self.call_receiver(rt, receiver, call),
             None => call_future(rt, tasks, &mut self.future, call),
         }
+    }
+
+    /// Polls the future for the task of `cx`, if it is there.
+    pub fn poll_in(&mut self, cx: &mut Context<'_>) -> Reply<T>
+        ensures { Keeps cx.old cx.new }
+    {
+        let Some(mut future) = self.future.take() else {
+            return Reply::Bare(Bare::Nothing);
+        };
+        let polled = future.poll(cx);
+        self.future = Some(future);
+        Reply::polled(polled)
     }
 
     fn call_receiver<R: Clock>(&mut self, rt: &R, mut receiver: E, call: ReceiverCall) -> Reply<T> {

@@ -94,7 +94,8 @@ impl<T> Reply<T> {
         Reply::Bare(if is_so { Bare::Yes } else { Bare::No })
     }
 
-    pub(crate) fn tried(tried: Result<T, TryRecvError>) -> Reply<T> {
+    /// The reply of `try_recv`.
+    pub fn tried(tried: Result<T, TryRecvError>) -> Reply<T> {
         match tried {
             Ok(message) => Reply::Message(Form::Received, message),
             Err(TryRecvError::Empty) => Reply::Bare(Bare::Empty),
@@ -102,7 +103,8 @@ impl<T> Reply<T> {
         }
     }
 
-    pub(crate) fn timed(received: Result<T, RecvTimeoutError>) -> Reply<T> {
+    /// The reply of a receive with a deadline.
+    pub fn timed(received: Result<T, RecvTimeoutError>) -> Reply<T> {
         match received {
             Ok(message) => Reply::Message(Form::Received, message),
             Err(RecvTimeoutError::Timeout) => Reply::Bare(Bare::Timeout),
@@ -110,14 +112,16 @@ impl<T> Reply<T> {
         }
     }
 
-    pub(crate) fn received(received: Result<T, RecvError>) -> Reply<T> {
+    /// The reply of a receive that waits without end.
+    pub fn received(received: Result<T, RecvError>) -> Reply<T> {
         match received {
             Ok(message) => Reply::Message(Form::Received, message),
             Err(RecvError) => Reply::Bare(Bare::Ended),
         }
     }
 
-    pub(crate) fn polled(polled: Poll<Result<T, RecvError>>) -> Reply<T> {
+    /// The reply of a poll.
+    pub fn polled(polled: Poll<Result<T, RecvError>>) -> Reply<T> {
         match polled {
             Poll::Ready(Ok(message)) => Reply::Message(Form::Ready, message),
             Poll::Ready(Err(RecvError)) => Reply::Bare(Bare::ReadyEnded),

@@ -126,11 +126,7 @@ pub(super) fn outcome_of<
         }
         By::Future(receives) => {
             let (sender, future) = async_channel(rt, rt.alloc())?;
-            (
-                receives,
-                sender,
-                Receiving::<T, Receiver<T, &R>>::of_future(future),
-            )
+            (receives, sender, Receiving::of_future(future))
         }
     };
     let receives = script::<ReceiverCall>(rt.alloc(), receives)?;

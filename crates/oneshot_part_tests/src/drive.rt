@@ -6,4 +6,3 @@ mod polls;
 mod receiver;
 mod sender;
 mod steps;
-mod turns;

@@ -1,18 +1,33 @@
-//! A receiver over a ground in memory, driven by a list of what it and its sender do.
+//! The life of a receiver or of a future over a ground in memory as text. Its first line is `channel` or
+//! `async_channel`. Each further line is a deed, a call's reply, and after `|` what the receiver's hand has, which
+//! begins with 9, or the counts of the future's tasks.
 
+ghost use Rattle.std.specs.Prelude.{◌≡◌};
 ghost use Rattle.oneshot_machine.specs.Logs.{receiver_of};
 ghost use Rattle.oneshot_drive.specs.BetweenCalls.{AtRest, IsReady};
+ghost use Rattle.oneshot_drive.specs.Polls.{IsPolled};
 
+use crate::asserts::assert_same;
 use crate::drive::steps::steps_of;
-use oneshot_drive::{drop_receiver, recv, recv_deadline, recv_ref, recv_timeout, try_recv};
-use oneshot_errors::{RecvError, RecvTimeoutError, TryRecvError};
-use oneshot_memory::MemoryReceiver;
-use std::alloc::{AllocError, Global};
+use oneshot_calls::{Ask, Bare, Call, ReceiverCall, Reply, Task};
+use oneshot_drive::{
+    async_try_recv, drop_async, drop_receiver, poll, recv, recv_deadline, recv_ref, recv_timeout,
+    try_recv,
+};
+use oneshot_memory::{MemoryFuture, MemoryReceiver, MemoryTask, Wakes};
+use std::alloc::{AllocError, AllocGlobal, Global};
+use std::process::Abort;
 use std::sync::Wait;
+use std::test::Fail;
+use std::time::Duration;
 
-/// What a receiver does, or what happens beside it.
+/// The lines of a life, and all steps of the receiver or of the future.
+pub(crate) type Life = (&'static str, &'static str);
+
+/// What a receiver or a future does, or what happens beside it.
 #[derive(Clone, Copy)]
-pub(crate) enum Deed {
+enum Deed {
+    Calls(ReceiverCall),
     /// The sender sends 7.
     Sends,
     /// The sender is dropped.
@@ -23,77 +38,81 @@ pub(crate) enum Deed {
     WillGo(u64, u64),
     /// The deadline will be over after this many readings of the clock. Without this deed it is over at once.
     OverAfter(u64),
-    TryRecv,
-    RecvRef,
-    RecvDeadline,
-    RecvTimeout(bool),
+    /// From now on each copy of a task's waker is refused.
+    Refuses,
 }
 
-/// How a list of deeds ends.
-#[derive(Clone, Copy)]
-pub(crate) enum Last {
-    Stays,
-    Recv,
-    Drop,
+/// A line of a life.
+struct Line<'a> {
+    text: &'a str,
+    deed: Deed,
+    reply: &'a str,
+    has: &'a str,
 }
 
-/// What came of a list of deeds.
-#[derive(Drop)]
-pub(crate) struct Outcome {
-    /// The answers in order.
-    pub(crate) answers: String,
-    /// What is in the receiver's hand, which begins with 9.
-    pub(crate) hand: Option<u8>,
-    /// The receiver's steps.
-    pub(crate) steps: String,
-}
-
-/// Does `deeds` with a new receiver, and then `last`.
-pub(crate) fn outcome_of<R: Wait>(
-    rt: &R,
-    alloc: Global,
-    deeds: &[Deed],
-    last: Last,
-) -> Result<Outcome, AllocError> {
-    let mut g = MemoryReceiver::new(rt, alloc);
-    let mut hand = Some(9);
-    let mut answers = String::new(alloc);
-    for deed in deeds {
-        let answer = perform(rt, &mut g, &mut hand, *deed);
-        tell(&mut answers, &answer)?;
-    }
-    match last {
-        Last::Stays => {}
-        Last::Recv => tell(&mut answers, &Answer::Waited(recv(&mut g, rt, &mut hand)))?,
-        Last::Drop => drop_receiver(&mut g),
-    }
-    let steps = steps_of(alloc, g.events())?;
-    Ok(Outcome {
-        answers,
-        hand,
-        steps,
+fn read(text: &str) -> Option<Line<'_>> {
+    let text = text.trim_ascii();
+    let (done, has) = text.split_once(" | ")?;
+    let (deed, reply) = match done.split_once(" = ") {
+        Some((call, reply)) => (read_call(call)?, reply),
+        None => (read_beside(done)?, Bare::Nothing.text()),
+    };
+    Some(Line {
+        text,
+        deed,
+        reply,
+        has,
     })
 }
 
-/// What a deed returns.
-#[derive(Drop)]
-enum Answer {
-    Nothing,
-    Tried(Result<u64, TryRecvError>),
-    Waited(Result<u64, RecvError>),
-    Timed(Result<u64, RecvTimeoutError>),
+fn read_call(text: &str) -> Option<Deed> {
+    match Call::of_text(text)? {
+        Call::Receiver(call) => Some(Deed::Calls(call)),
+        Call::Sender(_) => None,
+    }
 }
 
-fn perform<R: Wait>(
-    rt: &R,
-    g: &mut MemoryReceiver<'_, u64, u8, R>,
-    hand: &mut Option<u8>,
+/// Reads what happens beside a receiver. `S send in 3 for 1`: the sender will send after 3 pauses, and linger for 1.
+fn read_beside(text: &str) -> Option<Deed> {
+    let Some((deed, times)) = text.split_once(" in ") else {
+        return match text {
+            "S send" => Some(Deed::Sends),
+            "S drop" => Some(Deed::Goes),
+            "refuse" => Some(Deed::Refuses),
+            _ => None,
+        };
+    };
+    let (first, lingers) = times.split_once(" for ").unwrap_or((times, "0"));
+    let (first, lingers) = (first.parse::<u64>().ok()?, lingers.parse::<u64>().ok()?);
+    match deed {
+        "S send" => Some(Deed::WillSend(first, lingers)),
+        "S drop" => Some(Deed::WillGo(first, lingers)),
+        "over" => Some(Deed::OverAfter(first)),
+        _ => None,
+    }
+}
+
+impl Line<'_> {
+    /// Fails unless the line states this reply, and that the life then has this.
+    fn assert<R: Abort + AllocGlobal>(
+        &self,
+        rt: &R,
+        reply: Reply<u64>,
+        has: &str,
+    ) -> Result<(), AllocError> {
+        let reply = format!(in rt.alloc(); "{reply}")?;
+        let line = self.text;
+        assert_eq!(rt; (reply.as_str(), has), (self.reply, self.has), "{line}");
+        Ok(())
+    }
+}
+
+/// Has happen what is no call.
+fn happen<W: Drop + Wakes, R: Wait>(
+    g: &mut MemoryReceiver<'_, u64, W, R>,
     deed: Deed,
-) -> Answer
-    requires rests { AtRest g.old.state }
-    requires ready { IsReady hand.old (receiver_of g.old.state.log) }
-    ensures rests { AtRest g.new.state }
-    ensures ready { IsReady hand.new (receiver_of g.new.state.log) }
+) -> Reply<u64>
+    ensures { g.new.state ≡ g.old.state }
 {
     match deed {
         Deed::Sends => g.sender_sends(7),
@@ -107,27 +126,149 @@ fn perform<R: Wait>(
             g.sender_will_linger(lingers);
         }
         Deed::OverAfter(reads) => g.deadline_will_be_over(reads),
-        Deed::TryRecv => return Answer::Tried(try_recv(g)),
-        Deed::RecvRef => return Answer::Waited(recv_ref(g, rt, hand)),
-        Deed::RecvDeadline => return Answer::Timed(recv_deadline(g, rt, hand)),
-        Deed::RecvTimeout(representable) => {
-            return Answer::Timed(recv_timeout(g, rt, hand, representable));
-        }
+        Deed::Calls(_) | Deed::Refuses => {}
     }
-    Answer::Nothing
+    Reply::Bare(Bare::Nothing)
 }
 
-fn tell(answers: &mut String, answer: &Answer) -> Result<(), AllocError> {
-    if matches!(answer, Answer::Nothing) {
-        return Ok(());
+/// Does a deed after which the receiver is still there. `forever` is a timeout that no instant can hold.
+fn perform<R: Wait>(
+    rt: &R,
+    g: &mut MemoryReceiver<'_, u64, u8, R>,
+    hand: &mut Option<u8>,
+    deed: Deed,
+) -> Reply<u64>
+    requires rests { AtRest g.old.state }
+    requires ready { IsReady hand.old (receiver_of g.old.state.log) }
+    ensures rests { AtRest g.new.state }
+    ensures ready { IsReady hand.new (receiver_of g.new.state.log) }
+{
+    let Deed::Calls(ReceiverCall::Ask(call)) = deed else {
+        return happen(g, deed);
+    };
+    match call {
+        Ask::Try => Reply::tried(try_recv(g)),
+        Ask::Ref => Reply::received(recv_ref(g, rt, hand)),
+        Ask::Deadline(_) => Reply::timed(recv_deadline(g, rt, hand)),
+        Ask::Timeout(time) => Reply::timed(recv_timeout(g, rt, hand, time < Duration::MAX)),
+        Ask::Closed | Ask::Full | Ask::Tries | Ask::PastDeadline => Reply::Bare(Bare::Nothing),
     }
-    if !answers.is_empty() {
-        answers.push_str(", ")?;
+}
+
+/// Does a receiver's deeds, of which the last may end it, and returns its steps.
+fn receive<R: Wait + Abort + AllocGlobal>(
+    rt: &R,
+    lines: &str,
+    last: &str,
+) -> Result<String, Fail> {
+    let mut g = MemoryReceiver::new(rt, rt.alloc());
+    let mut hand = Some(9);
+    for line in lines.lines() {
+        let line = read(line).ok_or("a line of a life")?;
+        let reply = perform(rt, &mut g, &mut hand, line.deed);
+        line.assert(rt, reply, &format!(in rt.alloc(); "{hand:?}")?)?;
     }
-    match answer {
-        Answer::Nothing => Ok(()),
-        Answer::Tried(answer) => write!(answers, "{answer:?}"),
-        Answer::Waited(answer) => write!(answers, "{answer:?}"),
-        Answer::Timed(answer) => write!(answers, "{answer:?}"),
+    let last = read(last).ok_or("the last line of a life")?;
+    let reply = match last.deed {
+        Deed::Calls(ReceiverCall::Recv) => Reply::received(recv(&mut g, rt, &mut hand)),
+        Deed::Calls(ReceiverCall::Drop) => {
+            drop_receiver(&mut g);
+            Reply::Bare(Bare::Dropped)
+        }
+        deed => perform(rt, &mut g, &mut hand, deed),
+    };
+    last.assert(rt, reply, &format!(in rt.alloc(); "{hand:?}")?)?;
+    Ok(steps_of(rt.alloc(), g.events())?)
+}
+
+type Future<'a, 't, R> = MemoryFuture<'a, 't, u64, R>;
+
+/// Does a deed after which the future is still there.
+fn perform_polled<'t, R: Wait>(
+    future: &mut Future<'_, 't, R>,
+    tasks: &'t [MemoryTask; 2],
+    deed: Deed,
+) -> Reply<u64>
+    requires { IsPolled future.old.receiver.state }
+    ensures { IsPolled future.new.receiver.state }
+{
+    match deed {
+        Deed::Calls(ReceiverCall::Poll(task)) => {
+            future.task = task_of(tasks, task);
+            Reply::polled(poll(future))
+        }
+        Deed::Calls(ReceiverCall::Ask(Ask::Try)) => Reply::tried(async_try_recv(future)),
+        Deed::Refuses => {
+            future.refuses = true;
+            Reply::Bare(Bare::Nothing)
+        }
+        deed => happen(&mut future.receiver, deed),
     }
+}
+
+fn task_of([first, second]: &[MemoryTask; 2], task: Task) -> &MemoryTask {
+    match task {
+        Task::One => first,
+        Task::Two => second,
+    }
+}
+
+/// How many copies of each task's waker were made, how many were used or dropped, and the task's wakes.
+fn counts_of(alloc: Global, tasks: &[MemoryTask; 2]) -> Result<String, AllocError> {
+    let [first, second] = tasks;
+    let (first, second) = (counts(first), counts(second));
+    format!(in alloc; "{first:?} {second:?}")
+}
+
+fn counts(task: &MemoryTask) -> (u64, u64, u64) {
+    (task.copies(), task.ended(), task.wakes())
+}
+
+/// Does a future's deeds, of which the last may drop it, and returns its steps.
+fn poll_all<R: Wait + Abort + AllocGlobal>(
+    rt: &R,
+    lines: &str,
+    last: &str,
+) -> Result<String, Fail> {
+    let tasks = [MemoryTask::new(), MemoryTask::new()];
+    let mut future = Future::new(rt, rt.alloc(), &tasks[0]);
+    for line in lines.lines() {
+        let line = read(line).ok_or("a line of a life")?;
+        let reply = perform_polled(&mut future, &tasks, line.deed);
+        line.assert(rt, reply, &counts_of(rt.alloc(), &tasks)?)?;
+    }
+    let last = read(last).ok_or("the last line of a life")?;
+    let reply = match last.deed {
+        Deed::Calls(ReceiverCall::Drop) => {
+            drop_async(&mut future);
+            Reply::Bare(Bare::Dropped)
+        }
+        deed => perform_polled(&mut future, &tasks, deed),
+    };
+    last.assert(rt, reply, &counts_of(rt.alloc(), &tasks)?)?;
+    Ok(steps_of(rt.alloc(), future.receiver.events())?)
+}
+
+fn assert_life<R: Wait + Abort + AllocGlobal>(rt: &R, life: &Life) -> Result<(), Fail> {
+    let (text, steps) = *life;
+    let (kind, lines) = text.split_once('\n').ok_or("a life of no line")?;
+    let (lines, last) = lines.rsplit_once('\n').unwrap_or(("", lines));
+    let made = match kind {
+        "channel" => receive(rt, lines, last)?,
+        "async_channel" => poll_all(rt, lines, last)?,
+        _ => return Err(Fail::new("a life of no channel")),
+    };
+    assert_same(rt, made.as_str(), steps);
+    Ok(())
+}
+
+/// Fails unless each line of each life has its reply and leaves what it states, and each life has its steps.
+pub(crate) fn assert_lives<R: Wait + Abort + AllocGlobal>(
+    rt: &R,
+    lives: &[Life],
+) -> Result<(), Fail> {
+    for life in lives {
+        assert_life(rt, life)?;
+    }
+    Ok(())
 }

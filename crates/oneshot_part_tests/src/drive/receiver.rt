@@ -1,318 +1,285 @@
 //! The receiver's drivers, with what the sender does meanwhile.
 
-use crate::drive::deeds::Deed::{
-    Goes, OverAfter, RecvDeadline, RecvRef, RecvTimeout, Sends, TryRecv, WillGo, WillSend,
-};
-use crate::drive::deeds::{Deed, Last, outcome_of};
-use std::alloc::AllocGlobal;
-use std::process::{Abort, Termination};
-use std::sync::Wait;
+use crate::drive::deeds::{Life, assert_lives};
+use std::process::Termination;
 use std::test::Fail;
 
-/// The deeds and the last one; then the answers, the hand and the steps.
-type Case = (
-    &'static [Deed],
-    Last,
-    &'static str,
-    Option<u8>,
-    &'static str,
-);
-
-fn assert_all<R: Wait + Abort + AllocGlobal>(rt: &R, cases: &[Case]) -> Result<(), Fail> {
-    for (number, (deeds, last, answers, hand, steps)) in cases.iter().enumerate() {
-        let outcome = outcome_of(rt, rt.alloc(), deeds, *last)?;
-        assert_eq!(rt; outcome.answers.as_str(), *answers, "case {number}");
-        assert_eq!(rt; outcome.hand, *hand, "case {number}");
-        assert_eq!(rt; outcome.steps.as_str(), *steps, "case {number}");
-    }
-    Ok(())
-}
-
-const TRIES: &[Case; 2] = &[
+const TRIES: &[Life; 2] = &[
     (
-        &[TryRecv, Sends, TryRecv, TryRecv],
-        Last::Stays,
-        "Err(Empty), Ok(7), Err(Disconnected)",
-        Some(9),
+        "channel
+        R try = Err(Empty) | Some(9)
+        S send | Some(9)
+        R try = Ok(7) | Some(9)
+        R try = Err(Disconnected) | Some(9)",
         "load:3, load:4, store 2, take-message, load:2",
     ),
     (
-        &[Goes, TryRecv],
-        Last::Drop,
-        "Err(Disconnected)",
-        Some(9),
+        "channel
+        S drop | Some(9)
+        R try = Err(Disconnected) | Some(9)
+        R drop = dropped | Some(9)",
         "load:2, swap 2:2, free",
     ),
 ];
 
 #[test]
 fn try_recv_waits_for_nothing(rt: HostRuntime) -> Result<(), Fail> {
-    assert_all(&rt, TRIES)
+    assert_lives(&rt, TRIES)
 }
 
-const DROPS: &[Case; 3] = &[
-    (&[], Last::Drop, "", Some(9), "swap 2:3"),
+const DROPS: &[Life; 3] = &[
     (
-        &[Sends],
-        Last::Drop,
-        "",
-        Some(9),
+        "channel
+        R drop = dropped | Some(9)",
+        "swap 2:3",
+    ),
+    (
+        "channel
+        S send | Some(9)
+        R drop = dropped | Some(9)",
         "swap 2:4, drop-message, free",
     ),
-    (&[Goes], Last::Drop, "", Some(9), "swap 2:2, free"),
+    (
+        "channel
+        S drop | Some(9)
+        R drop = dropped | Some(9)",
+        "swap 2:2, free",
+    ),
 ];
 
 #[test]
 fn the_receivers_drop_frees_unless_the_sender_is_here(rt: HostRuntime) -> Result<(), Fail> {
-    assert_all(&rt, DROPS)
+    assert_lives(&rt, DROPS)
 }
 
-const WAITS_BY_REFERENCE: &[Case; 7] = &[
+const WAITS_BY_REFERENCE: &[Life; 7] = &[
     (
-        &[Sends, RecvRef, RecvRef],
-        Last::Stays,
-        "Ok(7), Err(RecvError)",
-        Some(9),
+        "channel
+        S send | Some(9)
+        R ref = Ok(7) | Some(9)
+        R ref = Err(RecvError) | Some(9)",
         "load:4, store 2, take-message, load:2",
     ),
     (
-        &[Goes, RecvRef],
-        Last::Stays,
-        "Err(RecvError)",
-        Some(9),
+        "channel
+        S drop | Some(9)
+        R ref = Err(RecvError) | Some(9)",
         "load:2",
     ),
     (
-        &[WillSend(3, 0), RecvRef, RecvRef],
-        Last::Stays,
-        "Ok(7), Err(RecvError)",
-        None,
+        "channel
+        S send in 3 | Some(9)
+        R ref = Ok(7) | None
+        R ref = Err(RecvError) | None",
         "load:3, write-waker, swap 0:3, park spurious, load:0, park spurious, load:0, \
         park token-, load:4, store 2, take-message, load:2",
     ),
     (
-        &[WillSend(1, 1), RecvRef],
-        Last::Stays,
-        "Ok(7)",
-        None,
+        "channel
+        S send in 1 for 1 | Some(9)
+        R ref = Ok(7) | None",
         "load:3, write-waker, swap 0:3, park spurious, load:1, park token-, load:4, \
         store 2, take-message",
     ),
     (
-        &[WillGo(1, 0), RecvRef],
-        Last::Stays,
-        "Err(RecvError)",
-        None,
+        "channel
+        S drop in 1 | Some(9)
+        R ref = Err(RecvError) | None",
         "load:3, write-waker, swap 0:3, park token-, load:2",
     ),
     // The swap finds that the sender has acted, and the receiver withdraws its waker.
     (
-        &[WillSend(0, 0), RecvRef],
-        Last::Stays,
-        "Ok(7)",
-        Some(9),
+        "channel
+        S send in 0 | Some(9)
+        R ref = Ok(7) | Some(9)",
         "load:3, write-waker, swap 0:4, withdraw, store 2, take-message",
     ),
     (
-        &[WillGo(0, 0), RecvRef, TryRecv],
-        Last::Stays,
-        "Err(RecvError), Err(Disconnected)",
-        Some(9),
+        "channel
+        S drop in 0 | Some(9)
+        R ref = Err(RecvError) | Some(9)
+        R try = Err(Disconnected) | Some(9)",
         "load:3, write-waker, swap 0:2, withdraw, store 2, load:2",
     ),
 ];
 
 #[test]
 fn recv_ref_waits_for_the_sender(rt: HostRuntime) -> Result<(), Fail> {
-    assert_all(&rt, WAITS_BY_REFERENCE)
+    assert_lives(&rt, WAITS_BY_REFERENCE)
 }
 
-const WAITS_BY_VALUE: &[Case; 6] = &[
+const WAITS_BY_VALUE: &[Life; 6] = &[
     (
-        &[Sends],
-        Last::Recv,
-        "Ok(7)",
-        Some(9),
+        "channel
+        S send | Some(9)
+        R recv = Ok(7) | Some(9)",
         "load:4, take-message, free",
     ),
     (
-        &[Goes],
-        Last::Recv,
-        "Err(RecvError)",
-        Some(9),
+        "channel
+        S drop | Some(9)
+        R recv = Err(RecvError) | Some(9)",
         "load:2, free",
     ),
     (
-        &[WillSend(2, 0)],
-        Last::Recv,
-        "Ok(7)",
-        None,
+        "channel
+        S send in 2 | Some(9)
+        R recv = Ok(7) | None",
         "load:3, write-waker, swap 0:3, park spurious, load:0, park token-, load:4, \
         take-message, free",
     ),
     (
-        &[WillGo(1, 0)],
-        Last::Recv,
-        "Err(RecvError)",
-        None,
+        "channel
+        S drop in 1 | Some(9)
+        R recv = Err(RecvError) | None",
         "load:3, write-waker, swap 0:3, park token-, load:2, free",
     ),
     (
-        &[WillSend(0, 0)],
-        Last::Recv,
-        "Ok(7)",
-        Some(9),
+        "channel
+        S send in 0 | Some(9)
+        R recv = Ok(7) | Some(9)",
         "load:3, write-waker, swap 0:4, withdraw, take-message, free",
     ),
     (
-        &[WillGo(0, 0)],
-        Last::Recv,
-        "Err(RecvError)",
-        Some(9),
+        "channel
+        S drop in 0 | Some(9)
+        R recv = Err(RecvError) | Some(9)",
         "load:3, write-waker, swap 0:2, withdraw, free",
     ),
 ];
 
 #[test]
 fn recv_waits_for_the_sender_and_frees(rt: HostRuntime) -> Result<(), Fail> {
-    assert_all(&rt, WAITS_BY_VALUE)
+    assert_lives(&rt, WAITS_BY_VALUE)
 }
 
-const WAITS_UNTIL_A_DEADLINE: &[Case; 9] = &[
+const WAITS_UNTIL_A_DEADLINE: &[Life; 9] = &[
     (
-        &[Sends, RecvDeadline, RecvDeadline],
-        Last::Stays,
-        "Ok(7), Err(Disconnected)",
-        Some(9),
+        "channel
+        S send | Some(9)
+        R deadline = Ok(7) | Some(9)
+        R deadline = Err(Disconnected) | Some(9)",
         "load:4, store 2, take-message, load:2",
     ),
     (
-        &[Goes, RecvDeadline],
-        Last::Stays,
-        "Err(Disconnected)",
-        Some(9),
+        "channel
+        S drop | Some(9)
+        R deadline = Err(Disconnected) | Some(9)",
         "load:2",
     ),
     (
-        &[RecvDeadline],
-        Last::Stays,
-        "Err(Timeout)",
-        Some(9),
+        "channel
+        R deadline = Err(Timeout) | Some(9)",
         "load:3, write-waker, swap 0:3, clock over, swap 3:0, withdraw",
     ),
     (
-        &[OverAfter(1), RecvDeadline],
-        Last::Stays,
-        "Err(Timeout)",
-        Some(9),
+        "channel
+        over in 1 | Some(9)
+        R deadline = Err(Timeout) | Some(9)",
         "load:3, write-waker, swap 0:3, clock left, park spurious, load:0, clock over, \
         swap 3:0, withdraw",
     ),
     (
-        &[OverAfter(9), WillSend(2, 0), RecvDeadline],
-        Last::Stays,
-        "Ok(7)",
-        None,
+        "channel
+        over in 9 | Some(9)
+        S send in 2 | Some(9)
+        R deadline = Ok(7) | None",
         "load:3, write-waker, swap 0:3, clock left, park token-, load:4, store 2, \
         take-message",
     ),
     (
-        &[OverAfter(9), WillGo(4, 0), RecvDeadline],
-        Last::Stays,
-        "Err(Disconnected)",
-        None,
+        "channel
+        over in 9 | Some(9)
+        S drop in 4 | Some(9)
+        R deadline = Err(Disconnected) | None",
         "load:3, write-waker, swap 0:3, clock left, park spurious, load:0, clock left, \
         park token-, load:2",
     ),
     (
-        &[OverAfter(9), WillSend(2, 2), RecvDeadline],
-        Last::Stays,
-        "Ok(7)",
-        None,
+        "channel
+        over in 9 | Some(9)
+        S send in 2 for 2 | Some(9)
+        R deadline = Ok(7) | None",
         "load:3, write-waker, swap 0:3, clock left, park spurious, load:1, clock left, \
         park token-, load:4, store 2, take-message",
     ),
     (
-        &[WillSend(0, 0), RecvDeadline],
-        Last::Stays,
-        "Ok(7)",
-        Some(9),
+        "channel
+        S send in 0 | Some(9)
+        R deadline = Ok(7) | Some(9)",
         "load:3, write-waker, swap 0:4, withdraw, store 2, take-message",
     ),
     (
-        &[WillGo(0, 0), RecvDeadline],
-        Last::Stays,
-        "Err(Disconnected)",
-        Some(9),
+        "channel
+        S drop in 0 | Some(9)
+        R deadline = Err(Disconnected) | Some(9)",
         "load:3, write-waker, swap 0:2, withdraw, store 2",
     ),
 ];
 
 #[test]
 fn recv_deadline_waits_until_its_deadline(rt: HostRuntime) -> Result<(), Fail> {
-    assert_all(&rt, WAITS_UNTIL_A_DEADLINE)
+    assert_lives(&rt, WAITS_UNTIL_A_DEADLINE)
 }
 
-const DEADLINES_THAT_COME_TOO_LATE: &[Case; 4] = &[
+const DEADLINES_THAT_COME_TOO_LATE: &[Life; 4] = &[
     (
-        &[WillSend(1, 0), RecvDeadline],
-        Last::Stays,
-        "Ok(7)",
-        None,
+        "channel
+        S send in 1 | Some(9)
+        R deadline = Ok(7) | None",
         "load:3, write-waker, swap 0:3, clock over, swap 3:4, store 2, take-message",
     ),
     (
-        &[WillGo(1, 0), RecvDeadline, TryRecv],
-        Last::Stays,
-        "Err(Disconnected), Err(Disconnected)",
-        None,
+        "channel
+        S drop in 1 | Some(9)
+        R deadline = Err(Disconnected) | None
+        R try = Err(Disconnected) | None",
         "load:3, write-waker, swap 0:3, clock over, swap 3:2, store 2, load:2",
     ),
     // The sender is about to finish, and the receiver waits for it.
     (
-        &[WillSend(1, 2), RecvDeadline],
-        Last::Stays,
-        "Ok(7)",
-        None,
+        "channel
+        S send in 1 for 2 | Some(9)
+        R deadline = Ok(7) | None",
         "load:3, write-waker, swap 0:3, clock over, swap 3:1, park spurious, load:3, \
         park token-, load:4, store 2, take-message",
     ),
     (
-        &[WillGo(1, 1), RecvDeadline],
-        Last::Stays,
-        "Err(Disconnected)",
-        None,
+        "channel
+        S drop in 1 for 1 | Some(9)
+        R deadline = Err(Disconnected) | None",
         "load:3, write-waker, swap 0:3, clock over, swap 3:1, park token-, load:2",
     ),
 ];
 
 #[test]
 fn a_deadline_runs_out_over_what_the_sender_did(rt: HostRuntime) -> Result<(), Fail> {
-    assert_all(&rt, DEADLINES_THAT_COME_TOO_LATE)
+    assert_lives(&rt, DEADLINES_THAT_COME_TOO_LATE)
 }
 
-const AFTER_A_DEADLINE: &[Case; 3] = &[
+const AFTER_A_DEADLINE: &[Life; 3] = &[
     (
-        &[RecvDeadline, TryRecv, Sends, TryRecv],
-        Last::Stays,
-        "Err(Timeout), Err(Empty), Ok(7)",
-        Some(9),
+        "channel
+        R deadline = Err(Timeout) | Some(9)
+        R try = Err(Empty) | Some(9)
+        S send | Some(9)
+        R try = Ok(7) | Some(9)",
         "load:3, write-waker, swap 0:3, clock over, swap 3:0, withdraw, load:3, load:4, \
         store 2, take-message",
     ),
     (
-        &[WillGo(3, 0), RecvDeadline, RecvRef],
-        Last::Stays,
-        "Err(Timeout), Err(RecvError)",
-        None,
+        "channel
+        S drop in 3 | Some(9)
+        R deadline = Err(Timeout) | Some(9)
+        R ref = Err(RecvError) | None",
         "load:3, write-waker, swap 0:3, clock over, swap 3:0, withdraw, load:3, \
         write-waker, swap 0:3, park token-, load:2",
     ),
     (
-        &[RecvDeadline, Sends],
-        Last::Drop,
-        "Err(Timeout)",
-        Some(9),
+        "channel
+        R deadline = Err(Timeout) | Some(9)
+        S send | Some(9)
+        R drop = dropped | Some(9)",
         "load:3, write-waker, swap 0:3, clock over, swap 3:0, withdraw, swap 2:4, \
         drop-message, free",
     ),
@@ -320,37 +287,33 @@ const AFTER_A_DEADLINE: &[Case; 3] = &[
 
 #[test]
 fn a_receiver_goes_on_after_its_deadline(rt: HostRuntime) -> Result<(), Fail> {
-    assert_all(&rt, AFTER_A_DEADLINE)
+    assert_lives(&rt, AFTER_A_DEADLINE)
 }
 
-const TIMEOUTS: &[Case; 4] = &[
+const TIMEOUTS: &[Life; 4] = &[
     (
-        &[Sends, RecvTimeout(true)],
-        Last::Stays,
-        "Ok(7)",
-        Some(9),
+        "channel
+        S send | Some(9)
+        R timeout = Ok(7) | Some(9)",
         "clock over, load:4, store 2, take-message",
     ),
     (
-        &[Goes, RecvTimeout(false)],
-        Last::Stays,
-        "Err(Disconnected)",
-        Some(9),
+        "channel
+        S drop | Some(9)
+        R forever = Err(Disconnected) | Some(9)",
         "clock over, load:2",
     ),
     (
-        &[OverAfter(1), RecvTimeout(true)],
-        Last::Stays,
-        "Err(Timeout)",
-        Some(9),
+        "channel
+        over in 1 | Some(9)
+        R timeout = Err(Timeout) | Some(9)",
         "clock left, load:3, write-waker, swap 0:3, clock over, swap 3:0, withdraw",
     ),
     // No instant can hold the sum, so the receiver waits without a deadline.
     (
-        &[WillSend(3, 0), RecvTimeout(false)],
-        Last::Stays,
-        "Ok(7)",
-        None,
+        "channel
+        S send in 3 | Some(9)
+        R forever = Ok(7) | None",
         "clock over, load:3, write-waker, swap 0:3, park spurious, load:0, park token-, \
         load:4, store 2, take-message",
     ),
@@ -358,11 +321,26 @@ const TIMEOUTS: &[Case; 4] = &[
 
 #[test]
 fn recv_timeout_reads_its_clock_for_the_sum(rt: HostRuntime) -> Result<(), Fail> {
-    assert_all(&rt, TIMEOUTS)
+    assert_lives(&rt, TIMEOUTS)
 }
 
 #[test]
 #[should_panic(expected = "swap 2:3")]
 fn other_steps_end_a_test(rt: HostRuntime) {
-    let _ = assert_all(&rt, &[(&[], Last::Drop, "", Some(9), "swap 2:2")]).report(&rt);
+    let life = ("channel\nR drop = dropped | Some(9)", "swap 2:2");
+    let _ = assert_lives(&rt, &[life]).report(&rt);
+}
+
+#[test]
+#[should_panic(expected = "Some(9)")]
+fn another_hand_ends_a_test(rt: HostRuntime) {
+    let life = ("channel\nR drop = dropped | None", "swap 2:3");
+    let _ = assert_lives(&rt, &[life]).report(&rt);
+}
+
+#[test]
+#[should_panic(expected = "Err(Empty)")]
+fn another_reply_ends_a_test(rt: HostRuntime) {
+    let life = ("channel\nR try = Ok(7) | Some(9)", "load:3");
+    let _ = assert_lives(&rt, &[life]).report(&rt);
 }

@@ -1,16 +1,20 @@
 //! Two tasks of one executor that wait for one future and for something else, and how often each is woken.
 
-use crate::asserts::{assert_same, assert_that};
+use crate::asserts::assert_that;
 use futures::Future;
 use futures::executor::LocalPool;
 use futures::task::{Context, Poll, Source, Waker};
-use oneshot_calls::{Ask, ReceiverCall, Task, script};
-use oneshot_channel::{AsyncReceiver, Promise, TryRecvError, async_channel};
-use std::alloc::AllocError;
+use oneshot_calls::{
+    Ask, Bare, Numbered, ReceiverCall, Receives, Receiving, Reply, Task, script, shows,
+};
+use oneshot_channel::async_channel;
+use std::alloc::{AllocError, AllocGlobal};
 use std::cell::Cell;
 use std::process::Abort;
 use std::random::RandomSource;
+use std::sync::Wait;
 use std::test::Fail;
+use std::time::Clock;
 
 /// The calls of a future before its sender acts, and how often that act wakes each task.
 pub(crate) type Waits = (&'static str, [u64; 2]);
@@ -31,7 +35,7 @@ pub(crate) const WAITS: &[Waits; 7] = &[
 const MOST_POLLS: usize = 100;
 
 /// Where the future is while neither task polls it.
-type Place<T, P> = Cell<Option<AsyncReceiver<T, (), P>>>;
+type Place<T, E> = Cell<Option<Receiving<T, E>>>;
 
 /// Has a task poll the future, and counts how often the task is woken.
 #[derive(Drop)]
@@ -43,10 +47,10 @@ struct Bell {
 
 /// A task that waits for its bell, and polls the future if the bell was rung.
 #[derive(Drop)]
-struct Listener<'a, T, P: Promise<T>> {
+struct Listener<'a, T, E: Receives<T>> {
     bell: &'a Bell,
     source: Source,
-    place: &'a Place<T, P>,
+    place: &'a Place<T, E>,
 }
 
 impl Bell {
@@ -70,7 +74,7 @@ impl Bell {
     }
 }
 
-impl<'a, T: Drop, P: Promise<T>> Future for Listener<'a, T, P> {
+impl<'a, T: Drop, E: Receives<T>> Future for Listener<'a, T, E> {
     type Output = ();
 
     fn poll(&mut self, cx: &mut Context<'_>) -> Poll<()> {
@@ -83,7 +87,7 @@ impl<'a, T: Drop, P: Promise<T>> Future for Listener<'a, T, P> {
         if is_rung.replace(false)
             && let Some(mut future) = self.place.take()
         {
-            let _ = future.poll(cx);
+            drop(future.poll_in(cx));
             self.place.set(Some(future));
         }
         let mut own = waker.take();
@@ -94,11 +98,11 @@ impl<'a, T: Drop, P: Promise<T>> Future for Listener<'a, T, P> {
 }
 
 /// A pool of two tasks that wait for these bells.
-fn listening<'a, T: Drop, P: Promise<T>>(
+fn listening<'a, T: Drop, E: Receives<T>>(
     rt: &(impl RandomSource + AllocGlobal),
     bells: &'a [Bell; 2],
-    place: &'a Place<T, P>,
-) -> Result<LocalPool<Listener<'a, T, P>>, Fail> {
+    place: &'a Place<T, E>,
+) -> Result<LocalPool<Listener<'a, T, E>>, Fail> {
     let mut pool = LocalPool::new(rt)?;
     let spawner = pool.spawner()?;
     for bell in bells {
@@ -114,19 +118,12 @@ fn listening<'a, T: Drop, P: Promise<T>>(
     Ok(pool)
 }
 
-/// Fails unless `try_recv` of the future returns `Empty`.
-fn look<T: Drop, P: Promise<T>>(rt: &impl Abort, place: &Place<T, P>) {
-    if let Some(mut future) = place.take() {
-        assert_that(rt, matches!(future.try_recv(), Err(TryRecvError::Empty)));
-        place.set(Some(future));
-    }
-}
-
-/// Makes a call, of which the executor's task makes a poll, and returns how often it wakes each task.
-fn make<T: Drop, P: Promise<T>>(
-    rt: &impl Abort,
+/// Makes a call, and returns how often it wakes each task. A task polls once its bell rings; any other call has to find
+/// nothing.
+fn make<T: Drop, E: Receives<T>, R: Wait + Abort + Clock + RandomSource + AllocGlobal>(
+    rt: &R,
     [first, second]: &[Bell; 2],
-    place: &Place<T, P>,
+    place: &Place<T, E>,
     call: ReceiverCall,
 ) -> [u64; 2] {
     match call {
@@ -138,12 +135,25 @@ fn make<T: Drop, P: Promise<T>>(
             second.ring();
             [0, 1]
         }
-        ReceiverCall::Ask(Ask::Try) => {
-            look(rt, place);
+        call => {
+            let reply = make_in(rt, place, call);
+            assert_that(rt, matches!(reply, Reply::Bare(Bare::Empty)));
             [0, 0]
         }
-        call => panic!(rt; "no task makes {call:?}"),
     }
+}
+
+fn make_in<T: Drop, E: Receives<T>, R: Wait + Clock + RandomSource + AllocGlobal>(
+    rt: &R,
+    place: &Place<T, E>,
+    call: ReceiverCall,
+) -> Reply<T> {
+    let Some(mut future) = place.take() else {
+        return Reply::Bare(Bare::Nothing);
+    };
+    let reply = future.make(rt, None, call);
+    place.set(Some(future));
+    reply
 }
 
 /// Fails unless each task was woken so often since the last count, at this step of these calls: 0 is their beginning,
@@ -162,13 +172,20 @@ fn assert_wakes(
     );
 }
 
-/// Makes the calls, then the sender's `act`, and returns `future`. Fails at another count of wakes.
-pub(crate) fn waited_for<T: Drop, P: Promise<T>, F: FnOnce()>(
-    rt: &(impl RandomSource + AllocGlobal + Abort),
+/// Makes the calls of a future, then the sender's `act`, and then a `try`. Fails at another count of wakes, and unless
+/// the `try` returns `wanted`.
+pub(crate) fn waited_for<
+    T: Numbered + Drop,
+    E: Receives<T>,
+    R: Wait + Abort + Clock + RandomSource + AllocGlobal,
+    F: FnOnce(),
+>(
+    rt: &R,
     waits: &Waits,
-    future: AsyncReceiver<T, (), P>,
+    future: Receiving<T, E>,
     act: F,
-) -> Result<AsyncReceiver<T, (), P>, Fail>
+    wanted: &str,
+) -> Result<(), Fail>
     requires { F.IsAlwaysCallable act }
 {
     let (calls, woken) = *waits;
@@ -187,7 +204,9 @@ pub(crate) fn waited_for<T: Drop, P: Promise<T>, F: FnOnce()>(
     pool.run_until_stalled(MOST_POLLS);
     assert_wakes(rt, &bells, woken, step, calls);
     drop(pool);
-    Ok(place.take().ok_or("the future is in its place")?)
+    let reply = make_in(rt, &place, ReceiverCall::Ask(Ask::Try)).numbered();
+    assert!(rt; shows(&reply, wanted), "{reply} after {calls}");
+    Ok(())
 }
 
 #[test]
@@ -195,13 +214,12 @@ fn a_task_that_waits_beside_others_is_woken_by_the_sender_alone(
     rt: HostRuntime,
 ) -> Result<(), Fail> {
     for waits in WAITS {
-        let (sender, receiver) = async_channel((), rt.alloc())?;
-        let act = || assert_that(&rt, sender.send(19u8).is_ok());
-        let mut receiver = waited_for(&rt, waits, receiver, act)?;
-        assert_same(&rt, receiver.try_recv(), Ok(19));
-        let (sender, receiver) = async_channel::<u8, _>((), rt.alloc())?;
-        let mut receiver = waited_for(&rt, waits, receiver, || drop(sender))?;
-        assert_same(&rt, receiver.try_recv(), Err(TryRecvError::Disconnected));
+        let (sender, future) = async_channel(&rt, rt.alloc())?;
+        let act = || assert_that(&rt, sender.send(19u64).is_ok());
+        waited_for(&rt, waits, Receiving::of_future(future), act, "Ok(19)")?;
+        let (sender, future) = async_channel::<u64, _>(&rt, rt.alloc())?;
+        let future = Receiving::of_future(future);
+        waited_for(&rt, waits, future, || drop(sender), "Err(Disconnected)")?;
     }
     Ok(())
 }
@@ -210,4 +228,14 @@ fn a_task_that_waits_beside_others_is_woken_by_the_sender_alone(
 #[should_panic(expected = "right: [0, 1]")]
 fn a_wake_that_nobody_made_ends_a_test(rt: HostRuntime) {
     assert_wakes(&rt, &[Bell::new(), Bell::new()], [0, 1], 0, "");
+}
+
+#[test]
+#[should_panic(expected = "Err(Empty) after poll1")]
+fn a_message_that_nobody_sent_ends_a_test(rt: HostRuntime) {
+    let Ok((_sender, future)) = async_channel::<u64, _>(&rt, rt.alloc()) else {
+        return;
+    };
+    let future = Receiving::of_future(future);
+    let _ = waited_for(&rt, &("poll1", [0, 0]), future, || {}, "Ok(19)").report(&rt);
 }

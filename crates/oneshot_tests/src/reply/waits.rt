@@ -4,7 +4,8 @@ use super::{answer, ask, bytes_of};
 use crate::asserts::{assert_same, assert_that};
 use crate::ends::clocks::{TIMEOUTS, Written};
 use crate::ends::wakes::{WAITS, waited_for};
-use oneshot_channel::{RecvTimeoutError, TryRecvError};
+use oneshot_calls::Receiving;
+use oneshot_channel::RecvTimeoutError;
 use std::test::Fail;
 use std::time::Duration;
 
@@ -13,18 +14,12 @@ fn a_task_that_waits_for_a_reply_is_woken_by_the_request_alone(
     rt: HostRuntime,
 ) -> Result<(), Fail> {
     for waits in WAITS {
-        let (request, ticket) = ask((), rt.alloc())?;
-        let mut reply = waited_for(&rt, waits, ticket.into_future(), || {
-            assert_that(&rt, matches!(answer(request), Ok(Ok(()))));
-        })?;
-        assert_same(&rt, reply.try_recv().map(bytes_of), Ok(21));
-        let (request, ticket) = ask((), rt.alloc())?;
-        let mut reply = waited_for(&rt, waits, ticket.into_future(), || drop(request))?;
-        assert_same(
-            &rt,
-            reply.try_recv().map(bytes_of),
-            Err(TryRecvError::Disconnected),
-        );
+        let (request, ticket) = ask(&rt, rt.alloc())?;
+        let act = || assert_that(&rt, matches!(answer(request), Ok(Ok(()))));
+        waited_for(&rt, waits, Receiving::of_future(ticket.into_future()), act, "Ok(21)")?;
+        let (request, ticket) = ask(&rt, rt.alloc())?;
+        let act = || drop(request);
+        waited_for(&rt, waits, Receiving::of_future(ticket.into_future()), act, "Err(Disconnected)")?;
     }
     Ok(())
 }
