@@ -5,7 +5,7 @@ use futures::Future;
 use futures::executor::LocalPool;
 use futures::task::{Context, Poll, Source, Waker};
 use oneshot_calls::{
-    Ask, Bare, Numbered, ReceiverCall, Receives, Receiving, Reply, Task, script, shows,
+    Ask, Numbered, ReceiverCall, Receives, Receiving, Task, script, shows,
 };
 use oneshot_channel::async_channel;
 use std::alloc::{AllocError, AllocGlobal};
@@ -118,9 +118,30 @@ fn listening<'a, T: Drop, E: Receives<T>>(
     Ok(pool)
 }
 
-/// Makes a call, and returns how often it wakes each task. A task polls once its bell rings; any other call has to find
+/// Makes a call, and fails unless it returns this text.
+fn assert_reply<
+    T: Numbered + Drop,
+    E: Receives<T>,
+    R: Wait + Abort + Clock + RandomSource + AllocGlobal,
+>(
+    rt: &R,
+    place: &Place<T, E>,
+    call: ReceiverCall,
+    wanted: &str,
+) {
+    let mut future = place.take().expect(rt, "the future is in its place");
+    let reply = future.make(rt, None, call).numbered();
+    place.set(Some(future));
+    assert!(rt; shows(&reply, wanted), "{call:?}: {reply}");
+}
+
+/// Makes a call, and returns how often it wakes each task. A task polls once its bell rings; any other call finds
 /// nothing.
-fn make<T: Drop, E: Receives<T>, R: Wait + Abort + Clock + RandomSource + AllocGlobal>(
+fn make<
+    T: Numbered + Drop,
+    E: Receives<T>,
+    R: Wait + Abort + Clock + RandomSource + AllocGlobal,
+>(
     rt: &R,
     [first, second]: &[Bell; 2],
     place: &Place<T, E>,
@@ -136,24 +157,10 @@ fn make<T: Drop, E: Receives<T>, R: Wait + Abort + Clock + RandomSource + AllocG
             [0, 1]
         }
         call => {
-            let reply = make_in(rt, place, call);
-            assert_that(rt, matches!(reply, Reply::Bare(Bare::Empty)));
+            assert_reply(rt, place, call, "Err(Empty)");
             [0, 0]
         }
     }
-}
-
-fn make_in<T: Drop, E: Receives<T>, R: Wait + Clock + RandomSource + AllocGlobal>(
-    rt: &R,
-    place: &Place<T, E>,
-    call: ReceiverCall,
-) -> Reply<T> {
-    let Some(mut future) = place.take() else {
-        return Reply::Bare(Bare::Nothing);
-    };
-    let reply = future.make(rt, None, call);
-    place.set(Some(future));
-    reply
 }
 
 /// Fails unless each task was woken so often since the last count, at this step of these calls: 0 is their beginning,
@@ -204,8 +211,7 @@ pub(crate) fn waited_for<
     pool.run_until_stalled(MOST_POLLS);
     assert_wakes(rt, &bells, woken, step, calls);
     drop(pool);
-    let reply = make_in(rt, &place, ReceiverCall::Ask(Ask::Try)).numbered();
-    assert!(rt; shows(&reply, wanted), "{reply} after {calls}");
+    assert_reply(rt, &place, ReceiverCall::Ask(Ask::Try), wanted);
     Ok(())
 }
 
@@ -231,7 +237,7 @@ fn a_wake_that_nobody_made_ends_a_test(rt: HostRuntime) {
 }
 
 #[test]
-#[should_panic(expected = "Err(Empty) after poll1")]
+#[should_panic(expected = "Ask(Try): Err(Empty)")]
 fn a_message_that_nobody_sent_ends_a_test(rt: HostRuntime) {
     let Ok((_sender, future)) = async_channel::<u64, _>(&rt, rt.alloc()) else {
         return;
