@@ -43,6 +43,7 @@ enum Deed {
 }
 
 /// A line of a life.
+#[derive(Clone, Copy)]
 struct Line<'a> {
     text: &'a str,
     deed: Deed,
@@ -108,10 +109,7 @@ impl Line<'_> {
 }
 
 /// Has happen what is no call.
-fn happen<W: Drop + Wakes, R: Wait>(
-    g: &mut MemoryReceiver<'_, u64, W, R>,
-    deed: Deed,
-) -> Reply<u64>
+fn happen<W: Drop + Wakes, R: Wait>(g: &mut MemoryReceiver<'_, u64, W, R>, deed: Deed) -> Reply<u64>
     ensures { g.new.state ≡ g.old.state }
 {
     match deed {
@@ -156,11 +154,7 @@ fn perform<R: Wait>(
 }
 
 /// Does a receiver's deeds, of which the last may end it, and returns its steps.
-fn receive<R: Wait + Abort + AllocGlobal>(
-    rt: &R,
-    lines: &str,
-    last: &str,
-) -> Result<String, Fail> {
+fn receive<R: Wait + Abort + AllocGlobal>(rt: &R, lines: &str, last: &str) -> Result<String, Fail> {
     let mut g = MemoryReceiver::new(rt, rt.alloc());
     let mut hand = Some(9);
     for line in lines.lines() {

@@ -210,6 +210,9 @@ fn other_counts_end_a_test(rt: HostRuntime) {
 #[test]
 #[should_panic(expected = "load:3")]
 fn other_steps_of_a_future_end_a_test(rt: HostRuntime) {
-    let life = ("async_channel\nR try = Err(Empty) | (0, 0, 0) (0, 0, 0)", "");
+    let life = (
+        "async_channel\nR try = Err(Empty) | (0, 0, 0) (0, 0, 0)",
+        "",
+    );
     let _ = assert_lives(&rt, &[life]).report(&rt);
 }

@@ -4,13 +4,11 @@ use crate::asserts::assert_that;
 use futures::Future;
 use futures::executor::LocalPool;
 use futures::task::{Context, Poll, Source, Waker};
-use oneshot_calls::{
-    Ask, Numbered, ReceiverCall, Receives, Receiving, Task, script, shows,
-};
+use oneshot_calls::{Ask, Numbered, ReceiverCall, Receives, Receiving, Task, script, shows};
 use oneshot_channel::async_channel;
 use std::alloc::{AllocError, AllocGlobal};
 use std::cell::Cell;
-use std::process::Abort;
+use std::process::{Abort, Termination};
 use std::random::RandomSource;
 use std::sync::Wait;
 use std::test::Fail;
@@ -123,12 +121,7 @@ fn assert_reply<
     T: Numbered + Drop,
     E: Receives<T>,
     R: Wait + Abort + Clock + RandomSource + AllocGlobal,
->(
-    rt: &R,
-    place: &Place<T, E>,
-    call: ReceiverCall,
-    wanted: &str,
-) {
+>(rt: &R, place: &Place<T, E>, call: ReceiverCall, wanted: &str) {
     let mut future = place.take().expect(rt, "the future is in its place");
     let reply = future.make(rt, None, call).numbered();
     place.set(Some(future));
@@ -137,11 +130,7 @@ fn assert_reply<
 
 /// Makes a call, and returns how often it wakes each task. A task polls once its bell rings; any other call finds
 /// nothing.
-fn make<
-    T: Numbered + Drop,
-    E: Receives<T>,
-    R: Wait + Abort + Clock + RandomSource + AllocGlobal,
->(
+fn make<T: Numbered + Drop, E: Receives<T>, R: Wait + Abort + Clock + RandomSource + AllocGlobal>(
     rt: &R,
     [first, second]: &[Bell; 2],
     place: &Place<T, E>,
@@ -186,13 +175,7 @@ pub(crate) fn waited_for<
     E: Receives<T>,
     R: Wait + Abort + Clock + RandomSource + AllocGlobal,
     F: FnOnce(),
->(
-    rt: &R,
-    waits: &Waits,
-    future: Receiving<T, E>,
-    act: F,
-    wanted: &str,
-) -> Result<(), Fail>
+>(rt: &R, waits: &Waits, future: Receiving<T, E>, act: F, wanted: &str) -> Result<(), Fail>
     requires { F.IsAlwaysCallable act }
 {
     let (calls, woken) = *waits;

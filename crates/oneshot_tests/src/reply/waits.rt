@@ -16,10 +16,22 @@ fn a_task_that_waits_for_a_reply_is_woken_by_the_request_alone(
     for waits in WAITS {
         let (request, ticket) = ask(&rt, rt.alloc())?;
         let act = || assert_that(&rt, matches!(answer(request), Ok(Ok(()))));
-        waited_for(&rt, waits, Receiving::of_future(ticket.into_future()), act, "Ok(21)")?;
+        waited_for(
+            &rt,
+            waits,
+            Receiving::of_future(ticket.into_future()),
+            act,
+            "Ok(21)",
+        )?;
         let (request, ticket) = ask(&rt, rt.alloc())?;
         let act = || drop(request);
-        waited_for(&rt, waits, Receiving::of_future(ticket.into_future()), act, "Err(Disconnected)")?;
+        waited_for(
+            &rt,
+            waits,
+            Receiving::of_future(ticket.into_future()),
+            act,
+            "Err(Disconnected)",
+        )?;
     }
     Ok(())
 }
