@@ -9,7 +9,7 @@ ghost use Rattle.oneshot_drive.specs.Polls.{IsPolled};
 
 use crate::asserts::assert_same;
 use crate::drive::steps::steps_of;
-use oneshot_calls::{Ask, Bare, Call, ReceiverCall, Reply, Task};
+use oneshot_calls::{Ask, Bare, Call, ReceiverCall, Reply, SenderCall, Task};
 use oneshot_drive::{
     async_try_recv, drop_async, drop_receiver, poll, recv, recv_deadline, recv_ref, recv_timeout,
     try_recv,
@@ -76,19 +76,19 @@ fn read_call(text: &str) -> Option<Deed> {
 /// Reads what happens beside a receiver. `S send in 3 for 1`: the sender will send after 3 pauses, and linger for 1.
 fn read_beside(text: &str) -> Option<Deed> {
     let Some((deed, times)) = text.split_once(" in ") else {
-        return match text {
-            "S send" => Some(Deed::Sends),
-            "S drop" => Some(Deed::Goes),
-            "refuse" => Some(Deed::Refuses),
+        return match Call::of_text(text) {
+            Some(Call::Sender(SenderCall::Send)) => Some(Deed::Sends),
+            Some(Call::Sender(SenderCall::Drop)) => Some(Deed::Goes),
+            None if text == "refuse" => Some(Deed::Refuses),
             _ => None,
         };
     };
     let (first, lingers) = times.split_once(" for ").unwrap_or((times, "0"));
     let (first, lingers) = (first.parse::<u64>().ok()?, lingers.parse::<u64>().ok()?);
-    match deed {
-        "S send" => Some(Deed::WillSend(first, lingers)),
-        "S drop" => Some(Deed::WillGo(first, lingers)),
-        "over" => Some(Deed::OverAfter(first)),
+    match Call::of_text(deed) {
+        Some(Call::Sender(SenderCall::Send)) => Some(Deed::WillSend(first, lingers)),
+        Some(Call::Sender(SenderCall::Drop)) => Some(Deed::WillGo(first, lingers)),
+        None if deed == "over" => Some(Deed::OverAfter(first)),
         _ => None,
     }
 }
