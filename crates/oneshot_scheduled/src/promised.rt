@@ -14,22 +14,29 @@ impl Promise<Parcel> for Any {
     ghost keeps = { λ _ _. ⊤ };
 }
 
-impl Sends<Parcel> for Sender<Parcel, Any> {
+/// The sender of a channel under that promise.
+#[derive(Drop)]
+pub struct Promised(pub Sender<Parcel, Any>);
+
+impl Sends<Parcel> for Promised {
     type Refused = SendError<Parcel, Any>;
 
     fn is_closed(&self) -> bool {
-        self.is_closed()
+        self.0.is_closed()
     }
 
     fn send(self, parcel: Parcel) -> Result<(), Option<SendError<Parcel, Any>>> {
-        self.send_kept(parcel).map_err(Some)
+        let Promised(sender) = self;
+        sender.send_kept(parcel).map_err(Some)
     }
 
-    fn there_and_back(self) -> Sender<Parcel, Any> {
-        Sender::from_raw(self.into_raw())
+    fn there_and_back(self) -> Promised {
+        let Promised(sender) = self;
+        Promised(Sender::from_raw(sender.into_raw()))
     }
 
     fn drop_raw(self) {
-        drop(self.into_raw());
+        let Promised(sender) = self;
+        drop(sender.into_raw());
     }
 }

@@ -2,7 +2,7 @@
 
 use crate::brought::{run_sent_receiver, run_sent_sender};
 use crate::parcel::{Parcel, QUESTION};
-use crate::promised::Any;
+use crate::promised::{Any, Promised};
 use crate::receives::{receive_all, tasks_of};
 use crate::sends::send_all;
 use crate::told::{DONE, OPENED, OPENING, READY, RECORD, RELEASE, tell};
@@ -104,6 +104,7 @@ fn run_promised<R: Threads + Wait + Clock + RandomSource + AllocGlobal + Sync>(
     parcel: Parcel,
 ) -> Result<(), AllocError> {
     let (sender, receiver) = channel_for(rt, rt.alloc(), &Any)?;
+    let sender = Promised(sender);
     run_ends!(rt, scripts, parcel, sender, receiver);
     Ok(())
 }
