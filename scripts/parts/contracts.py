@@ -1,9 +1,10 @@
 """The contracts, traits and types that docs/CALLING.md and docs/MODEL.md print, and which of them users need.
 
 Users call what the exporting crates of a page export: a function by its own name, or those of a type that are public or
-that are of a trait and have a clause. CALLING prints each exported trait whole, and no contract that repeats another's.
-MODEL also prints the laws of an exported module, what an `EntryLine` and a `CalledLine` show as (their `ghost output`),
-and the types of `oneshot_replay` whose variants or fields users name, each with its module in `oneshot`.
+that are of a trait and have a clause. CALLING prints four contracts whole, and of each other one the names of its
+clauses, except those that repeat another's; it prints each exported trait whole. MODEL prints each contract, the laws
+of an exported module, and what an `EntryLine` and a `CalledLine` show as (their `ghost output`). It lists the types of
+the model, each with its module in `oneshot` and its file.
 """
 import collections
 import re
@@ -12,14 +13,19 @@ import textwrap
 from parts.compare import Differs
 from parts.functions import functions
 from parts.pages import fold
+from parts.printed import table
 from parts.restated import restated
-from parts.sources import CRATES, code_of, sources, text_of
+from parts.sources import CRATES, code_of, place, sources, text_of
 
 Page = collections.namedtuple("Page", "exporting beneath")
-Contract = collections.namedtuple("Contract", "name owner text")
+Contract = collections.namedtuple("Contract", "name owner text file")
 CALLING = Page(["oneshot_channel", "oneshot_reply", "oneshot_watch"],
                ["oneshot_ends", "oneshot_errors", "oneshot_word"])
 MODEL = Page(["oneshot_replay", "oneshot_text"], ["oneshot_world"])
+# The contracts that CALLING prints whole.
+WHOLE = ["channel", "Sender::send", "Receiver::try_recv", "AsyncReceiver::poll"]
+# The order of the crates in CALLING's table of the other contracts.
+IN_ORDER = ["oneshot_ends", "oneshot_reply", "oneshot_watch"]
 
 
 def files(page):
@@ -61,9 +67,9 @@ def written(page):
     for file in files(page):
         for name, owner, head, _ in functions(code_of(file)):
             if "trait " not in owner:
-                yield Contract(name.split(" for ")[-1], owner, own(head))
+                yield Contract(name.split(" for ")[-1], owner, own(head), file)
         for owner, name, output in re.findall(impl, code_of(file)):
-            yield Contract(f"{name}::output", owner, own(output))
+            yield Contract(f"{name}::output", owner, own(output), file)
 
 
 def is_called(contract):
@@ -100,16 +106,30 @@ def trait(name):
     return ["```rust", *text.split("\n"), "```"]
 
 
-def items(body):
-    """What the braces of a type list: its variants, or its fields."""
-    depth, item = 0, ""
-    for letter in re.sub(r"(?m)^\s*#\[.*\]$", "", body):
-        depth += {"{": 1, "(": 1, "<": 1, "}": -1, ")": -1, ">": -1}.get(letter, 0)
-        if letter == "," and depth == 0:
-            yield fold(item)
-            item = ""
-        else:
-            item += letter
+def clauses(text):
+    """The clauses of a contract: each by its name, or whole, and after `requires` if it is required."""
+    clause = r"(requires|ensures) (\w+ )?\{ (.*?) \}(?= requires | ensures |$)"
+    return [f"`{'requires ' * (kind == 'requires')}{name.strip() or formula}`"
+            for kind, name, formula in re.findall(clause, fold(text))]
+
+
+def linked(words, file):
+    return f"[{words}](../{place(file).as_posix()})"
+
+
+def others():
+    """The contracts that CALLING does not print whole, nor repeat."""
+    names, repeats = exported(CALLING.exporting), {*restated(), *WHOLE}
+    for crate in IN_ORDER:
+        yield from (contract for contract in written(CALLING) if CRATES / crate in contract.file.parents
+                    and contract.name.split("::")[0] in names and contract.name not in repeats and is_called(contract))
+
+
+def clause_names():
+    """Prints a row for each of these contracts, with a link to its file."""
+    return table(["Call", "Clauses"], [
+        [linked(f"`{contract.name}`", contract.file), ", ".join(clauses(contract.text)) or "none"]
+        for contract in others()])
 
 
 def module_of(file):
@@ -118,24 +138,15 @@ def module_of(file):
     return {"oneshot_machine": path[0], "oneshot_text": "text"}.get(crate, "replay")
 
 
-def declared():
-    """Each public enum, and each struct whose fields are all public, with its line."""
+def types():
+    """Prints the types of the model but the positions of its tables, each with its module and its file."""
+    machine, names, lines = sources("oneshot_machine"), exported(MODEL.exporting), []
     for file in sources("oneshot_machine", *MODEL.beneath, *MODEL.exporting):
-        types = re.findall(r"(?ms)^pub (enum|struct) (\w+)((?:<\w+>)?) \{\n(.*?)^\}", code_of(file))
-        for kind, name, generics, body in types:
-            listed = list(items(body))
-            if kind == "enum" or all(item.startswith("pub ") for item in listed):
-                parts = ", ".join(f"`{re.sub('^pub ', '', item).replace(', }', ' }')}`" for item in listed)
-                yield name, f"- `{module_of(file)}::{name}{generics}`: {parts}"
-
-
-def types(*names):
-    """Prints a line for each of these types of the model."""
-    known = dict(declared())
-    lacking = [name for name in names if name not in known]
-    if lacking:
-        raise Differs(f"no source has the type {lacking[0]}")
-    return [known[name] for name in names]
+        listed = [f"`{name}`" for name in re.findall(r"(?m)^pub (?:enum|struct) (\w+)", code_of(file))
+                  if name in names or file in machine and not name.endswith("Pos")]
+        if listed:
+            lines.append([f"`{module_of(file)}`", ", ".join(listed), linked(place(file).as_posix(), file)])
+    return table(["Module", "Types", "File"], lines)
 
 
 def needed(page, names):
@@ -145,12 +156,10 @@ def needed(page, names):
 
 
 def listed_in_calling():
-    names, repeats = exported(CALLING.exporting), restated()
-    printed = [(kind, name) for kind, name in needed(CALLING, names) if name not in repeats]
-    return [*printed, ("repeated", ""), *(("trait", name) for _, name in traits(CALLING) if name in names)]
+    names = exported(CALLING.exporting)
+    return [*(("contracts", name) for name in WHOLE), ("clauses", ""), ("repeated", ""),
+            *(("trait", name) for _, name in traits(CALLING) if name in names)]
 
 
 def listed_in_model():
-    names = exported(MODEL.exporting)
-    return [*needed(MODEL, names | laws(MODEL.exporting)),
-            *(("types", name) for name, _ in declared() if name in exported(["oneshot_replay"]))]
+    return [*needed(MODEL, exported(MODEL.exporting) | laws(MODEL.exporting)), ("types", "")]

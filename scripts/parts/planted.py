@@ -9,7 +9,8 @@ IN_PRINTED = [
     ("README.md", "```sh", "```rust"),
     ("README.md", "printed: code", "printed: codes"),
     ("docs/PROTOCOL.md", "printed: positions Look-->", "printed: positions Drop-->"),
-    ("docs/CALLING.md", ",Sender::send_kept,", ",Sender::send,"),
+    ("docs/CALLING.md", "contracts Sender::send-->", "contracts Sender::send_kept-->"),
+    ("docs/CALLING.md", "<!--printed: clauses-->", ""),
     ("docs/CALLING.md", "<!--printed: code hello_request/src/main.rt-->", ""),
     ("docs/MODEL.md", ",CallList::as_slice", ""),
     ("docs/ARCHITECTURE.md", "<!--printed: picture-->", ""),
@@ -22,6 +23,10 @@ IN_PRINTED = [
     ("crates/oneshot_machine/specs/Timed.antt", "(Word UNPARKING, Goes ", "(Word MESSAGE, Goes "),
     ("crates/oneshot_machine/src/states.rt", "RECEIVING: u8 = 0", "RECEIVING: u8 = 1"),
     (LOOKS, "pub fn is_closed", "pub fn more() {}\n\n    pub fn is_closed"),
+    # the clauses of a contract that is not printed whole, and a type of the model
+    ("crates/oneshot_ends/src/receiver.rt", "fn recv_ref(&mut self) -> Result<T, RecvError>\n        ensures channel",
+     "fn recv_ref(&mut self) -> Result<T, RecvError>\n        ensures channels"),
+    ("crates/oneshot_world/src/trace.rt", "pub enum Place", "pub enum Spot"),
     # what covers a call: a test, and an edit that can no more be made
     ("crates/oneshot_out_of_memory/src/channels.rt", "async_channel(", "channel("),
     ("crates/oneshot_drive/must-fail/always_sent.edit", "old: DISCONNECTED", "old: DISCONNECTS"),
