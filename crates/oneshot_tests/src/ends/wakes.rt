@@ -45,10 +45,10 @@ struct Bell {
 
 /// A task that waits for its bell, and polls the future if the bell was rung.
 #[derive(Drop)]
-struct Listener<'a, T, E: Receives<T>> {
+struct Listener<'a, 'b, T, E: Receives<T>> {
     bell: &'a Bell,
     source: Source,
-    place: &'a Place<T, E>,
+    place: &'b Place<T, E>,
 }
 
 impl Bell {
@@ -72,7 +72,7 @@ impl Bell {
     }
 }
 
-impl<'a, T: Drop, E: Receives<T>> Future for Listener<'a, T, E> {
+impl<'a, 'b, T: Drop, E: Receives<T>> Future for Listener<'a, 'b, T, E> {
     type Output = ();
 
     fn poll(&mut self, cx: &mut Context<'_>) -> Poll<()> {
@@ -96,11 +96,11 @@ impl<'a, T: Drop, E: Receives<T>> Future for Listener<'a, T, E> {
 }
 
 /// A pool of two tasks that wait for these bells.
-fn listening<'a, T: Drop, E: Receives<T>>(
+fn listening<'a, 'b, T: Drop, E: Receives<T>>(
     rt: &(impl RandomSource + AllocGlobal),
     bells: &'a [Bell; 2],
-    place: &'a Place<T, E>,
-) -> Result<LocalPool<Listener<'a, T, E>>, Fail> {
+    place: &'b Place<T, E>,
+) -> Result<LocalPool<Listener<'a, 'b, T, E>>, Fail> {
     let mut pool = LocalPool::new(rt)?;
     let spawner = pool.spawner()?;
     for bell in bells {
