@@ -3,7 +3,7 @@
 ghost use Rattle.std.specs.Prelude.{⊤};
 
 use crate::parcel::Parcel;
-use oneshot_calls::Sends;
+use oneshot_calls::{Numbered, Refuses, Sends};
 use oneshot_channel::{Promise, SendError, Sender};
 
 /// A promise that every message keeps.
@@ -18,16 +18,34 @@ impl Promise<Parcel> for Any {
 #[derive(Drop)]
 pub struct Promised(pub Sender<Parcel, Any>);
 
+/// The error of its refused message.
+#[derive(Drop)]
+pub struct Refusal(SendError<Parcel, Any>);
+
+impl Refuses<Parcel> for Refusal {
+    fn number(&self) -> u64 {
+        self.0.as_inner().number()
+    }
+
+    fn into_message(self) -> Parcel {
+        let Refusal(error) = self;
+        error.into_inner()
+    }
+}
+
 impl Sends<Parcel> for Promised {
-    type Refused = SendError<Parcel, Any>;
+    type Refused = Refusal;
 
     fn is_closed(&self) -> bool {
         self.0.is_closed()
     }
 
-    fn send(self, parcel: Parcel) -> Result<(), Option<SendError<Parcel, Any>>> {
+    fn send(self, parcel: Parcel) -> Result<(), Option<Refusal>> {
         let Promised(sender) = self;
-        sender.send_kept(parcel).map_err(Some)
+        match sender.send_kept(parcel) {
+            Ok(()) => Ok(()),
+            Err(error) => Err(Some(Refusal(error))),
+        }
     }
 
     fn there_and_back(self) -> Promised {

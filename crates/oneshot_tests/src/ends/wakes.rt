@@ -4,8 +4,8 @@ use crate::asserts::assert_that;
 use futures::Future;
 use futures::executor::LocalPool;
 use futures::task::{Context, Poll, Source, Waker};
-use oneshot_calls::{Ask, Numbered, ReceiverCall, Receives, Receiving, Task, script, shows};
-use oneshot_channel::async_channel;
+use oneshot_calls::{Ask, Numbered, ReceiverCall, Receiving, Task, script, shows};
+use oneshot_channel::{Promise, Receiver, async_channel};
 use std::alloc::{AllocError, AllocGlobal};
 use std::cell::Cell;
 use std::process::{Abort, Termination};
@@ -33,7 +33,7 @@ pub(crate) const WAITS: &[Waits; 7] = &[
 const MOST_POLLS: usize = 100;
 
 /// Where the future is while neither task polls it.
-type Place<T, E> = Cell<Option<Receiving<T, E>>>;
+type Place<T, W, P> = Cell<Option<Receiving<T, Receiver<T, W, P>>>>;
 
 /// Has a task poll the future, and counts how often the task is woken.
 #[derive(Drop)]
@@ -45,10 +45,10 @@ struct Bell {
 
 /// A task that waits for its bell, and polls the future if the bell was rung.
 #[derive(Drop)]
-struct Listener<'a, T, E: Receives<T>> {
+struct Listener<'a, T: Drop, W: Wait + Clock + Drop, P: Promise<T>> {
     bell: &'a Bell,
     source: Source,
-    place: &'a Place<T, E>,
+    place: &'a Place<T, W, P>,
 }
 
 impl Bell {
@@ -72,7 +72,7 @@ impl Bell {
     }
 }
 
-impl<'a, T: Drop, E: Receives<T>> Future for Listener<'a, T, E> {
+impl<'a, T: Drop, W: Wait + Clock + Drop, P: Promise<T>> Future for Listener<'a, T, W, P> {
     type Output = ();
 
     fn poll(&mut self, cx: &mut Context<'_>) -> Poll<()> {
@@ -96,11 +96,11 @@ impl<'a, T: Drop, E: Receives<T>> Future for Listener<'a, T, E> {
 }
 
 /// A pool of two tasks that wait for these bells.
-fn listening<'a, T: Drop, E: Receives<T>>(
+fn listening<'a, T: Drop, W: Wait + Clock + Drop, P: Promise<T>>(
     rt: &(impl RandomSource + AllocGlobal),
     bells: &'a [Bell; 2],
-    place: &'a Place<T, E>,
-) -> Result<LocalPool<Listener<'a, T, E>>, Fail> {
+    place: &'a Place<T, W, P>,
+) -> Result<LocalPool<Listener<'a, T, W, P>>, Fail> {
     let mut pool = LocalPool::new(rt)?;
     let spawner = pool.spawner()?;
     for bell in bells {
@@ -119,9 +119,10 @@ fn listening<'a, T: Drop, E: Receives<T>>(
 /// Makes a call, and fails unless it returns this text.
 fn assert_reply<
     T: Numbered + Drop,
-    E: Receives<T>,
+    W: Wait + Clock + Drop,
+    P: Promise<T>,
     R: Wait + Abort + Clock + RandomSource + AllocGlobal,
->(rt: &R, place: &Place<T, E>, call: ReceiverCall, wanted: &str) {
+>(rt: &R, place: &Place<T, W, P>, call: ReceiverCall, wanted: &str) {
     let mut future = place.take().expect(rt, "the future is in its place");
     let reply = future.make(rt, None, call).numbered();
     place.set(Some(future));
@@ -130,12 +131,12 @@ fn assert_reply<
 
 /// Makes a call, and returns how often it wakes each task. A task polls once its bell rings; any other call finds
 /// nothing.
-fn make<T: Numbered + Drop, E: Receives<T>, R: Wait + Abort + Clock + RandomSource + AllocGlobal>(
-    rt: &R,
-    [first, second]: &[Bell; 2],
-    place: &Place<T, E>,
-    call: ReceiverCall,
-) -> [u64; 2] {
+fn make<
+    T: Numbered + Drop,
+    W: Wait + Clock + Drop,
+    P: Promise<T>,
+    R: Wait + Abort + Clock + RandomSource + AllocGlobal,
+>(rt: &R, [first, second]: &[Bell; 2], place: &Place<T, W, P>, call: ReceiverCall) -> [u64; 2] {
     match call {
         ReceiverCall::Poll(Task::One) => {
             first.ring();
@@ -172,10 +173,17 @@ fn assert_wakes(
 /// the `try` returns `wanted`.
 pub(crate) fn waited_for<
     T: Numbered + Drop,
-    E: Receives<T>,
+    W: Wait + Clock + Drop,
+    P: Promise<T>,
     R: Wait + Abort + Clock + RandomSource + AllocGlobal,
     F: FnOnce(),
->(rt: &R, waits: &Waits, future: Receiving<T, E>, act: F, wanted: &str) -> Result<(), Fail>
+>(
+    rt: &R,
+    waits: &Waits,
+    future: Receiving<T, Receiver<T, W, P>>,
+    act: F,
+    wanted: &str,
+) -> Result<(), Fail>
     requires { F.IsAlwaysCallable act }
 {
     let (calls, woken) = *waits;
