@@ -6,6 +6,7 @@ use oneshot_calls::{
     Numbered, ReceiverCall, Receiving, Reply, SenderCall, Sending, Tasks, script, shows,
 };
 use std::hint::spin_loop;
+use std::io;
 use std::process::{Abort, Termination};
 use std::random::RandomSource;
 use std::sync::Wait;
@@ -111,6 +112,32 @@ pub(super) fn on_two_threads<
     )
 }
 
+/// Makes the calls of a receiver, or of the future that it is.
+fn receive_all<R: Wait + Clock + RandomSource + AllocGlobal, T: Drop>(
+    rt: &R,
+    receives: &[ReceiverCall],
+    receiving: Receiving<T, Receiver<T, &R>>,
+) -> io::Result<Reply<T>> {
+    let tasks = Tasks::new(rt)?;
+    Ok(receiving.make_all(rt, Some(&tasks), receives))
+}
+
+/// What both ends return after these calls.
+fn outcome_by<
+    R: Threads + Wait + Clock + RandomSource + AllocGlobal + Abort + Sync,
+    T: Numbered + Send + Drop,
+>(
+    rt: &R,
+    pause: Duration,
+    sends: &[SenderCall],
+    receives: &[ReceiverCall],
+    ends: (Sending<T, Sender<T>>, Receiving<T, Receiver<T, &R>>),
+) -> Result<Outcome<T>, Fail> {
+    let receive = |receiving| receive_all(rt, receives, receiving);
+    let (sent, received) = on_two_threads(rt, pause, sends, ends, receive);
+    Ok((sent, received?))
+}
+
 /// What both ends of a new channel return.
 pub(super) fn outcome_of<
     R: Threads + Wait + Clock + RandomSource + AllocGlobal + Abort + Sync,
@@ -118,7 +145,6 @@ pub(super) fn outcome_of<
 >(rt: &R, pause: Duration, act: Act<T>, by: By) -> Result<Outcome<T>, Fail> {
     let Act(sends, message) = act;
     let sends = script::<SenderCall>(rt.alloc(), sends)?;
-    let tasks = Tasks::new(rt)?;
     let (receives, sender, receiving) = match by {
         By::Receiver(receives) => {
             let (sender, receiver) = channel(rt, rt.alloc())?;
@@ -131,10 +157,17 @@ pub(super) fn outcome_of<
     };
     let receives = script::<ReceiverCall>(rt.alloc(), receives)?;
     let ends = (Sending::new(sender, Some(message)), receiving);
-    let receive = |receiving: Receiving<T, Receiver<T, &R>>| {
-        receiving.make_all(rt, Some(&tasks), &receives)
-    };
-    Ok(on_two_threads(rt, pause, &sends, ends, receive))
+    outcome_by(rt, pause, &sends, &receives, ends)
+}
+
+/// Whether the replies are one of the wanted outcomes.
+fn is_wanted(sent: &Reply<u64>, received: &Reply<u64>, wanted: &[(&str, &str)]) -> bool {
+    for (one, other) in wanted {
+        if shows(sent, one) && shows(received, other) {
+            return true;
+        }
+    }
+    false
 }
 
 /// Fails unless each round has one of the wanted outcomes, of which each is two texts.
@@ -145,9 +178,8 @@ pub(super) fn assert_outcomes<
     for round in 0..pace.rounds {
         let (sent, received) = outcome_of(rt, pace.pause_of(round), act, by)?;
         let (sent, received) = (sent.numbered(), received.numbered());
-        let mut outcomes = wanted.iter();
         assert!(rt;
-            outcomes.any(|(one, other)| shows(&sent, *one) && shows(&received, *other)),
+            is_wanted(&sent, &received, wanted),
             "{by:?}: {sent}, {received}: not of {wanted:?}"
         );
     }
