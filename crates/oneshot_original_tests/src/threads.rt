@@ -20,7 +20,7 @@ use std::time::{Clock, Duration};
 pub(super) struct Act<T>(pub(super) &'static str, pub(super) T);
 
 /// The receiver's script.
-#[derive(Clone, Copy, Debug)]
+#[derive(Clone, Copy)]
 pub(super) enum By {
     /// Of the receiver of `channel`.
     Receiver(&'static str),
@@ -113,10 +113,10 @@ pub(super) fn on_two_threads<
 }
 
 /// Makes the calls of a receiver, or of the future that it is.
-fn receive_all<R: Wait + Clock + RandomSource + AllocGlobal, T: Drop>(
+fn receive_all<R: Wait + Clock + RandomSource + AllocGlobal, T: Drop, W: Wait + Clock + Drop>(
     rt: &R,
     receives: &[ReceiverCall],
-    receiving: Receiving<T, Receiver<T, &R>>,
+    receiving: Receiving<T, Receiver<T, W>>,
 ) -> io::Result<Reply<T>> {
     let tasks = Tasks::new(rt)?;
     Ok(receiving.make_all(rt, Some(&tasks), receives))
@@ -126,12 +126,13 @@ fn receive_all<R: Wait + Clock + RandomSource + AllocGlobal, T: Drop>(
 fn outcome_by<
     R: Threads + Wait + Clock + RandomSource + AllocGlobal + Abort + Sync,
     T: Numbered + Send + Drop,
+    W: Wait + Clock + Send + Drop,
 >(
     rt: &R,
     pause: Duration,
     sends: &[SenderCall],
     receives: &[ReceiverCall],
-    ends: (Sending<T, Sender<T>>, Receiving<T, Receiver<T, &R>>),
+    ends: (Sending<T, Sender<T>>, Receiving<T, Receiver<T, W>>),
 ) -> Result<Outcome<T>, Fail> {
     let receive = |receiving| receive_all(rt, receives, receiving);
     let (sent, received) = on_two_threads(rt, pause, sends, ends, receive);
@@ -175,19 +176,18 @@ pub(super) fn assert_outcomes<
     R: Threads + Wait + Clock + RandomSource + AllocGlobal + Abort + Sync,
     T: Copy + Numbered + Send,
 >(rt: &R, pace: Pace, act: Act<T>, by: By, wanted: &[(&str, &str)]) -> Result<(), Fail> {
+    let (By::Receiver(calls) | By::Future(calls)) = by;
     for round in 0..pace.rounds {
         let (sent, received) = outcome_of(rt, pace.pause_of(round), act, by)?;
         let (sent, received) = (sent.numbered(), received.numbered());
-        assert!(rt;
-            is_wanted(&sent, &received, wanted),
-            "{by:?}: {sent}, {received}: not of {wanted:?}"
-        );
+        let wants = is_wanted(&sent, &received, wanted);
+        assert!(rt; wants, "{calls}: {sent}, {received}");
     }
     Ok(())
 }
 
 #[test]
-#[should_panic(expected = "Receiver(\"recv\"): Ok, Ok(1): not of []")]
+#[should_panic(expected = "recv: Ok, Ok(1)")]
 fn an_outcome_that_is_not_wanted_ends_a_test(rt: HostRuntime) {
     let act = Act("send into", 1u64);
     let _ = assert_outcomes(&rt, AT_ONCE, act, By::Receiver("recv"), &[]).report(&rt);
