@@ -16,7 +16,7 @@ KINDS = {
     "Race": ["oneshot_rounds"],
     "Interleaving": ["oneshot_scheduled", "oneshot_calls"],
     "Out of memory": ["oneshot_out_of_memory"],
-    "Original": ["oneshot_original_tests", "oneshot_test_uses"],
+    "Original": ["oneshot_original_tests"],
 }
 # Scripts of the gate that have inputs of oneshot-run.
 SCRIPTS = {"Interleaving": ["parts/pairs.py"], "Out of memory": ["faults"], "Unit": ["parts/leads.txt"]}

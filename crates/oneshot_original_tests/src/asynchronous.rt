@@ -11,9 +11,7 @@ use futures::executor::block_on;
 use futures::task::Poll;
 use futures::test::MockTask;
 use oneshot::{RecvError, async_channel, channel};
-use oneshot_test_uses::FutureUse::Await;
-use oneshot_test_uses::Silence;
-use oneshot_test_uses::Use::AsFuture;
+use oneshot_calls::shows;
 use std::alloc::AllocGlobal;
 use std::process::Abort;
 use std::random::RandomSource;
@@ -28,9 +26,7 @@ const ONCE: Pace = Pace {
     pause: 10,
 };
 
-fn awaited() -> By {
-    By::Receiver(AsFuture(Await))
-}
+const AWAITED: By = By::Receiver("future await");
 
 fn send_before_await<R: Wait + RandomSource + AllocGlobal + Abort>(rt: &R) -> Result<(), Fail> {
     let (sender, receiver) = channel(rt, rt.alloc())?;
@@ -72,16 +68,16 @@ fn await_before_send<R: Threads + Wait + Clock + RandomSource + AllocGlobal + Ab
     rt: &R,
 ) -> Result<(), Fail> {
     let drops = Drops::new();
-    let act = Act::Send(drops.message(79u128));
-    let (sent, received) = outcome_of(rt, Duration::from_millis(10), act, &awaited())?;
-    let Ok(returned) = received else {
+    let act = Act("send into", drops.message(79u128));
+    let (sent, received) = outcome_of(rt, Duration::from_millis(10), act, AWAITED)?;
+    let Some(returned) = received.message() else {
         panic!(rt; "it was sent");
     };
     assert_same(rt, drops.count(), 0);
     assert_same(rt, returned.value, 79);
     drop(returned);
     assert_same(rt, drops.count(), 1);
-    assert_that(rt, sent.is_ok());
+    assert_that(rt, shows(&sent.numbered(), "Ok"));
     Ok(())
 }
 
@@ -98,8 +94,8 @@ fn await_before_send_async_std(rt: HostRuntime) -> Result<(), Fail> {
 fn await_before_send_then_drop_sender<
     R: Threads + Wait + Clock + RandomSource + AllocGlobal + Abort + Sync,
 >(rt: &R) -> Result<(), Fail> {
-    let outcomes = [(Ok(()), Err(Silence::Disconnected))];
-    assert_outcomes(rt, ONCE, Act::<u128>::Drop, &awaited(), &outcomes)
+    let outcomes = [("dropped", "Err(RecvError)")];
+    assert_outcomes(rt, ONCE, Act("drop", 79u128), AWAITED, &outcomes)
 }
 
 #[test]

@@ -1,5 +1,6 @@
 //! A message that counts its drops.
 
+use oneshot_calls::Numbered;
 use std::sync::atomic::{AtomicU64, Ordering};
 
 /// How many of the messages that it made were dropped.
@@ -32,5 +33,11 @@ impl<T: Drop> Drop for Counted<'_, T> {
     fn drop(self) {
         let Counted { value: _, drops } = self;
         drops.0.fetch_add(1, Ordering::SeqCst);
+    }
+}
+
+impl<T: Numbered> Numbered for Counted<'_, T> {
+    fn number(&self) -> u64 {
+        self.value.number()
     }
 }

@@ -7,7 +7,7 @@ use crossbeam_channel as queue;
 use futures::executor::block_on;
 use oneshot::reply::{self, Length};
 use oneshot::{Sender, channel};
-use oneshot_test_uses::limit;
+use oneshot_calls::limit;
 use std::alloc::AllocError;
 use std::process::Abort;
 use std::sync::Wait;

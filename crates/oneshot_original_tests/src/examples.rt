@@ -3,9 +3,6 @@
 use super::threads::{Act, By, Pace, assert_outcomes};
 use crate::asserts::assert_same;
 use oneshot::channel;
-use oneshot_test_uses::Silence::Disconnected;
-use oneshot_test_uses::Use::{Recv, RecvRef, RecvTimeout};
-use oneshot_test_uses::limit;
 use std::test::Fail;
 
 /// The sender acts once, after a while in which the receiver begins to wait.
@@ -14,9 +11,9 @@ const ONCE: Pace = Pace {
     pause: 2,
 };
 
-const SEND: Act<u128> = Act::Send(9);
+const SEND: Act<u128> = Act("send into", 9);
 
-const DROP: Act<u128> = Act::Drop;
+const DROP: Act<u128> = Act("drop", 9);
 
 #[test]
 fn send_with_dropped_receiver(rt: HostRuntime) -> Result<(), Fail> {
@@ -37,36 +34,36 @@ fn send_before_recv(rt: HostRuntime) -> Result<(), Fail> {
 
 #[test]
 fn recv_before_send(rt: HostRuntime) -> Result<(), Fail> {
-    let outcomes = [(Ok(()), Ok(9))];
-    assert_outcomes(&rt, ONCE, SEND, &By::Receiver(Recv), &outcomes)
+    let outcomes = [("Ok", "Ok(9)")];
+    assert_outcomes(&rt, ONCE, SEND, By::Receiver("recv"), &outcomes)
 }
 
 #[test]
 fn recv_before_send_then_drop_sender(rt: HostRuntime) -> Result<(), Fail> {
-    let outcomes = [(Ok(()), Err(Disconnected))];
-    assert_outcomes(&rt, ONCE, DROP, &By::Receiver(Recv), &outcomes)
+    let outcomes = [("dropped", "Err(RecvError)")];
+    assert_outcomes(&rt, ONCE, DROP, By::Receiver("recv"), &outcomes)
 }
 
 #[test]
 fn recv_ref_before_send(rt: HostRuntime) -> Result<(), Fail> {
-    let outcomes = [(Ok(()), Ok(9))];
-    assert_outcomes(&rt, ONCE, SEND, &By::Receiver(RecvRef), &outcomes)
+    let outcomes = [("Ok", "Ok(9)")];
+    assert_outcomes(&rt, ONCE, SEND, By::Receiver("ref"), &outcomes)
 }
 
 #[test]
 fn recv_ref_before_send_then_drop_sender(rt: HostRuntime) -> Result<(), Fail> {
-    let outcomes = [(Ok(()), Err(Disconnected))];
-    assert_outcomes(&rt, ONCE, DROP, &By::Receiver(RecvRef), &outcomes)
+    let outcomes = [("dropped", "Err(RecvError)")];
+    assert_outcomes(&rt, ONCE, DROP, By::Receiver("ref"), &outcomes)
 }
 
 #[test]
 fn recv_timeout_before_send(rt: HostRuntime) -> Result<(), Fail> {
-    let by = By::Receiver(RecvTimeout(limit()));
-    assert_outcomes(&rt, ONCE, SEND, &by, &[(Ok(()), Ok(9))])
+    let outcomes = [("Ok", "Ok(9)")];
+    assert_outcomes(&rt, ONCE, SEND, By::Receiver("longtimeout"), &outcomes)
 }
 
 #[test]
 fn recv_timeout_before_send_then_drop_sender(rt: HostRuntime) -> Result<(), Fail> {
-    let by = By::Receiver(RecvTimeout(limit()));
-    assert_outcomes(&rt, ONCE, DROP, &by, &[(Ok(()), Err(Disconnected))])
+    let outcomes = [("dropped", "Err(Disconnected)")];
+    assert_outcomes(&rt, ONCE, DROP, By::Receiver("longtimeout"), &outcomes)
 }

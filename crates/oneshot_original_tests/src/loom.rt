@@ -8,36 +8,43 @@ use crate::asserts::{assert_same, assert_that};
 use futures::task::Poll;
 use futures::test::MockTask;
 use oneshot::{async_channel, drive};
+use oneshot_calls::{SenderCall, Sending};
 use oneshot_memory::{MemoryFuture, MemoryTask};
-use oneshot_test_uses::Silence::{Disconnected, Timeout};
-use oneshot_test_uses::Use::{AsFuture, RecvTimeout, TryUntil};
-use oneshot_test_uses::{FutureUse, limit};
 use std::test::Fail;
 use std::time::Duration;
 
 #[test]
 fn try_recv(rt: HostRuntime) -> Result<(), Fail> {
-    let by = By::Receiver(TryUntil);
-    assert_outcomes(&rt, AT_ONCE, Act::Send(19u128), &by, &[(Ok(()), Ok(19))])
+    let send = Act("send into", 19u128);
+    assert_outcomes(
+        &rt,
+        AT_ONCE,
+        send,
+        By::Receiver("tries"),
+        &[("Ok", "Ok(19)")],
+    )
 }
 
 #[test]
 fn send_recv_different_threads(rt: HostRuntime) -> Result<(), Fail> {
-    let by = By::Receiver(RecvTimeout(limit()));
-    assert_outcomes(&rt, AT_ONCE, Act::Send(9u128), &by, &[(Ok(()), Ok(9))])
+    let (send, by) = (Act("send into", 9u128), By::Receiver("longtimeout"));
+    assert_outcomes(&rt, AT_ONCE, send, by, &[("Ok", "Ok(9)")])
 }
 
 #[test]
 fn recv_drop_sender_different_threads(rt: HostRuntime) -> Result<(), Fail> {
-    let by = By::Receiver(RecvTimeout(Duration::ZERO));
-    let outcomes = [(Ok(()), Err(Disconnected)), (Ok(()), Err(Timeout))];
-    assert_outcomes(&rt, AT_ONCE, Act::<u128>::Drop, &by, &outcomes)
+    let (drop, by) = (Act("drop", 9u128), By::Receiver("zerotimeout"));
+    let outcomes = [
+        ("dropped", "Err(Disconnected)"),
+        ("dropped", "Err(Timeout)"),
+    ];
+    assert_outcomes(&rt, AT_ONCE, drop, by, &outcomes)
 }
 
 #[test]
 fn async_recv(rt: HostRuntime) -> Result<(), Fail> {
-    let by = By::Receiver(AsFuture(FutureUse::Await));
-    assert_outcomes(&rt, AT_ONCE, Act::Send(987u128), &by, &[(Ok(()), Ok(987))])
+    let (send, by) = (Act("send into", 987u128), By::Receiver("future await"));
+    assert_outcomes(&rt, AT_ONCE, send, by, &[("Ok", "Ok(987)")])
 }
 
 // How many copies of a task's waker were made, how many were used or dropped, and the task's wakes.
@@ -68,8 +75,9 @@ fn poll_then_drop_receiver_during_send(rt: HostRuntime) -> Result<(), Fail> {
     for _ in 0..ROUNDS {
         let (sender, mut receiver) = async_channel(&rt, rt.alloc())?;
         assert_same(&rt, task.poll(&mut receiver), Poll::Pending);
-        let (act, ends) = (Act::Send(1234u128), (sender, receiver));
-        let _ = on_two_threads(&rt, Duration::ZERO, act, ends, |receiver| drop(receiver));
+        let ends = (Sending::new(sender, Some(1234u128)), receiver);
+        let sends = &[SenderCall::Send];
+        let _ = on_two_threads(&rt, Duration::ZERO, sends, ends, |receiver| drop(receiver));
     }
     Ok(())
 }

@@ -1,114 +1,113 @@
 //! The tests of `tests/miri.rs`: each use of a sender races with each use of a receiver, in many rounds.
 
 use super::threads::{AT_ONCE, Act, By, assert_outcomes};
-use futures::test::MockTask;
-use oneshot_test_uses::FutureUse::{PollOnce, PollUntil};
-use oneshot_test_uses::Silence::{Disconnected, Dropped, NothingYet};
-use oneshot_test_uses::Use::{JustDrop, Recv, RecvRef, RecvTimeout, TryOnce, TryUntil};
-use oneshot_test_uses::limit;
 use std::test::Fail;
 
-const SEND: Act<i32> = Act::Send(999);
+const SEND: Act<i32> = Act("send into", 999);
 
-const DROP: Act<i32> = Act::Drop;
+const DROP: Act<i32> = Act("drop", 999);
 
 #[test]
 fn tx_send_rx_drop(rt: HostRuntime) -> Result<(), Fail> {
-    let outcomes = [(Ok(()), Err(Dropped)), (Err(999), Err(Dropped))];
-    assert_outcomes(&rt, AT_ONCE, SEND, &By::Receiver(JustDrop), &outcomes)
+    let outcomes = [("Ok", "dropped"), ("999", "dropped")];
+    assert_outcomes(&rt, AT_ONCE, SEND, By::Receiver("drop"), &outcomes)
 }
 
 #[test]
 fn tx_send_rx_recv_done(rt: HostRuntime) -> Result<(), Fail> {
-    let outcomes = [(Ok(()), Ok(999))];
-    assert_outcomes(&rt, AT_ONCE, SEND, &By::Receiver(Recv), &outcomes)
+    let outcomes = [("Ok", "Ok(999)")];
+    assert_outcomes(&rt, AT_ONCE, SEND, By::Receiver("recv"), &outcomes)
 }
 
 #[test]
 fn tx_send_rx_recv_ref(rt: HostRuntime) -> Result<(), Fail> {
-    let outcomes = [(Ok(()), Ok(999))];
-    assert_outcomes(&rt, AT_ONCE, SEND, &By::Receiver(RecvRef), &outcomes)
+    let outcomes = [("Ok", "Ok(999)")];
+    assert_outcomes(&rt, AT_ONCE, SEND, By::Receiver("ref"), &outcomes)
 }
 
 #[test]
 fn tx_send_rx_recv_timeout(rt: HostRuntime) -> Result<(), Fail> {
-    let by = By::Receiver(RecvTimeout(limit()));
-    assert_outcomes(&rt, AT_ONCE, SEND, &by, &[(Ok(()), Ok(999))])
+    let outcomes = [("Ok", "Ok(999)")];
+    assert_outcomes(&rt, AT_ONCE, SEND, By::Receiver("longtimeout"), &outcomes)
 }
 
 #[test]
 fn tx_send_rx_try_recv_to_completion(rt: HostRuntime) -> Result<(), Fail> {
-    let outcomes = [(Ok(()), Ok(999))];
-    assert_outcomes(&rt, AT_ONCE, SEND, &By::Receiver(TryUntil), &outcomes)
+    let outcomes = [("Ok", "Ok(999)")];
+    assert_outcomes(&rt, AT_ONCE, SEND, By::Receiver("tries"), &outcomes)
 }
 
 #[test]
 fn tx_send_rx_try_recv_then_drop(rt: HostRuntime) -> Result<(), Fail> {
-    let empty = Err(NothingYet);
-    let outcomes = [(Ok(()), Ok(999)), (Ok(()), empty), (Err(999), empty)];
-    assert_outcomes(&rt, AT_ONCE, SEND, &By::Receiver(TryOnce), &outcomes)
+    let outcomes = [
+        ("Ok", "Ok(999)"),
+        ("Ok", "Err(Empty)"),
+        ("999", "Err(Empty)"),
+    ];
+    assert_outcomes(&rt, AT_ONCE, SEND, By::Receiver("try"), &outcomes)
 }
 
 #[test]
 fn tx_send_rx_poll_to_completion(rt: HostRuntime) -> Result<(), Fail> {
-    let by = By::Future(PollUntil(MockTask::new(&rt)?));
-    assert_outcomes(&rt, AT_ONCE, SEND, &by, &[(Ok(()), Ok(999))])
+    let outcomes = [("Ok", "Ready(Ok(999))")];
+    assert_outcomes(&rt, AT_ONCE, SEND, By::Future("polls"), &outcomes)
 }
 
 #[test]
 fn tx_send_rx_poll_then_drop(rt: HostRuntime) -> Result<(), Fail> {
-    let by = By::Future(PollOnce(MockTask::new(&rt)?));
-    let pending = Err(NothingYet);
-    let outcomes = [(Ok(()), Ok(999)), (Ok(()), pending), (Err(999), pending)];
-    assert_outcomes(&rt, AT_ONCE, SEND, &by, &outcomes)
+    let outcomes = [
+        ("Ok", "Ready(Ok(999))"),
+        ("Ok", "Pending"),
+        ("999", "Pending"),
+    ];
+    assert_outcomes(&rt, AT_ONCE, SEND, By::Future("poll1"), &outcomes)
 }
 
 // As in the original, the test only asserts that both threads end.
 #[test]
 fn tx_drop_rx_drop(rt: HostRuntime) -> Result<(), Fail> {
-    let outcomes = [(Ok(()), Err(Dropped))];
-    assert_outcomes(&rt, AT_ONCE, DROP, &By::Receiver(JustDrop), &outcomes)
+    let outcomes = [("dropped", "dropped")];
+    assert_outcomes(&rt, AT_ONCE, DROP, By::Receiver("drop"), &outcomes)
 }
 
 #[test]
 fn tx_drop_rx_recv_done(rt: HostRuntime) -> Result<(), Fail> {
-    let outcomes = [(Ok(()), Err(Disconnected))];
-    assert_outcomes(&rt, AT_ONCE, DROP, &By::Receiver(Recv), &outcomes)
+    let outcomes = [("dropped", "Err(RecvError)")];
+    assert_outcomes(&rt, AT_ONCE, DROP, By::Receiver("recv"), &outcomes)
 }
 
 #[test]
 fn tx_drop_rx_recv_ref(rt: HostRuntime) -> Result<(), Fail> {
-    let outcomes = [(Ok(()), Err(Disconnected))];
-    assert_outcomes(&rt, AT_ONCE, DROP, &By::Receiver(RecvRef), &outcomes)
+    let outcomes = [("dropped", "Err(RecvError)")];
+    assert_outcomes(&rt, AT_ONCE, DROP, By::Receiver("ref"), &outcomes)
 }
 
 #[test]
 fn tx_drop_rx_recv_timeout(rt: HostRuntime) -> Result<(), Fail> {
-    let by = By::Receiver(RecvTimeout(limit()));
-    assert_outcomes(&rt, AT_ONCE, DROP, &by, &[(Ok(()), Err(Disconnected))])
+    let outcomes = [("dropped", "Err(Disconnected)")];
+    assert_outcomes(&rt, AT_ONCE, DROP, By::Receiver("longtimeout"), &outcomes)
 }
 
 #[test]
 fn tx_drop_rx_try_recv_to_completion(rt: HostRuntime) -> Result<(), Fail> {
-    let outcomes = [(Ok(()), Err(Disconnected))];
-    assert_outcomes(&rt, AT_ONCE, DROP, &By::Receiver(TryUntil), &outcomes)
+    let outcomes = [("dropped", "Err(Disconnected)")];
+    assert_outcomes(&rt, AT_ONCE, DROP, By::Receiver("tries"), &outcomes)
 }
 
 #[test]
 fn tx_drop_rx_try_recv_then_drop(rt: HostRuntime) -> Result<(), Fail> {
-    let outcomes = [(Ok(()), Err(NothingYet)), (Ok(()), Err(Disconnected))];
-    assert_outcomes(&rt, AT_ONCE, DROP, &By::Receiver(TryOnce), &outcomes)
+    let outcomes = [("dropped", "Err(Empty)"), ("dropped", "Err(Disconnected)")];
+    assert_outcomes(&rt, AT_ONCE, DROP, By::Receiver("try"), &outcomes)
 }
 
 #[test]
 fn tx_drop_rx_poll_to_completion(rt: HostRuntime) -> Result<(), Fail> {
-    let by = By::Future(PollUntil(MockTask::new(&rt)?));
-    assert_outcomes(&rt, AT_ONCE, DROP, &by, &[(Ok(()), Err(Disconnected))])
+    let outcomes = [("dropped", "Ready(Err(RecvError))")];
+    assert_outcomes(&rt, AT_ONCE, DROP, By::Future("polls"), &outcomes)
 }
 
 #[test]
 fn tx_drop_rx_poll_then_drop(rt: HostRuntime) -> Result<(), Fail> {
-    let by = By::Future(PollOnce(MockTask::new(&rt)?));
-    let outcomes = [(Ok(()), Err(NothingYet)), (Ok(()), Err(Disconnected))];
-    assert_outcomes(&rt, AT_ONCE, DROP, &by, &outcomes)
+    let outcomes = [("dropped", "Pending"), ("dropped", "Ready(Err(RecvError))")];
+    assert_outcomes(&rt, AT_ONCE, DROP, By::Future("poll1"), &outcomes)
 }

@@ -7,9 +7,6 @@ use super::threads::{AT_ONCE, Act, By, Pace, ROUNDS, assert_outcomes};
 use super::times::{in_time, second, tenth};
 use crate::asserts::{assert_same, assert_that};
 use oneshot::{RecvError, RecvTimeoutError, SendError, TryRecvError, channel};
-use oneshot_test_uses::Silence::{Disconnected, NothingYet};
-use oneshot_test_uses::Use::{Recv, RecvTimeout, TryOnce};
-use oneshot_test_uses::limit;
 use std::alloc::{AllocError, Global};
 use std::process::Abort;
 use std::sync::Wait;
@@ -146,6 +143,10 @@ fn recv_with_dropped_sender(rt: HostRuntime) -> Result<(), Fail> {
     Ok(())
 }
 
+const SEND: Act<u128> = Act("send into", 9);
+
+const DROP: Act<u128> = Act("drop", 9);
+
 /// A send after a while, in which the receiver begins to wait.
 const IN_A_WHILE: Pace = Pace {
     rounds: ROUNDS,
@@ -154,14 +155,20 @@ const IN_A_WHILE: Pace = Pace {
 
 #[test]
 fn recv_before_send(rt: HostRuntime) -> Result<(), Fail> {
-    let by = By::Receiver(Recv);
-    assert_outcomes(&rt, IN_A_WHILE, Act::Send(9u128), &by, &[(Ok(()), Ok(9))])
+    let outcomes = [("Ok", "Ok(9)")];
+    assert_outcomes(&rt, IN_A_WHILE, SEND, By::Receiver("recv"), &outcomes)
 }
 
 #[test]
 fn recv_timeout_before_send(rt: HostRuntime) -> Result<(), Fail> {
-    let by = By::Receiver(RecvTimeout(limit()));
-    assert_outcomes(&rt, IN_A_WHILE, Act::Send(9u128), &by, &[(Ok(()), Ok(9))])
+    let outcomes = [("Ok", "Ok(9)")];
+    assert_outcomes(
+        &rt,
+        IN_A_WHILE,
+        SEND,
+        By::Receiver("longtimeout"),
+        &outcomes,
+    )
 }
 
 /// A drop after a longer while.
@@ -172,26 +179,14 @@ const LATER: Pace = Pace {
 
 #[test]
 fn recv_before_send_then_drop_sender(rt: HostRuntime) -> Result<(), Fail> {
-    let by = By::Receiver(Recv);
-    assert_outcomes(
-        &rt,
-        LATER,
-        Act::<u128>::Drop,
-        &by,
-        &[(Ok(()), Err(Disconnected))],
-    )
+    let outcomes = [("dropped", "Err(RecvError)")];
+    assert_outcomes(&rt, LATER, DROP, By::Receiver("recv"), &outcomes)
 }
 
 #[test]
 fn recv_timeout_before_send_then_drop_sender(rt: HostRuntime) -> Result<(), Fail> {
-    let by = By::Receiver(RecvTimeout(limit()));
-    assert_outcomes(
-        &rt,
-        LATER,
-        Act::<u128>::Drop,
-        &by,
-        &[(Ok(()), Err(Disconnected))],
-    )
+    let outcomes = [("dropped", "Err(Disconnected)")];
+    assert_outcomes(&rt, LATER, DROP, By::Receiver("longtimeout"), &outcomes)
 }
 
 #[test]
@@ -205,10 +200,9 @@ fn try_recv(rt: HostRuntime) -> Result<(), Fail> {
 
 #[test]
 fn try_recv_then_drop_receiver(rt: HostRuntime) -> Result<(), Fail> {
-    let by = By::Receiver(TryOnce);
-    let empty = Err(NothingYet);
-    let outcomes = [(Ok(()), Ok(42)), (Ok(()), empty), (Err(42), empty)];
-    assert_outcomes(&rt, AT_ONCE, Act::Send(42u128), &by, &outcomes)
+    let send = Act("send into", 42u128);
+    let outcomes = [("Ok", "Ok(42)"), ("Ok", "Err(Empty)"), ("42", "Err(Empty)")];
+    assert_outcomes(&rt, AT_ONCE, send, By::Receiver("try"), &outcomes)
 }
 
 // How long `receive` takes, which gets the instant of its start. Fails unless it times out.

@@ -1,10 +1,12 @@
 //! Both ends of a channel, each on a thread of its own.
 
 use super::times::{assert_woken_since, now};
-use oneshot::{Sender, async_channel, channel};
-use oneshot_test_uses::{FutureUse, Silence, Use};
-use std::fmt::Debug;
+use oneshot::{Receiver, Sender, async_channel, channel};
+use oneshot_calls::{
+    Numbered, ReceiverCall, Receiving, Reply, SenderCall, Sending, Tasks, script, shows,
+};
 use std::hint::spin_loop;
+use std::io;
 use std::process::{Abort, Termination};
 use std::random::RandomSource;
 use std::sync::Wait;
@@ -13,22 +15,17 @@ use std::test::Fail;
 use std::thread::{Threads, join, sleep};
 use std::time::{Clock, Duration};
 
-/// What the sender's thread does.
+/// The sender's script, and its message.
 #[derive(Clone, Copy, Drop)]
-pub(super) enum Act<T> {
-    /// `send`.
-    Send(T),
-    /// The drop of the sender.
-    Drop,
-}
+pub(super) struct Act<T>(pub(super) &'static str, pub(super) T);
 
-/// The receiver, and what its thread does with it.
-#[derive(Drop)]
+/// The receiver's script.
+#[derive(Clone, Copy)]
 pub(super) enum By {
-    /// The receiver of `channel`.
-    Receiver(Use),
-    /// The future of `async_channel`.
-    Future(FutureUse),
+    /// Of the receiver of `channel`.
+    Receiver(&'static str),
+    /// Of the future of `async_channel`.
+    Future(&'static str),
 }
 
 /// How many pairs of threads a test runs, one after the other, and when the sender acts.
@@ -48,20 +45,8 @@ pub(super) const AT_ONCE: Pace = Pace {
     pause: 0,
 };
 
-/// The result of the sender's act, with the message if it came back, and that of the receiver's use.
-pub(super) type Outcome<T> = (Result<(), T>, Result<T, Silence>);
-
-impl<T: Send + Drop> Act<T> {
-    fn make(self, sender: Sender<T>) -> Result<(), T> {
-        match self {
-            Act::Send(message) => sender.send(message).map_err(|refused| refused.into_inner()),
-            Act::Drop => {
-                drop(sender);
-                Ok(())
-            }
-        }
-    }
-}
+/// What the last call of each script returns.
+pub(super) type Outcome<T> = (Reply<T>, Reply<T>);
 
 impl Pace {
     /// How long the sender sleeps in this round, counted from 0.
@@ -93,14 +78,20 @@ fn meet(here: &AtomicU64) {
 /// woken.
 pub(super) fn on_two_threads<
     R: Threads + Clock + Abort + Sync,
-    T: Send + Drop,
+    T: Numbered + Send + Drop,
     E: Drop,
     B,
     F: FnOnce(E) -> B,
->(rt: &R, pause: Duration, act: Act<T>, ends: (Sender<T>, E), receive: F) -> (Result<(), T>, B)
+>(
+    rt: &R,
+    pause: Duration,
+    sends: &[SenderCall],
+    ends: (Sending<T, Sender<T>>, E),
+    receive: F,
+) -> (Reply<T>, B)
     requires { F.IsAlwaysCallable receive }
 {
-    let (sender, receiver) = ends;
+    let (sending, receiver) = ends;
     let here = AtomicU64::new(0);
     join(
         rt,
@@ -109,7 +100,7 @@ pub(super) fn on_two_threads<
             if !pause.is_zero() {
                 sleep(rt, pause);
             }
-            act.make(sender)
+            sending.make_all(sends)
         },
         || {
             meet(&here);
@@ -121,40 +112,96 @@ pub(super) fn on_two_threads<
     )
 }
 
+/// Makes the calls of a receiver, or of the future that it is.
+fn receive_all<R: Wait + Clock + RandomSource + AllocGlobal, T: Drop, W: Wait + Clock + Drop>(
+    rt: &R,
+    receives: &[ReceiverCall],
+    receiving: Receiving<T, Receiver<T, W>>,
+) -> io::Result<Reply<T>> {
+    let tasks = Tasks::new(rt)?;
+    Ok(receiving.make_all(rt, Some(&tasks), receives))
+}
+
+/// What both ends return after these calls.
+fn outcome_by<
+    R: Threads + Wait + Clock + RandomSource + AllocGlobal + Abort + Sync,
+    T: Numbered + Send + Drop,
+    W: Wait + Clock + Send + Drop,
+>(
+    rt: &R,
+    pause: Duration,
+    sends: &[SenderCall],
+    receives: &[ReceiverCall],
+    ends: (Sending<T, Sender<T>>, Receiving<T, Receiver<T, W>>),
+) -> Result<Outcome<T>, Fail> {
+    let receive = |receiving| receive_all(rt, receives, receiving);
+    let (sent, received) = on_two_threads(rt, pause, sends, ends, receive);
+    Ok((sent, received?))
+}
+
 /// What both ends of a new channel return.
 pub(super) fn outcome_of<
     R: Threads + Wait + Clock + RandomSource + AllocGlobal + Abort + Sync,
-    T: Send + Drop,
->(rt: &R, pause: Duration, act: Act<T>, by: &By) -> Result<Outcome<T>, Fail> {
-    match by {
-        By::Receiver(using) => {
-            let ends = channel(rt, rt.alloc())?;
-            let receive = |receiver| using.receive(rt, receiver);
-            Ok(on_two_threads(rt, pause, act, ends, receive))
+    T: Numbered + Send + Drop,
+>(rt: &R, pause: Duration, act: Act<T>, by: By) -> Result<Outcome<T>, Fail> {
+    let Act(sends, message) = act;
+    let sends = script::<SenderCall>(rt.alloc(), sends)?;
+    let (receives, sender, receiving) = match by {
+        By::Receiver(receives) => {
+            let (sender, receiver) = channel(rt, rt.alloc())?;
+            (receives, sender, Receiving::new(receiver))
         }
-        By::Future(using) => {
-            let ends = async_channel(rt, rt.alloc())?;
-            let receive = |future| using.receive(rt, future);
-            Ok(on_two_threads(rt, pause, act, ends, receive))
+        By::Future(receives) => {
+            let (sender, future) = async_channel(rt, rt.alloc())?;
+            (receives, sender, Receiving::of_future(future))
         }
-    }
+    };
+    let receives = script::<ReceiverCall>(rt.alloc(), receives)?;
+    let ends = (Sending::new(sender, Some(message)), receiving);
+    outcome_by(rt, pause, &sends, &receives, ends)
 }
 
-/// Fails unless each round has one of the wanted outcomes.
+/// Whether the replies are one of the wanted outcomes.
+fn is_wanted(sent: &Reply<u64>, received: &Reply<u64>, wanted: &[(&str, &str)]) -> bool {
+    for (one, other) in wanted {
+        if shows(sent, one) && shows(received, other) {
+            return true;
+        }
+    }
+    false
+}
+
+/// Fails unless the replies are one of the wanted outcomes.
+fn assert_wanted(
+    rt: &impl Abort,
+    calls: &str,
+    sent: &Reply<u64>,
+    received: &Reply<u64>,
+    wanted: &[(&str, &str)],
+) {
+    let is_so = is_wanted(sent, received, wanted);
+    assert!(rt; is_so, "{calls}: {sent}, {received}");
+}
+
+/// Fails unless each round has one of the wanted outcomes, of which each is two texts.
 pub(super) fn assert_outcomes<
     R: Threads + Wait + Clock + RandomSource + AllocGlobal + Abort + Sync,
-    T: Copy + Debug + PartialEq + Send,
->(rt: &R, pace: Pace, act: Act<T>, by: &By, wanted: &[Outcome<T>]) -> Result<(), Fail> {
+    T: Copy + Numbered + Send,
+>(rt: &R, pace: Pace, act: Act<T>, by: By, wanted: &[(&str, &str)]) -> Result<(), Fail> {
+    let (By::Receiver(calls) | By::Future(calls)) = by;
+    let Act(sends, message) = act;
     for round in 0..pace.rounds {
-        let outcome = outcome_of(rt, pace.pause_of(round), act, by)?;
-        assert!(rt; wanted.contains(&outcome), "{outcome:?}, not of {wanted:?}");
+        let act = Act(sends, message);
+        let (sent, received) = outcome_of(rt, pace.pause_of(round), act, by)?;
+        let (sent, received) = (sent.numbered(), received.numbered());
+        assert_wanted(rt, calls, &sent, &received, wanted);
     }
     Ok(())
 }
 
 #[test]
-#[should_panic(expected = "(Ok(()), Ok(1)), not of []")]
+#[should_panic(expected = "recv: Ok, Ok(1)")]
 fn an_outcome_that_is_not_wanted_ends_a_test(rt: HostRuntime) {
-    let by = By::Receiver(Use::Recv);
-    let _ = assert_outcomes(&rt, AT_ONCE, Act::Send(1u8), &by, &[]).report(&rt);
+    let act = Act("send into", 1u64);
+    let _ = assert_outcomes(&rt, AT_ONCE, act, By::Receiver("recv"), &[]).report(&rt);
 }

@@ -1,6 +1,6 @@
 //! How long the tests wait, how late a receive may return, and what the tests do on a busy machine.
 
-use oneshot_test_uses::is_overdue;
+use oneshot_calls::is_overdue;
 use std::process::Abort;
 use std::test::Fail;
 use std::thread::sleep;
