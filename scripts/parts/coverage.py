@@ -12,9 +12,9 @@ from parts.sources import CRATES, code_of, crates, section, sources, text_of
 
 # The crates of each kind of test. Those of the tests that none names are of the first kind.
 KINDS = {
-    "Unit": ["oneshot_use_tests"],
+    "Unit": ["oneshot_program_tests"],
     "Race": ["oneshot_rounds"],
-    "Interleaving": ["oneshot_scheduled", "oneshot_calls"],
+    "Interleaving": ["oneshot_explored", "oneshot_calls"],
     "Out of memory": ["oneshot_out_of_memory"],
     "Original": ["oneshot_original_tests"],
 }

@@ -18,7 +18,7 @@ POLLS = ["future drop", "future poll1 drop", "future poll1 poll1 drop", "future 
 WAITS = ["recv", "ref drop", "try recv", "raw recv", "ref try drop", "full recv", "forever drop"]
 TIMED = ["timeout drop", "zerotimeout drop", "deadline drop", "zerodeadline drop", "timeout try drop",
          "timeout future poll1 drop", "fartimeout drop", "fardeadline drop"]
-# Two waits. Beside a drop of the sender, whose flip is tried again and again, their runs do not end in half an hour.
+# Two waits. Beside a drop of the sender, whose xor is tried again and again, their runs do not end in half an hour.
 TWICE = ["deadline ref drop", "timeout timeout drop", "timeout recv"]
 SENDS = ["send", "closed send", "send inner into", "send drop", "raw send into", ""]
 ASKED = ["try drop", "closed try drop", "drop", "recv", "try recv", "timeout drop", "forever drop",

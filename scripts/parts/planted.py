@@ -19,7 +19,6 @@ IN_PRINTED = [
     ("docs/benchmarks.svg", "</svg>", ""),
     ("crates.txt", "oneshot_reply may_wait=2: oneshot_errors oneshot_ends", "oneshot_reply: oneshot_errors"),
     ("crates/hello/src/main.rt", "19", "20"),
-    ("crates/oneshot_callers/src/asserts.rt", "found, wanted);", "found, found);"),
     ("crates/oneshot_machine/specs/Timed.antt", "(Word UNPARKING, Goes ", "(Word MESSAGE, Goes "),
     ("crates/oneshot_machine/src/states.rt", "RECEIVING: u8 = 0", "RECEIVING: u8 = 1"),
     (LOOKS, "pub fn is_closed", "pub fn more() {}\n\n    pub fn is_closed"),

@@ -62,7 +62,7 @@ def build_unproved(folder, damage=None):
     if damage:
         plant(folder / "crates", *damage)
     said, _ = run([str(make_kit(folder, copy)), "try", "--steps", "1"], stdin=subprocess.DEVNULL,
-                  cwd=folder / "crates" / "oneshot_scheduled", stdout=subprocess.PIPE, stderr=subprocess.STDOUT,
+                  cwd=folder / "crates" / "oneshot_explored", stdout=subprocess.PIPE, stderr=subprocess.STDOUT,
                   text=True)
     if not copy.exists():
         raise Differs(said)

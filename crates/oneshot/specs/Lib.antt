@@ -1,4 +1,10 @@
 -- What a proof of your own imports, some of it under another name.
+-- Each line re-exports a file of a crate beneath, so that a program and its proofs list this crate alone. The files
+-- stand in groups by the contracts that name them, with a comment above each group.
+-- `Ends` and `Right` hold the ideas. `Ends` is what a contract sees of a real end: its channel and its log. `Right` is
+-- the record of all laws of a trace of the model.
+-- Of the channel read `Ends`, `Runs` and `BetweenCalls` first. Of the model read `TraceView` and `Right` first, and
+-- then the file of `oneshot_laws` that a field of `Right` names.
 -- the definitions that the contracts of the ends name
 pub use Rattle.oneshot_ends.specs.Deadlines
 pub use Rattle.oneshot_ends.specs.Ends

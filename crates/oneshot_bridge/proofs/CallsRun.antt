@@ -1,7 +1,7 @@
 -- Between calls: an order of both ends' logs is that of a run with the calls that the ends have made.
 use Rattle.oneshot_bridge.proofs.Names.{subst, filter, CallsAreRuns, BothCallsAreRuns, OneCallGets, HaveCome, InOrder, gave_message}
 use Rattle.std.specs.Prelude.{◌≤◌, length}
-use Rattle.oneshot_machine.proofs.InOrders.{in_order}
+use Rattle.oneshot_machine.proofs.InOrders.{order_is}
 use Rattle.oneshot_bridge.proofs.Given.{one_receive_gets}
 use Rattle.oneshot_bridge.proofs.SenderScripted.{sender_scripted}
 use Rattle.oneshot_bridge.proofs.StatesRun.{orders_run}
@@ -18,7 +18,7 @@ calls_run T W message form received xs ys word order was =
       receiver = b.script;
       s = a.2;
       r = b.stand;
-      run = orders_run T a.0 b.script xs ys word a.2 b.stand (in_order order) a.3 b.walk;
+      run = orders_run T a.0 b.script xs ys word a.2 b.stand (order_is order) a.3 b.walk;
       rests = b.rests;
       none_left = b.none_left;
       answered = b.answered;
@@ -50,6 +50,6 @@ one_call_gets T W message form received xs ys word order was =
     let a = sender_scripted T message xs ys word order in
     let b : ReceiverDone received ys = receiver_done form was in
     let come : HaveCome InOrder a.0 b.script xs ys word a.2 b.stand =
-    record { order = in_order order; sender = a.3; receiver = b.walk } in
-    subst (λ told. length (filter gave_message told) ≤ 1) b.answered
+    record { order = order_is order; sender = a.3; receiver = b.walk } in
+    subst (λ replies. length (filter gave_message replies) ≤ 1) b.answered
     (one_receive_gets T a.0 b.script xs ys word a.2 b.stand come)

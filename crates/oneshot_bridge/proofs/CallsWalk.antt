@@ -18,8 +18,8 @@ pub record Walks {P S : Type 0} (w : Walker P S) (among : P → Bool) (Left : S 
   pub goes : (p : P) (seen : Seen) (next : P) → among p ≡ true → w.row p seen ≡ Some (Goes next) → among next ≡ true
   pub answers : (p : P) (seen : Seen) (reply : Reply) → among p ≡ true → w.row p seen ≡ Some (Answers reply)
       → Left (w.goes (w.step p) (Answers reply))
-  pub stands : (p next : P) (left : Unanswered) (told : List Answered)
-      → w.position (w.goes (w.step p) (Goes next), left, told) ≡ Some next
+  pub stands : (p next : P) (left : Unanswered) (replies : List Answered)
+      → w.position (w.goes (w.step p) (Goes next), left, replies) ≡ Some next
 
 -- it follows from a test of each row
 module _ {P S : Type 0} (w : Walker P S) (among : P → Bool) (left : S → Bool) where
@@ -38,8 +38,8 @@ module _ {P S : Type 0} (w : Walker P S) (among : P → Bool) (left : S → Bool
   or_sees (Some op) sees so none = absurd (cc none)
 
   pub fit_walks : (rows : P → Rows P) → ((p : P) (seen : Seen) → w.row p seen ≡ row_for seen (rows p)) → RowsFit rows
-      → ((p next : P) (left : Unanswered) (told : List Answered)
-      → w.position (w.goes (w.step p) (Goes next), left, told) ≡ Some next)
+      → ((p next : P) (left : Unanswered) (replies : List Answered)
+      → w.position (w.goes (w.step p) (Goes next), left, replies) ≡ Some next)
       → Walks w among (λ s. left s ≡ true)
   fit_walks rows is fit stands =
       record {
@@ -62,46 +62,47 @@ module _ {P S : Type 0} (w : Walker P S) {among : P → Bool} {Left : S → Type
   The_walk = Walk (Quiet w) (Operates w) from
 
   -- one step
-  walks_on : {T W : Type 0} {ys : List Noted} {s : S} {left : Unanswered} {told : List Answered} (p : P) (x : Event T W)
-      (row : Outcome P) → among p ≡ true → The_walk ys (s, left, told) → w.position (s, left, told) ≡ Some p
+  walks_on : {T W : Type 0} {ys : List Noted} {s : S} {left : Unanswered} {replies : List Answered} (p : P)
+      (x : Event T W)
+      (row : Outcome P) → among p ≡ true → The_walk ys (s, left, replies) → w.position (s, left, replies) ≡ Some p
       → x.step ≡ w.step p → w.row p x.seen ≡ Some row
-      → The_walk (ys ++ words (x ∷ [])) (stands_after w p row left told)
-  walks_on {ys = ys} {left = left} {told = told} p x row its walk at step rows =
+      → The_walk (ys ++ words (x ∷ [])) (stands_after w p row left replies)
+  walks_on {ys = ys} {left = left} {replies = replies} p x row its walk at step rows =
       by (op_of x.step) refl
     where
       by : (o : Option Op) → op_of x.step ≡ o
-          → The_walk (ys ++ cons_option (option_map (λ op. (op, x.seen)) o) []) (stands_after w p row left told)
+          → The_walk (ys ++ cons_option (option_map (λ op. (op, x.seen)) o) []) (stands_after w p row left replies)
       by None is =
-          subst (λ ys. The_walk ys (stands_after w p row left told)) (sym (append-nil ys))
+          subst (λ ys. The_walk ys (stands_after w p row left replies)) (sym (append-nil ys))
           (quietly walk
           (quiet p x.seen row at (walks.sees p x.seen row its (ap op_of (sym step) ∙ is) rows) rows))
       by (Some op) is =
           by_one (op, x.seen) walk (operates p (op, x.seen) row at (sym step ∙ op_is op x.step is) rows)
 
   -- the end after the call
-  pub record HasAnswered (ys : List Noted) (reply : Reply) (left : Unanswered) (told : List Answered) : Type 0 where
+  pub record HasAnswered (ys : List Noted) (reply : Reply) (left : Unanswered) (replies : List Answered) : Type 0 where
     pub state : S
     pub so : Left state
-    pub walk : The_walk ys (state, left_by w.side (Some reply) left, told ++ answers_with left (Some reply))
+    pub walk : The_walk ys (state, left_by w.side (Some reply) left, replies ++ answers_with left (Some reply))
 
   pub call_walks : {T W : Type 0} {p : P} {reply : Reply} {run : List (Event T W)} → Run w.step w.row p run reply
-      → among p ≡ true → (ys : List Noted) (s : S) (left : Unanswered) (told : List Answered)
-      → The_walk ys (s, left, told) → w.position (s, left, told) ≡ Some p
-      → HasAnswered (ys ++ words run) reply left told
-  call_walks {p = p} (last {r = reply} x step rows) its ys s left told walk at =
+      → among p ≡ true → (ys : List Noted) (s : S) (left : Unanswered) (replies : List Answered)
+      → The_walk ys (s, left, replies) → w.position (s, left, replies) ≡ Some p
+      → HasAnswered (ys ++ words run) reply left replies
+  call_walks {p = p} (last {r = reply} x step rows) its ys s left replies walk at =
       record {
         state = w.goes (w.step p) (Answers reply);
         so = walks.answers p x.seen reply its rows;
         walk = walks_on p x (Answers reply) its walk at step rows;
       }
-  call_walks {T} {W} {p = p} {reply = reply} (more next x xs step rows rest) its ys s left told walk at =
+  call_walks {T} {W} {p = p} {reply = reply} (more next x xs step rows rest) its ys s left replies walk at =
       let there = w.goes (w.step p) (Goes next) in
-      let stood = subst (λ told. The_walk (ys ++ words (x ∷ [])) (there, left, told)) (append-nil told)
+      let stood = subst (λ replies. The_walk (ys ++ words (x ∷ [])) (there, left, replies)) (append-nil replies)
       (walks_on p x (Goes next) its walk at step rows) in
-      let then : HasAnswered ((ys ++ words (x ∷ [])) ++ words xs) reply left told =
-      call_walks rest (walks.goes p x.seen next its rows) (ys ++ words (x ∷ [])) there left told stood
-      (walks.stands p next left told) in
-      subst (λ ys. HasAnswered ys reply left told)
+      let then : HasAnswered ((ys ++ words (x ∷ [])) ++ words xs) reply left replies =
+      call_walks rest (walks.goes p x.seen next its rows) (ys ++ words (x ∷ [])) there left replies stood
+      (walks.stands p next left replies) in
+      subst (λ ys. HasAnswered ys reply left replies)
       (append_assoc ys (words (x ∷ [])) (words xs) ∙ ap (λ ns. ys ++ ns) (words_more x xs)) then
     where
       words_more : (x : Event T W) (xs : List (Event T W)) → words (x ∷ []) ++ words xs ≡ words (x ∷ xs)

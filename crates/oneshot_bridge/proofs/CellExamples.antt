@@ -36,7 +36,7 @@ worked_cells {T} m =
       before = record {
         run = record {
           worlds = worlds_by m receives (r ∷ []);
-          tells = (refl, tt);
+          is_run = (refl, tt);
           ends = refl;
           count = refl;
           message = refl;
@@ -49,7 +49,7 @@ worked_cells {T} m =
       after = record {
         run = record {
           worlds = worlds_by m receives (r ∷ r ∷ []);
-          tells = (refl, (refl, tt));
+          is_run = (refl, (refl, tt));
           ends = refl;
           count =
               refl;

@@ -1,14 +1,14 @@
 -- Each run whose logs have an order leads to a world whose cells are as the rule of the word has them.
 use Rattle.std.proofs.Common.{is_some}
 use Rattle.oneshot_bridge.proofs.Names.{◌≡◌, ℕ, ◌+◌, Bool, true, false, ◌&&◌, List, [], ◌∷◌, Option, Some, None, refl, sym, ap, ◌∙◌, subst, option_map, and_parts, Noted, Reaches, fresh, Share, empty}
-use Rattle.oneshot_bridge.proofs.Names.{filled, Call, Classes, all_alike, as_name, as_state, as_entry, control_of, as_control, all_in, IsReached, is_in_cell, World, Tells_from, opening, side_of}
+use Rattle.oneshot_bridge.proofs.Names.{filled, Call, Classes, all_alike, as_name, as_state, as_entry, control_of, as_control, all_in, IsReached, is_in_cell, World, IsRunFrom, opening, side_of}
 use Rattle.oneshot_bridge.proofs.Names.{by_end, Move, ReceiverScript, SenderScript, State, Entry, Place, WakerName, passes_where_found, opening_reached, Turned, turned, turned_reaches, only_if}
-use Rattle.oneshot_bridge.proofs.Names.{Watched, watched_coding, reads_entry, class_under_way, Classed, all_classed, found_next, opening_found, Scene, last_of, message_home, waker_home, one_has_both}
+use Rattle.oneshot_bridge.proofs.Names.{Product, product_coding, reads_entry, class_under_way, Classed, all_classed, found_next, opening_found, Scene, last_of, message_home, waker_home, one_has_both}
 use Rattle.oneshot_bridge.proofs.Names.{CellsAreSo, RunsSo}
 use Rattle.oneshot_machine.specs.Phases.{sender_at, first, receiver_at}
 use Rattle.oneshot_world.specs.declared.trace.Entry.TheVariants.{Idle, Made as Made_entry}
 use Rattle.oneshot_world.specs.declared.trace.Place.TheVariants.{InCell}
-use Rattle.oneshot_laws.proofs.WatchedRuns.{IsFound}
+use Rattle.oneshot_laws.proofs.ProductRuns.{IsFound}
 use Rattle.oneshot_bridge.proofs.PhaseCodes.{Phases}
 use Rattle.oneshot_bridge.proofs.PhasesBeside.{with_phases, phase_reader, is_so, cells_are_so, phases_are_so, is_right, explored, all_right}
 use Rattle.oneshot_bridge.proofs.PhasesRead.{reads_of, read_all, read_logs, phases_are}
@@ -29,17 +29,17 @@ abbrev IsAt : World → Phases → Type 0
 IsAt w m = IsReached w × Found w m
 
 found_last : (n : ℕ) (w : World) (m : Phases) (worlds : List World) (moves : List Move) (entries : List Entry)
-    → IsAt w m → Tells_from n w worlds moves entries → IsAt (last_of w worlds) (read_all m entries)
-found_last n w m [] [] [] at told = at
-found_last n w m (next ∷ worlds) (move ∷ moves) (entry ∷ entries) at told =
+    → IsAt w m → IsRunFrom n w worlds moves entries → IsAt (last_of w worlds) (read_all m entries)
+found_last n w m [] [] [] at is_run = at
+found_last n w m (next ∷ worlds) (move ∷ moves) (entry ∷ entries) at is_run =
     let side = side_of move in
     let call = class_under_way all_alike (by_end side w.sender w.receiver) in
-    let by : Turned n w side entry next = turned n w move (entry, next) told.0 in
+    let by : Turned n w side entry next = turned n w move (entry, next) is_run.0 in
     let then : Found next (reads_entry phase_reader call (as_entry all_alike entry) m) =
     found_next phase_reader all_alike classed explored n side w entry next m by at.0 at.1 refl in
     found_last (n + 1) next (reads_of entry m) worlds moves entries
-    (turned_reaches n side w entry next at.0 by, subst (Found next) (reads_as all_alike call entry m) then) told.1
-found_last n w m _ _ _ at told = elim told [ ]
+    (turned_reaches n side w entry next at.0 by, subst (Found next) (reads_as all_alike call entry m) then) is_run.1
+found_last n w m _ _ _ at is_run = elim is_run [ ]
 
 -- a run leads to a world that was found with the phases of its logs
 pub comes_to : {T : Type 0} (a : SenderScript T) (b : ReceiverScript) {moves : List Move} {entries : List Entry}
@@ -54,7 +54,7 @@ comes_to a b {moves} {entries} {now} {xs} {ys} run order =
     ∙ (λ i. with_phases (sender_at (run.sender_log i)) (receiver_at (run.receiver_log i))) ∙ phases_are order in
     subst (λ w. IsAt w (Some (sender_at xs, receiver_at ys))) ran.ends
     (subst (IsAt (last_of (opening a b) ran.worlds)) reads
-    (found_last 1 (opening a b) (Some (fresh, first)) ran.worlds moves entries at_first ran.tells))
+    (found_last 1 (opening a b) (Some (fresh, first)) ran.worlds moves entries at_first ran.is_run))
 
 -- what was computed of the state by classes holds of the state
 some_as : (f : WakerName → WakerName) (o : Option WakerName) → is_some (option_map f o) ≡ is_some o
@@ -68,11 +68,11 @@ so_as k s (Some m) =
     && (is_so (waker_home m.0 m.1) some && only_if s.freed (one_has_both m.0 m.1))) (some_as (as_name k) s.wakers.cell)
 
 -- a test that all found worlds pass holds of each
-pub found_passes : (test : Watched Phases → Bool) → all_in test explored.found ≡ true → (w : World) (m : Phases)
+pub found_passes : (test : Product Phases → Bool) → all_in test explored.found ≡ true → (w : World) (m : Phases)
     → Found w m → test (record { control = as_control all_alike (control_of w); reader = m }) ≡ true
 found_passes test all w m found =
-    passes_where_found (watched_coding phase_reader).code (watched_coding phase_reader).is_same
-    (watched_coding phase_reader).sound test explored.found
+    passes_where_found (product_coding phase_reader).code (product_coding phase_reader).is_same
+    (product_coding phase_reader).sound test explored.found
     (record { control = as_control all_alike (control_of w); reader = m }) all found
 
 -- by the share at home

@@ -71,7 +71,7 @@ worked_run m =
       run = record {
         run = record {
           worlds = worlds m;
-          tells = (
+          is_run = (
             refl,
             (
               refl,

@@ -2,7 +2,7 @@
 use Rattle.oneshot_bridge.proofs.Names.{◌≡◌, ℕ, List, [], ◌∷◌, ◌++◌, refl, sym, subst, Op, Noted, saw, InOrder, none_made, by_sender, by_receiver, word_after, not_empty, same_start, same_last, Walk}
 use Rattle.oneshot_bridge.proofs.Names.{begins, quietly, by_one}
 
--- a model that can make each step of a walk
+-- A model that can make each step of a walk. These are the cases of a forward simulation, and `Ran` is its relation.
 pub record CanStep {S R : Type 0} (SRests : S → S → Type 0) (SMakes : S → Noted → S → Type 0)
     (RRests : R → R → Type 0) (RMakes : R → Noted → R → Type 0) (s0 : S) (r0 : R)
     (Ran : List Noted → List Noted → ℕ → S → R → Type 0) : Type 0 where

@@ -1,6 +1,6 @@
 -- Each state that the rule of the table allows is that of a run: its order, its slots at home, and its message.
 use Rattle.oneshot_bridge.proofs.Names.{◌≡◌, ℕ, ◌+◌, List, [], ◌∷◌, Option, Some, None, refl, sym, ap, ◌∙◌, subst, End, Noted, Reaches, Share, empty, filled, receiver_step, sender_step, sender_puts}
-use Rattle.oneshot_bridge.proofs.Names.{receiver_puts, place_left, reply_of, World, opening, opening_place, side_of, Tells_from, Move, ReceiverScript, SenderLast, SenderScript, Entry, Turned}
+use Rattle.oneshot_bridge.proofs.Names.{receiver_puts, place_left, reply_of, World, opening, opening_place, side_of, IsRunFrom, Move, ReceiverScript, SenderLast, SenderScript, Entry, Turned}
 use Rattle.oneshot_bridge.proofs.Names.{sender_idle, sender_made, receiver_idle, receiver_made, turned, message_of, rest_at, HasRun, Scene, last_of, AnyWaker, Slot, Empty, Message, Home, bare}
 use Rattle.oneshot_bridge.proofs.Names.{has_message, Lies, lies_out, lies_bare, lies_filled, IsGiven, IsTaken, took_none, took_it, opened, dealt, runs, with_waker, message_of_logs, waker_of_logs}
 use Rattle.oneshot_bridge.proofs.Names.{CellsAreSo, SlotsAreSo, Passed, none_passed, it_passed, maker_before, dealer_before, is_run, TablesAreOfRuns, RunsSo, SendsOnly, IsOfARun, RunsCalls}
@@ -24,12 +24,12 @@ message_turn n _ w _ _ (receiver_made answer p row at steps) lacks =
     ap (λ from. place_left from (receiver_puts (receiver_step p))) lacks
 
 message_last : (n : ℕ) (w : World) (worlds : List World) (moves : List Move) (entries : List Entry)
-    → Tells_from n w worlds moves entries → w.state.message ≡ None → (last_of w worlds).state.message ≡ None
-message_last n w [] [] [] told lacks = lacks
-message_last n w (next ∷ worlds) (move ∷ moves) (entry ∷ entries) told lacks =
-    message_last (n + 1) next worlds moves entries told.1
-    (message_turn n (side_of move) w entry next (turned n w move (entry, next) told.0) lacks)
-message_last n w _ _ _ told lacks = elim told [ ]
+    → IsRunFrom n w worlds moves entries → w.state.message ≡ None → (last_of w worlds).state.message ≡ None
+message_last n w [] [] [] of_run lacks = lacks
+message_last n w (next ∷ worlds) (move ∷ moves) (entry ∷ entries) of_run lacks =
+    message_last (n + 1) next worlds moves entries of_run.1
+    (message_turn n (side_of move) w entry next (turned n w move (entry, next) of_run.0) lacks)
+message_last n w _ _ _ of_run lacks = elim of_run [ ]
 
 -- so a message in the cell is the script's
 sends_it : {T : Type 0} (last : SenderLast T) (m : T) → ((other : T) → message_of last ≡ Some other → other ≡ m)
@@ -48,7 +48,7 @@ lies_there : {T : Type 0} (a : SenderScript T) (b : ReceiverScript) {moves : Lis
 lies_there a b {moves} {entries} {now} m ran only there =
     let sent : message_of a.last ≡ Some m = sends_it a.last m only (λ lacks. not_none there
     (sym (ap (λ (w : World). w.state.message) ran.ends)
-    ∙ message_last 1 (opening a b) ran.worlds moves entries ran.tells lacks)) in
+    ∙ message_last 1 (opening a b) ran.worlds moves entries ran.is_run lacks)) in
     λ i. rest_at (there i) ((ran.message ∙ sent) i)
 
 -- what is at home, by its share
@@ -138,7 +138,7 @@ passed_one it_passed is = cc is
 pub tables_are_of_runs : {T P : Type 0} (H K W : Type 0) (keeps : P → T → Type 0) → TablesAreOfRuns H K W keeps
 tables_are_of_runs H K W keeps m q _ _ _ opened = maker_before
 tables_are_of_runs H K W keeps m q _ _ _ dealt = dealer_before
-tables_are_of_runs {T} H K W keeps m q _ _ _ (runs {w} {h} xs ys {given} {taken} order message waker same claim) =
+tables_are_of_runs {T} H K W keeps m q _ _ _ (is_run {w} {h} xs ys {given} {taken} order message waker same claim) =
     let sent : Passes h given taken = passes keeps q given m message same in
     let run : IsOfARun sent.it xs ys w = states_run T sent.it xs ys w order in
     is_run sent.it xs ys run (slots_so sent.it run.sender run.receiver run.sends run.run order sent.only message waker)

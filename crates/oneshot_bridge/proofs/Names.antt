@@ -7,7 +7,8 @@ pub use Rattle.oneshot_bridge.specs.Gives.{HaveCome, gave_message, OneReceiveGet
 pub use Rattle.oneshot_bridge.specs.Homes.{one_has_both, CellsAreSo, message_of_logs, waker_of_logs, RunsHaveCells}
 pub use Rattle.oneshot_bridge.specs.Joined.{SlotsAreSo, Passed, none_passed, it_passed, maker_before, dealer_before, is_run, TablesAreOfRuns, OfARun}
 pub use Rattle.oneshot_bridge.specs.OrdersRun.{log_of, RunsSo, answered_by, RunsTo, noted_of, operation_of, OrdersAreRuns, answered_at}
-pub use Rattle.oneshot_bridge.specs.RunExamples.{tries, stops, in_turn, sent_log, tried_log, sent_call, tried_call, sender_stands, receiver_stands, told, AnswersThatAre, RunsThatAre, RunsThatAreNot}
+pub use Rattle.oneshot_bridge.specs.RunExamples.{tries, stops, in_turn, sent_log, tried_log, sent_call, tried_call, sender_stands, receiver_stands, entries_of_run, AnswersThatAre}
+pub use Rattle.oneshot_bridge.specs.RunExamples.{RunsThatAre, RunsThatAreNot}
 pub use Rattle.oneshot_bridge.specs.RunExamples.{RunsSay}
 pub use Rattle.oneshot_bridge.specs.RunOrder.{operator_of, operators_of, RunsAreInOrder, WorkedOrder, WrongOrder}
 pub use Rattle.oneshot_bridge.specs.Scripted.{SendsOnly, IsOfARun, SenderIsScripted, StatesAreOfRuns, ReceiverIsScripted}
@@ -15,9 +16,9 @@ pub use Rattle.oneshot_bridge.specs.Walks.{may_see, answers_with, stands_after, 
 pub use Rattle.oneshot_bridge.specs.Walks.{operates, Answered, Walk, begins, quietly, by_one, ReceiverWalk, SenderWalk, Stand, Walker}
 pub use Rattle.oneshot_bridge.specs.Woken.{WakesNext, NobodyWaitsInARun, WakeIsNextInARun, found_it_gone, WasDropped, NobodyIsLeft}
 pub use Rattle.oneshot_laws.proofs.Coding.{Coding, listed, pairs, or_none}
-pub use Rattle.oneshot_laws.proofs.Glanced.{of_call}
-pub use Rattle.oneshot_laws.proofs.Watched.{Watched, watched_coding, reads_entry, class_under_way, class_is, Automaton, Explored, no_names, all_watched}
-pub use Rattle.oneshot_laws.proofs.WatchedRuns.{Classed, all_classed, found_next, opening_found}
+pub use Rattle.oneshot_laws.proofs.PastLaws.{of_call}
+pub use Rattle.oneshot_laws.proofs.Product.{Product, product_coding, reads_entry, class_under_way, class_is, Automaton, Explored, no_names, all_products}
+pub use Rattle.oneshot_laws.proofs.ProductRuns.{Classed, all_classed, found_next, opening_found}
 pub use Rattle.oneshot_laws.specs.Actions.{is_end_of_sender, is_receive}
 pub use Rattle.oneshot_laws.specs.Ended.{has_answered}
 pub use Rattle.oneshot_laws.specs.Entries.{only_if, is_same_end, is_same_reply, is_reply, is_word, is_on_a_cell, is_free}
@@ -35,13 +36,14 @@ pub use Rattle.oneshot_machine.specs.Exact.{none_yet, one_more, Accepts}
 pub use Rattle.oneshot_machine.specs.Logs.{Event, did, words, worded}
 pub use Rattle.oneshot_machine.specs.Noted.{Noted, saw, op_of}
 pub use Rattle.oneshot_machine.specs.Orders.{Reaches, has_row, nothing_made, InOrder, none_made, by_sender, by_receiver}
-pub use Rattle.oneshot_machine.specs.Phases.{ReceiverAt, here, looked, between, blocked, polled, again, full, at_once, waited, swapped, by_future, by_poll, unclosed, disconnected, resolved}
-pub use Rattle.oneshot_machine.specs.Phases.{receiver_moves, Share, none, empty, filled, Slots, Row, sending, dropping, SenderAt, fresh, owes, finished, late, overtaken, no_sender, storing, stopping}
+pub use Rattle.oneshot_machine.specs.Phases.{ReceiverAt, idle, after_load, after_timeout, blocked, polled, again, full, at_once, waited, swapped, by_future, by_poll, unclosed, disconnected, resolved}
+pub use Rattle.oneshot_machine.specs.Phases.{receiver_moves, Share, none, empty, filled, Slots, Row, sending, dropping, SenderAt, fresh, owes, finished, found_gone, overtaken}
+pub use Rattle.oneshot_machine.specs.Phases.{no_sender, storing, stopping}
 pub use Rattle.oneshot_machine.specs.Phases.{found_closed, closed_itself, claimed, withdrew, overdue, gone, ended, no_receiver, By, sender_next, receiver_next, phase_from, sender_moves}
 pub use Rattle.oneshot_machine.specs.Receiver.{receiver_step, receiver_row, receiver_start, receiver_rows, receiver_opens, future_opens}
 pub use Rattle.oneshot_machine.specs.Runs.{Run, last, more}
 pub use Rattle.oneshot_machine.specs.Sender.{sender_step, sender_row, sender_start, sender_rows}
-pub use Rattle.oneshot_machine.specs.Slots.{Held, away, vacant, held, IsSlot, is_away, is_vacant, Turns, stays_away, stays_vacant, stays_held, gives_room, gives_thing, gets_room, gets_thing, In}
+pub use Rattle.oneshot_machine.specs.Slots.{Held, away, vacant, held, IsSlot, is_away, is_vacant, SlotChange, stays_away, stays_vacant, stays_held, gives_room, gives_thing, gets_room, gets_thing, In}
 pub use Rattle.oneshot_machine.specs.Slots.{ReceiverMay, may, ReceiverFinds, finds, head, tail}
 pub use Rattle.oneshot_machine.specs.Standing.{Standpoint, plainly, standpoint_row, standpoint_step, standpoint_follows, outcome_at, receiver_table, sights, onward, standpoint_number, Table, is_op}
 pub use Rattle.oneshot_machine.specs.Standing.{onward_all, moved, made_at, operations, standing, standing_from}
@@ -76,7 +78,7 @@ pub use Rattle.oneshot_replay.proofs.RunLaws.{is_right}
 pub use Rattle.oneshot_replay.proofs.Runs.{goes_on}
 pub use Rattle.oneshot_replay.specs.Rest.{message_of, rest_at}
 pub use Rattle.oneshot_replay.specs.Right.{IsRight}
-pub use Rattle.oneshot_replay.specs.Run.{HasRun, told_at}
+pub use Rattle.oneshot_replay.specs.Run.{HasRun, trace_at}
 pub use Rattle.oneshot_replay.specs.Scene.{Scene}
 pub use Rattle.oneshot_replay.specs.TraceView.{last_of}
 pub use Rattle.oneshot_word.proofs.ByRows.{is_senders, is_receivers, sender_is, receiver_is}
@@ -106,7 +108,7 @@ pub use Rattle.oneshot_world.specs.Reached.{IsReached}
 pub use Rattle.oneshot_world.specs.Scripts.{calls_of, receiver_call, async_call, receiver_calls, async_calls}
 pub use Rattle.oneshot_world.specs.State.{sender_fits, receiver_fits, sender_steps, receiver_steps, sender_stepped, receiver_stepped, is_in_cell, sender_turns_at, receiver_turns_at, made_entry}
 pub use Rattle.oneshot_world.specs.State.{receiver_position}
-pub use Rattle.oneshot_world.specs.World.{World, turn, nothing_told, receiver_told, opening, Tells_from, side_of, by_end, turn_of, world_then, opening_place}
+pub use Rattle.oneshot_world.specs.World.{World, turn, no_input, receiver_input, opening, IsRunFrom, side_of, by_end, turn_of, world_then, opening_place}
 pub use Rattle.oneshot_world.specs.declared.script.AsyncCall.{AsyncCall}
 pub use Rattle.oneshot_world.specs.declared.script.AsyncLast.{AsyncLast}
 pub use Rattle.oneshot_world.specs.declared.script.Move.{Move}

@@ -6,7 +6,7 @@ use Rattle.oneshot_bridge.proofs.Names.{is_free, agrees, frees, uses_block, is_f
 use Rattle.oneshot_machine.specs.declared.machine.Reply.TheVariants as R
 
 abbrev number_of : List Answered → ℕ
-number_of told = length (filter gave_message told)
+number_of replies = length (filter gave_message replies)
 
 -- what a mark adds to the count: at most one, and none if it does not give the message
 abbrev at_most : Bool → ℕ

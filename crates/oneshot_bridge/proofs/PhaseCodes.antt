@@ -1,6 +1,9 @@
 -- The phases of both ends, distinguished by numbers while the checker explores.
-use Rattle.oneshot_bridge.proofs.Names.{◌≡◌, ℕ, Option, refl, get_or, sending, dropping, SenderAt, fresh, owes, finished, late, overtaken, no_sender, looked, between, blocked, polled, again, storing}
-use Rattle.oneshot_bridge.proofs.Names.{stopping, at_once, waited, swapped, by_future, by_poll, found_closed, closed_itself, ReceiverAt, here, claimed, withdrew, overdue, full, unclosed, disconnected}
+-- A phase's code is its number. The search of the product automaton (`PhasesBeside`) compares states by their codes.
+-- `sender_back` and `receiver_back` prove that each code leads back to its phase, so no two phases share one.
+use Rattle.oneshot_bridge.proofs.Names.{◌≡◌, ℕ, Option, refl, get_or, sending, dropping, SenderAt, fresh, owes, finished, found_gone, overtaken, no_sender, after_load}
+use Rattle.oneshot_bridge.proofs.Names.{after_timeout, blocked, polled, again, storing}
+use Rattle.oneshot_bridge.proofs.Names.{stopping, at_once, waited, swapped, by_future, by_poll, found_closed, closed_itself, ReceiverAt, idle, claimed, withdrew, overdue, full, unclosed, disconnected}
 use Rattle.oneshot_bridge.proofs.Names.{resolved, gone, ended, no_receiver, Coding, listed, pairs, or_none}
 use Rattle.oneshot_machine.specs.Phases.{first, waits}
 use Rattle.oneshot_machine.proofs.EachPhase.{senders, receivers}
@@ -11,8 +14,8 @@ sender_code (owes sending) = 1
 sender_code (owes dropping) = 2
 sender_code (finished sending) = 3
 sender_code (finished dropping) = 4
-sender_code (late sending) = 5
-sender_code (late dropping) = 6
+sender_code (found_gone sending) = 5
+sender_code (found_gone dropping) = 6
 sender_code (overtaken sending) = 7
 sender_code (overtaken dropping) = 8
 sender_code no_sender = 9
@@ -23,16 +26,16 @@ sender_back (owes sending) = refl
 sender_back (owes dropping) = refl
 sender_back (finished sending) = refl
 sender_back (finished dropping) = refl
-sender_back (late sending) = refl
-sender_back (late dropping) = refl
+sender_back (found_gone sending) = refl
+sender_back (found_gone dropping) = refl
 sender_back (overtaken sending) = refl
 sender_back (overtaken dropping) = refl
 sender_back no_sender = refl
 
 abbrev receiver_code : ReceiverAt → ℕ
 receiver_code first = 0
-receiver_code (here looked) = 1
-receiver_code (here between) = 2
+receiver_code (idle after_load) = 1
+receiver_code (idle after_timeout) = 2
 receiver_code (waits blocked) = 3
 receiver_code (waits polled) = 4
 receiver_code (waits again) = 5
@@ -57,8 +60,8 @@ receiver_code no_receiver = 23
 
 pub receiver_back : (q : ReceiverAt) → get_or receivers (receiver_code q) first ≡ q
 receiver_back first = refl
-receiver_back (here looked) = refl
-receiver_back (here between) = refl
+receiver_back (idle after_load) = refl
+receiver_back (idle after_timeout) = refl
 receiver_back (waits blocked) = refl
 receiver_back (waits polled) = refl
 receiver_back (waits again) = refl

@@ -1,8 +1,11 @@
 -- The checker explores phases and machines together, and in all that it finds the cells are as the rule has them.
+-- In the field's terms it explores a product automaton. One factor is the finite part of the model's world (`Control`
+-- of oneshot_world). The other is `phase_reader`, whose state is the phases of both logs so far. `explored` has every
+-- pair that a run can reach, and perhaps more. `all_right`, `all_wake` and `all_end` test each of its pairs.
 use Rattle.std.proofs.Common.{is_some}
 use Rattle.oneshot_bridge.proofs.Names.{◌≡◌, Bool, true, false, not, ◌&&◌, Option, Some, None, refl, End, Receiver, Done, Step, Wake, SenderPos, Noted, SenderAt, fresh, finished, no_sender}
 use Rattle.oneshot_bridge.proofs.Names.{sender_next, ReceiverAt, gone, no_receiver, receiver_next, Share, none, empty, filled, sender_step, sender_row, Outcome, Answers, Call, all_in, is_in_cell}
-use Rattle.oneshot_bridge.proofs.Names.{ReceiverState, SenderState, State, Made, is_end_of_sender, only_if, or_stray, Watched, Automaton, Explored, no_names, all_watched, message_home, waker_home}
+use Rattle.oneshot_bridge.proofs.Names.{ReceiverState, SenderState, State, Made, is_end_of_sender, only_if, or_stray, Product, Automaton, Explored, no_names, all_products, message_home, waker_home}
 use Rattle.oneshot_bridge.proofs.Names.{one_has_both, operation_of, found_it_gone}
 use Rattle.oneshot_machine.specs.declared.machine.End.TheVariants.{Sender}
 use Rattle.oneshot_machine.specs.Phases.{first}
@@ -62,11 +65,11 @@ abbrev pub phases_are_so : State → Phases → Bool
 phases_are_so s None = true
 phases_are_so s (Some m) = cells_are_so s m.0 m.1
 
-abbrev pub is_right : Watched Phases → Bool
+abbrev pub is_right : Product Phases → Bool
 is_right x = phases_are_so x.control.state x.reader
 
 pub explored : Explored phase_reader
-explored = record { found = all_watched phase_reader; all = refl }
+explored = record { found = all_products phase_reader; all = refl }
 
 pub all_right : all_in is_right explored.found ≡ true
 unfolding explored
@@ -78,19 +81,20 @@ abbrev pub is_wake : Step → Bool
 is_wake Wake = true
 is_wake _ = false
 
-abbrev pub answers : Option (Outcome SenderPos) → Bool
-answers (Some (Answers reply)) = true
-answers _ = false
+abbrev pub is_answer_row : Option (Outcome SenderPos) → Bool
+is_answer_row (Some (Answers reply)) = true
+is_answer_row _ = false
 
 abbrev pub wakes_at : SenderState → Option Call → Bool
-wakes_at (SS.At p) call = is_wake (sender_step p) && (answers (sender_row p Done) && is_end_of_sender (or_stray call))
+wakes_at (SS.At p) call = is_wake (sender_step p)
+    && (is_answer_row (sender_row p Done) && is_end_of_sender (or_stray call))
 wakes_at _ call = true
 
 abbrev pub wakes_if_finished : SenderState → Option Call → Phases → Bool
 wakes_if_finished s call (Some (finished by, q)) = wakes_at s call
 wakes_if_finished s call _ = true
 
-abbrev pub wakes_well : Watched Phases → Bool
+abbrev pub wakes_well : Product Phases → Bool
 wakes_well x = wakes_if_finished x.control.state.sender x.control.sender x.reader
 
 pub all_wake : all_in wakes_well explored.found ≡ true
@@ -102,15 +106,15 @@ abbrev pub is_gone : ReceiverAt → Bool
 is_gone gone = true
 is_gone _ = false
 
-abbrev pub has_ended : ReceiverState → Bool
-has_ended RS.Ended = true
-has_ended _ = false
+abbrev pub is_over : ReceiverState → Bool
+is_over RS.Ended = true
+is_over _ = false
 
 abbrev pub ended_if_gone : ReceiverState → Phases → Bool
 ended_if_gone s None = true
-ended_if_gone s (Some m) = only_if (found_it_gone m.0) (is_gone m.1 && has_ended s)
+ended_if_gone s (Some m) = only_if (found_it_gone m.0) (is_gone m.1 && is_over s)
 
-abbrev pub ends_well : Watched Phases → Bool
+abbrev pub ends_well : Product Phases → Bool
 ends_well x = ended_if_gone x.control.state.receiver x.reader
 
 pub all_end : all_in ends_well explored.found ≡ true

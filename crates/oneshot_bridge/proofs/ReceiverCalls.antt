@@ -53,7 +53,7 @@ receiver_fits (Drop _) its = absurd (cc its)
 
 receiver_walks : Walks the_receiver in_place (λ s. is_ready s ≡ true)
 receiver_walks =
-    fit_walks the_receiver in_place is_ready receiver_rows (λ p seen. refl) receiver_fits (λ p next left told. refl)
+    fit_walks the_receiver in_place is_ready receiver_rows (λ p seen. refl) receiver_fits (λ p next left replies. refl)
 
 ready_is : (s : ReceiverState) → is_ready s ≡ true → s ≡ RS.Ready
 ready_is RS.Ready e = refl

@@ -13,7 +13,7 @@ use Rattle.oneshot_world.specs.declared.script.ReceiverLast.TheVariants as RL
 use Rattle.oneshot_bridge.proofs.Among.{in_each, in_such, row_among}
 use Rattle.oneshot_bridge.proofs.ReceiverScripted.{Came, keeps, leads_well, nothing_onward, comes_onward, steps_on}
 use Rattle.oneshot_bridge.proofs.ReceiverStands.{makes, opens, some_walk}
-use Rattle.oneshot_bridge.proofs.RowsTurn.{row_found, is_found}
+use Rattle.oneshot_bridge.proofs.RowsChangeSlots.{row_found, is_found}
 use Rattle.oneshot_bridge.proofs.Standpoints.{pos_of, is_met, Comes, receiver_begins, standpoint_is}
 
 -- WHAT IS COMPUTED: each row of a standpoint that walks meet leads on as walks do, and so does each

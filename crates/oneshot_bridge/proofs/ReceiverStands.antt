@@ -29,18 +29,18 @@ calls_in nothing rest = []
 pub record Stands (ys : List Noted) (p : ReceiverPos) (after : After) : Type 0 where
   pub call : Call
   pub state : ReceiverState
-  pub told : List Answered
+  pub replies : List Answered
   pub position : receiver_position state (as_receiver_call call) ≡ Some p
   pub script : Rest after → ReceiverScript
   pub walk : (rest : Rest after)
-      → ReceiverWalk (script rest) ys (state, record { calls = call ∷ calls_in after rest; error = [] }, told)
+      → ReceiverWalk (script rest) ys (state, record { calls = call ∷ calls_in after rest; error = [] }, replies)
 
 -- its call has replied, and these may follow
 pub record IsReady (ys : List Noted) (after : After) : Type 0 where
-  pub told : List Answered
+  pub replies : List Answered
   pub script : Rest after → ReceiverScript
   pub walk : (rest : Rest after)
-      → ReceiverWalk (script rest) ys (RS.Ready, record { calls = calls_in after rest; error = [] }, told)
+      → ReceiverWalk (script rest) ys (RS.Ready, record { calls = calls_in after rest; error = [] }, replies)
 
 -- a step at a position that sees this, and the log after it
 pub data Steps (ys : List Noted) (p : ReceiverPos) (seen : Seen) : List Noted → Type 0 where
@@ -61,7 +61,7 @@ module _ {ys zs : List Noted} {p : ReceiverPos} {seen : Seen} {after : After} wh
       record {
         call = stands.call;
         state = RS.At next;
-        told = stands.told ++ [];
+        replies = stands.replies ++ [];
         position = refl;
         script = stands.script;
         walk = λ rest. walks (stands.script rest) (Goes next) steps stands.position rows (stands.walk rest);
@@ -71,12 +71,12 @@ module _ {ys zs : List Noted} {p : ReceiverPos} {seen : Seen} {after : After} wh
       → receiver_goes (receiver_step p) (Answers reply) ≡ RS.Ready → IsReady zs after
   answers reply stands steps rows ready =
       record {
-        told = stands.told ++ (stands.call, reply) ∷ [];
+        replies = stands.replies ++ (stands.call, reply) ∷ [];
         script = stands.script;
         walk =
             λ rest. subst
             (λ (s : ReceiverState). ReceiverWalk (stands.script rest) zs
-            (s, record { calls = calls_in after rest; error = [] }, stands.told ++ (stands.call, reply) ∷ []))
+            (s, record { calls = calls_in after rest; error = [] }, stands.replies ++ (stands.call, reply) ∷ []))
             ready (walks (stands.script rest) (Answers reply) steps stands.position rows (stands.walk rest));
       }
 
@@ -96,7 +96,7 @@ some_walk {after} row stands steps rows = (
 )
 
 pub opens : IsReady [] calls
-opens = record { told = []; script = λ rest. record { calls = rest.0; last = rest.1 }; walk = λ rest. begins }
+opens = record { replies = []; script = λ rest. record { calls = rest.0; last = rest.1 }; walk = λ rest. begins }
 
 -- the next call, if the rest of a script has one of the calls that may follow
 call_begins : {ys : List Noted} {from to : After} → IsReady ys from → (call : Call) (p : ReceiverPos)
@@ -106,13 +106,13 @@ call_begins {ys} {from} {to} ready call p at more same =
     record {
       call = call;
       state = RS.Ready;
-      told = ready.told;
+      replies = ready.replies;
       position = at;
       script = λ rest. ready.script (more rest);
       walk =
           λ rest. subst
           (λ calls. ReceiverWalk (ready.script (more rest)) ys
-          (RS.Ready, record { calls = calls; error = [] }, ready.told))
+          (RS.Ready, record { calls = calls; error = [] }, ready.replies))
           (same rest) (ready.walk (more rest));
     }
 

@@ -17,22 +17,22 @@ replied_by end left (Made_entry e ∷ entries) =
 
 -- one more entry: of this end, with the call that replies, or of the other
 module _ (end : End) (entry : Entry) (entries : List Entry) where
-  pub replies_more : (from left next : Unanswered) (told answers : List Answered)
-      → ((more : List Entry) → replied_by end from (entries ++ more) ≡ told ++ replied_by end left more)
+  pub replies_more : (from left next : Unanswered) (replies answers : List Answered)
+      → ((more : List Entry) → replied_by end from (entries ++ more) ≡ replies ++ replied_by end left more)
       → ((more : List Entry) → replied_by end left (entry ∷ more) ≡ answers ++ replied_by end next more)
       → (more : List Entry)
-      → replied_by end from ((entries ++ entry ∷ []) ++ more) ≡ (told ++ answers) ++ replied_by end next more
-  replies_more from left next told answers before last more =
+      → replied_by end from ((entries ++ entry ∷ []) ++ more) ≡ (replies ++ answers) ++ replied_by end next more
+  replies_more from left next replies answers before last more =
       ap (replied_by end from) (append_assoc entries (entry ∷ []) more) ∙ before (entry ∷ more)
-      ∙ ap (λ l. told ++ l) (last more) ∙ sym (append_assoc told answers (replied_by end next more))
+      ∙ ap (λ l. replies ++ l) (last more) ∙ sym (append_assoc replies answers (replied_by end next more))
 
-  pub replies_same : (from left : Unanswered) (told : List Answered)
-      → ((more : List Entry) → replied_by end from (entries ++ more) ≡ told ++ replied_by end left more)
+  pub replies_same : (from left : Unanswered) (replies : List Answered)
+      → ((more : List Entry) → replied_by end from (entries ++ more) ≡ replies ++ replied_by end left more)
       → ((more : List Entry) → replied_by end left (entry ∷ more) ≡ replied_by end left more) → (more : List Entry)
-      → replied_by end from ((entries ++ entry ∷ []) ++ more) ≡ told ++ replied_by end left more
-  replies_same from left told before last more =
+      → replied_by end from ((entries ++ entry ∷ []) ++ more) ≡ replies ++ replied_by end left more
+  replies_same from left replies before last more =
       ap (replied_by end from) (append_assoc entries (entry ∷ []) more) ∙ before (entry ∷ more)
-      ∙ ap (λ l. told ++ l) (last more)
+      ∙ ap (λ l. replies ++ l) (last more)
 
 -- what an end has left after these entries, and the calls that reply from there on
 abbrev pub left_all : End → Unanswered → List Entry → Unanswered
@@ -99,12 +99,12 @@ module _ {T : Type 0} (a : SenderScript T) (b : ReceiverScript) (entries : List 
   shown Sender = shows Sender entries (sender_reading (calls_of a b)) (receiver_reading (calls_of a b)) 1 new_object
   shown Receiver = shows Receiver entries (sender_reading (calls_of a b)) (receiver_reading (calls_of a b)) 1 new_object
 
-  pub replied_in : (end : End) (left : Unanswered) (told : List Answered)
+  pub replied_in : (end : End) (left : Unanswered) (replies : List Answered)
       → ((more : List Entry)
       → replied_by end (by_end end (opening_sender a).1 (opening_receiver b).1) (entries ++ more)
-      ≡ told ++ replied_by end left more)
-      → answered_by end (marks (calls_of a b) entries) ≡ told
-  replied_in end left told tells =
+      ≡ replies ++ replied_by end left more)
+      → answered_by end (marks (calls_of a b) entries) ≡ replies
+  replied_in end left replies is_run =
       shown end
       ∙ ap (replied_by end (by_end end (opening_sender a).1 (opening_receiver b).1)) (sym (append-nil entries))
-      ∙ tells [] ∙ append-nil told
+      ∙ is_run [] ∙ append-nil replies

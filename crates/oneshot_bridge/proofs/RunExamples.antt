@@ -2,13 +2,14 @@
 use Rattle.oneshot_bridge.proofs.Names.{◌≡◌, ℕ, List, [], ◌∷◌, None, Some, refl, sym, ap, ◌∙◌, Done, Try, SendWrite, SendAdd, TryLoad, Close, Take, Load, Store, Add, Noted, Goes, Answers}
 use Rattle.oneshot_bridge.proofs.Names.{calls_of, Entry, marks, is_right, View, Home, view, receiver_answered, sender_answered, is_at_rest, RunsCalls, worlds_by}
 use Rattle.oneshot_bridge.proofs.Names.{world_by, scene_at, sends, HaveCome, InOrder, OfARun, maker_before, dealer_before, is_run, log_of, answered_by, RunsSo, RunsTo, tries, stops, in_turn, sent_log}
-use Rattle.oneshot_bridge.proofs.Names.{tried_log, sent_call, tried_call, sender_stands, receiver_stands, told, AnswersThatAre, RunsThatAre, RunsThatAreNot, RunsSay, SendsOnly, begins, quietly}
+use Rattle.oneshot_bridge.proofs.Names.{tried_log, sent_call, tried_call, sender_stands, receiver_stands, entries_of_run, AnswersThatAre, RunsThatAre, RunsThatAreNot, RunsSay}
+use Rattle.oneshot_bridge.proofs.Names.{SendsOnly, begins, quietly}
 use Rattle.oneshot_bridge.proofs.Names.{by_one, Quiet, quiet, Operates, operates, the_sender, SenderStand, ReceiverStand, SenderWalk}
 use Rattle.oneshot_machine.specs.declared.machine.End.TheVariants as End
 use Rattle.oneshot_machine.specs.declared.machine.Reply.TheVariants as R
 use Rattle.oneshot_machine.specs.declared.machine.Seen.TheVariants.{Word}
 use Rattle.oneshot_machine.specs.declared.states.TheConstants.{DISCONNECTED, EMPTY, MESSAGE}
-use Rattle.oneshot_machine.proofs.InOrders.{in_order}
+use Rattle.oneshot_machine.proofs.InOrders.{order_is}
 use Rattle.oneshot_machine.proofs.OrdersAhead.{ahead}
 use Rattle.oneshot_machine.specs.Orders.{has_row, nothing_made, sender_makes, receiver_makes}
 use Rattle.oneshot_machine.specs.Slots.{head, tail}
@@ -44,7 +45,7 @@ module _ {T : Type 0} (m : T) where
   come =
       record {
         order =
-            in_order
+            order_is
             (receiver_makes (Store DISCONNECTED)
             (receiver_makes Load (sender_makes Add nothing_made (has_row head)) (has_row (tail head))) (has_row head));
         sender =
@@ -59,12 +60,13 @@ module _ {T : Type 0} (m : T) where
             (quiet (Try Take) Done (Answers R.Message) refl refl refl);
       }
 
-  runs : RunsSo (sends m) tries in_turn (told m) (scene_at m (world_by m tries in_turn) 5) sent_log tried_log 2
+  runs : RunsSo (sends m) tries in_turn (entries_of_run m) (scene_at m (world_by m tries in_turn) 5) sent_log
+      tried_log 2
   runs =
       record {
         run = record {
           worlds = worlds_by m tries in_turn;
-          tells = (refl, (refl, (refl, (refl, (refl, tt)))));
+          is_run = (refl, (refl, (refl, (refl, (refl, tt)))));
           ends = refl;
           count = refl;
           message = refl;
@@ -78,12 +80,12 @@ module _ {T : Type 0} (m : T) where
   run_to =
       record {
         moves = in_turn;
-        entries = told m;
+        entries = entries_of_run m;
         now = scene_at m (world_by m tries in_turn) 5;
         run = runs;
         sender = refl;
         receiver = refl;
-        right = is_right (sends m) tries in_turn (told m) (scene_at m (world_by m tries in_turn) 5) runs.run;
+        right = is_right (sends m) tries in_turn (entries_of_run m) (scene_at m (world_by m tries in_turn) 5) runs.run;
       }
 
   sends_it : SendsOnly m (sends m)
@@ -118,7 +120,7 @@ module _ {T : Type 0} (m : T) where
           sends = sends_it;
           receiver = tries;
           moves = in_turn;
-          entries = told m;
+          entries = entries_of_run m;
           now = scene_at m (world_by m tries in_turn) 5;
           run = runs;
           right = run_to.right;
@@ -153,7 +155,7 @@ role_is {T} {H} {K} {P} {v} {w} are =
 one_end_is_no_table : {T H K P W : Type 0} {q : P} {words : List ℕ} {homes : List (Home T H K)}
     {views : List (View T H K P)} → OfARun W q words homes views → views ≡ view q Role.Sender [] None None ∷ [] → ⊥
 one_end_is_no_table maker_before is = let roles : Role.Maker ≡ Role.Sender = role_is is in cc roles
-one_end_is_no_table dealer_before is = let roles : Role.Dealer ≡ Role.Sender = role_is is in cc roles
+one_end_is_no_table dealer_before is = let roles : Role.MakerWithSlot ≡ Role.Sender = role_is is in cc roles
 one_end_is_no_table (is_run _ _ _ _ _ _ _ _) is = cc is
 
 module _ {T : Type 0} (m : T) where

@@ -1,7 +1,7 @@
 -- A run performs the operations of both its logs in an order, and logs have only one order.
 use Rattle.oneshot_bridge.proofs.Names.{◌≡◌, ℕ, ◌+◌, Bool, false, List, [], ◌∷◌, ◌++◌, Option, None, refl, sym, ap, ◌∙◌, subst, cons_option, option_map, append_assoc, append-nil, filter_map-append}
 use Rattle.oneshot_bridge.proofs.Names.{End, Receiver, Seen, Step, Op, Load, Swap, Add, Noted, op_of, saw, InOrder, none_made, by_sender, by_receiver, receiver_step, sender_step, word_after, seen_by}
-use Rattle.oneshot_bridge.proofs.Names.{word_left, World, opening, side_of, by_end, Tells_from, Move, ReceiverScript, SenderScript, State, Entry, Turned, sender_idle, sender_made, receiver_idle}
+use Rattle.oneshot_bridge.proofs.Names.{word_left, World, opening, side_of, by_end, IsRunFrom, Move, ReceiverScript, SenderScript, State, Entry, Turned, sender_idle, sender_made, receiver_idle}
 use Rattle.oneshot_bridge.proofs.Names.{receiver_made, turned, Scene, last_of, ends_of, order_is_one, sent, received, noted_of, log_of, RunsSo, operator_of, operators_of, RunsAreInOrder, WorkedOrder}
 use Rattle.oneshot_bridge.proofs.Names.{WrongOrder}
 use Rattle.oneshot_machine.specs.declared.machine.End.TheVariants.{Sender}
@@ -86,14 +86,14 @@ longer entries entry w so =
     (log_of Receiver entries ++ log_of Receiver (entry ∷ [])) w.state.word) (sym ends) so))
 
 orders_from : (n : ℕ) (w : World) (done : List Entry) (worlds : List World) (moves : List Move) (entries : List Entry)
-    → OrderedAs done w → Tells_from n w worlds moves entries → OrderedAs (done ++ entries) (last_of w worlds)
-orders_from n w done [] [] [] so told = subst (λ entries. OrderedAs entries w) (sym (append-nil done)) so
-orders_from n w done (next ∷ worlds) (move ∷ moves) (entry ∷ entries) so told =
-    let by : Turned n w (side_of move) entry next = turned n w move (entry, next) told.0 in
+    → OrderedAs done w → IsRunFrom n w worlds moves entries → OrderedAs (done ++ entries) (last_of w worlds)
+orders_from n w done [] [] [] so is_run = subst (λ entries. OrderedAs entries w) (sym (append-nil done)) so
+orders_from n w done (next ∷ worlds) (move ∷ moves) (entry ∷ entries) so is_run =
+    let by : Turned n w (side_of move) entry next = turned n w move (entry, next) is_run.0 in
     subst (λ entries. OrderedAs entries (last_of next worlds)) (append_assoc done (entry ∷ []) entries)
     (orders_from (n + 1) next (done ++ entry ∷ []) worlds moves entries (longer done entry next (turn_orders by so))
-    told.1)
-orders_from n w done _ _ _ so told = elim told [ ]
+    is_run.1)
+orders_from n w done _ _ _ so is_run = elim is_run [ ]
 
 module _ {T : Type 0} (a : SenderScript T) (b : ReceiverScript) {moves : List Move} {entries : List Entry}
     {now : Scene T} {xs ys : List Noted} {word : ℕ} (run : RunsSo a b moves entries now xs ys word) where
@@ -101,7 +101,7 @@ module _ {T : Type 0} (a : SenderScript T) (b : ReceiverScript) {moves : List Mo
   ran_in_order =
       let ran = run.run in
       let so : OrderedAs entries (last_of (opening a b) ran.worlds) =
-      orders_from 1 (opening a b) [] ran.worlds moves entries (record { order = none_made; same = refl }) ran.tells in
+      orders_from 1 (opening a b) [] ran.worlds moves entries (record { order = none_made; same = refl }) ran.is_run in
       let there : (last_of (opening a b) ran.worlds).state.word ≡ word =
       ap (λ (w : World). w.state.word) ran.ends ∙ run.leaves in
       subst (λ xs. OrderedBy xs ys word (operators_of entries)) run.sender_log

@@ -21,7 +21,7 @@ sender_fits _ its = refl
 
 sender_walks : Walks the_sender any_position (λ s. is_at_rest s ≡ true)
 sender_walks =
-    fit_walks the_sender any_position is_at_rest sender_rows (λ p seen. refl) sender_fits (λ p next left told. refl)
+    fit_walks the_sender any_position is_at_rest sender_rows (λ p seen. refl) sender_fits (λ p next left replies. refl)
 
 -- A sender that is between its calls, and has made these.
 pub record SenderDone {T : Type 0} (message : T) (sent : List (SenderCall × Reply)) (xs : List Noted) : Type 0 where

@@ -1,4 +1,6 @@
 -- The standpoints of a receiver that its walks meet: which calls may follow at each, and that its number is its own.
+-- A standpoint is a position of the receiver's table, with whether the receiver has become a future: in the field's
+-- terms, a control state. It is defined in oneshot_machine/specs/Standing.antt.
 use Rattle.oneshot_bridge.proofs.Names.{◌≡◌, ◌==◌, Bool, true, false, List, refl, get_or, map, Reply, AsyncLoad, StartLoad, StartWrite, StartSwap, ParkLoad, DropSwap, LookFull, TryLoad, Take}
 use Rattle.oneshot_bridge.proofs.Names.{CloseOnly, ReceiverPos, Look, Try, Ref, Timed, Value, Future, AsyncDrop, SumClock, TimedLoad, EndBack, LateLoad, RecvLoad, Noted, receiver_opens, future_opens}
 use Rattle.oneshot_bridge.proofs.Names.{receiver_step, In, head, tail, Standpoint, plainly, receiver_table, standpoint_number, standpoint_follows, Answers, receiver_goes, ReceiverState, same_by}

@@ -2,7 +2,7 @@
 use Rattle.std.proofs.Common.{if◌then◌else◌}
 use Rattle.oneshot_bridge.proofs.Names.{◌≡◌, ℕ, Bool, true, false, List, [], ◌∷◌, ◌++◌, Option, Some, None, refl, ap, ◌∙◌, append-nil, filter_map-append, cons_option, option_map, End, Receiver, Seen}
 use Rattle.oneshot_bridge.proofs.Names.{Step, ReceiverPos, SenderPos, Noted, op_of, receiver_step, sender_step, Outcome, word_left, sender_steps, receiver_steps, sender_stepped, receiver_stepped}
-use Rattle.oneshot_bridge.proofs.Names.{sender_turns_at, receiver_turns_at, made_entry, World, turn, turn_of, world_then, nothing_told, receiver_told, Entry, sender_world, receiver_world, noted_of}
+use Rattle.oneshot_bridge.proofs.Names.{sender_turns_at, receiver_turns_at, made_entry, World, turn, turn_of, world_then, no_input, receiver_input, Entry, sender_world, receiver_world, noted_of}
 use Rattle.oneshot_bridge.proofs.Names.{log_of, may_see}
 use Rattle.std.specs.Option.{IsSome}
 use Rattle.oneshot_machine.specs.declared.machine.End.TheVariants.{Sender}
@@ -44,22 +44,22 @@ module _ (end : End) (entries : List Entry) (entry : Entry) {xs : List Noted} wh
   log_grows log some = log_more log ∙ ap (λ o. xs ++ cons_option o []) some
 
 pub sender_turn : (k : ℕ) (w : World) (p : SenderPos) (row : Outcome SenderPos) → sender_at w ≡ Some p
-    → sender_steps nothing_told w.state p ≡ Some (sender_stepped nothing_told w.state (sender_step p) row)
+    → sender_steps no_input w.state p ≡ Some (sender_stepped no_input w.state (sender_step p) row)
     → turn k w M.Sender ≡ Some
-    (Made_entry (sender_stepped nothing_told w.state (sender_step p) row).0, sender_world w (sender_step p) row)
+    (Made_entry (sender_stepped no_input w.state (sender_step p) row).0, sender_world w (sender_step p) row)
 sender_turn k w p row at steps =
-    ap (λ p. option_map (world_then Sender w) (sender_turns_at nothing_told w.state p)) at
+    ap (λ p. option_map (world_then Sender w) (sender_turns_at no_input w.state p)) at
     ∙ ap (λ x. option_map (world_then Sender w) (option_map made_entry x)) steps
 
 pub receiver_turn : (answer : Bool) (k : ℕ) (w : World) (p : ReceiverPos) (row : Outcome ReceiverPos)
-    → receiver_at w ≡ Some p → receiver_steps (receiver_told answer k w) w.state p
-    ≡ Some (receiver_stepped (receiver_told answer k w) w.state (receiver_step p) row)
+    → receiver_at w ≡ Some p → receiver_steps (receiver_input answer k w) w.state p
+    ≡ Some (receiver_stepped (receiver_input answer k w) w.state (receiver_step p) row)
     → turn k w (M.Receiver answer answer) ≡ Some (
-      Made_entry (receiver_stepped (receiver_told answer k w) w.state (receiver_step p) row).0,
+      Made_entry (receiver_stepped (receiver_input answer k w) w.state (receiver_step p) row).0,
       receiver_world
-          (receiver_told answer k w) w (receiver_step p) row,
+          (receiver_input answer k w) w (receiver_step p) row,
     )
 receiver_turn answer k w p row at steps =
-    ap (λ a. turn_of Receiver (receiver_told a k w) w) (if_same _ answer)
-    ∙ ap (λ p. option_map (world_then Receiver w) (receiver_turns_at (receiver_told answer k w) w.state p)) at
+    ap (λ a. turn_of Receiver (receiver_input a k w) w) (if_same _ answer)
+    ∙ ap (λ p. option_map (world_then Receiver w) (receiver_turns_at (receiver_input answer k w) w.state p)) at
     ∙ ap (λ x. option_map (world_then Receiver w) (option_map made_entry x)) steps

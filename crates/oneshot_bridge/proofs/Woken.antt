@@ -1,13 +1,13 @@
 -- Nobody waits once the sender's call has replied, or once it has made the wake that is next if it found the receiver.
 use Rattle.oneshot_bridge.proofs.Names.{◌≡◌, ℕ, ◌+◌, Bool, true, false, not, ◌&&◌, ◌||◌, List, [], ◌∷◌, ◌++◌, Option, Some, refl, sym, ap, ◌∙◌, subst, list_any, option_map, and_parts, End, Reply}
 use Rattle.oneshot_bridge.proofs.Names.{Done, Step, Wake, SenderPos, Noted, By, finished, ReceiverAt, gone, sender_step, sender_row, Outcome, Answers, Call, all_alike, as_call, sender_under_way}
-use Rattle.oneshot_bridge.proofs.Names.{seen_by, IsReached, calls_of, sender_fits, sender_stepped, World, opening, turn, nothing_told, side_of, Tells_from, Move, ReceiverScript, SenderScript}
+use Rattle.oneshot_bridge.proofs.Names.{seen_by, IsReached, calls_of, sender_fits, sender_stepped, World, opening, turn, no_input, side_of, IsRunFrom, Move, ReceiverScript, SenderScript}
 use Rattle.oneshot_bridge.proofs.Names.{ReceiverState, SenderState, State, Entry, Made, sender_world, Turned, sender_idle, sender_made, receiver_idle, receiver_made, turned, is_end_of_sender}
-use Rattle.oneshot_bridge.proofs.Names.{has_answered, marks, or_stray, call_under_way, of_call, class_is, IsRight, HasRun, told_at, Scene, last_of, is_right, goes_on, HaveCome, Reaches, answered_by}
+use Rattle.oneshot_bridge.proofs.Names.{has_answered, marks, or_stray, call_under_way, of_call, class_is, IsRight, HasRun, trace_at, Scene, last_of, is_right, goes_on, HaveCome, Reaches, answered_by}
 use Rattle.oneshot_bridge.proofs.Names.{RunsTo, Answered, opening_sender, the_sender, SenderStand, ReceiverStand, NobodyWaitsInARun, WakeIsNextInARun, found_it_gone, WasDropped, NobodyIsLeft}
 use Rattle.oneshot_machine.specs.declared.machine.End.TheVariants.{Sender}
 use Rattle.oneshot_machine.specs.Phases.{sender_at, receiver_at}
-use Rattle.oneshot_machine.proofs.InOrders.{in_order}
+use Rattle.oneshot_machine.proofs.InOrders.{order_is}
 use Rattle.oneshot_world.specs.Calls.{first}
 use Rattle.oneshot_world.specs.declared.script.Move.TheVariants as M
 use Rattle.oneshot_world.specs.declared.state.ReceiverState.TheVariants as RS
@@ -17,9 +17,9 @@ use Rattle.oneshot_world.proofs.ReachedLeads.{sender_at as sender_stands_at}
 use Rattle.oneshot_world.proofs.ReachedMoves.{sender_makes}
 use Rattle.oneshot_bridge.specs.Woken.{waits}
 use Rattle.oneshot_bridge.proofs.CellsRun.{Found, comes_to, found_passes, where_so}
-use Rattle.oneshot_bridge.proofs.Given.{has_ended, woken_at}
+use Rattle.oneshot_bridge.proofs.Given.{ended_once_answered, woken_at}
 use Rattle.oneshot_bridge.proofs.PhaseCodes.{Phases}
-use Rattle.oneshot_bridge.proofs.PhasesBeside.{is_wake, answers, wakes_at, wakes_if_finished, wakes_well, all_wake, is_gone, has_ended as receiver_ended, ends_well, all_end}
+use Rattle.oneshot_bridge.proofs.PhasesBeside.{is_wake, is_answer_row, wakes_at, wakes_if_finished, wakes_well, all_wake, is_gone, is_over as receiver_ended, ends_well, all_end}
 use Rattle.oneshot_bridge.proofs.StatesRun.{orders_run}
 use Rattle.oneshot_bridge.proofs.Replied.{left_all, replied_by, replied_more, shown}
 use Rattle.oneshot_bridge.proofs.Turns.{by_row, sender_turn}
@@ -32,19 +32,19 @@ not_waiting false waiting e woken = absurd (cc e)
 
 module _ {T : Type 0} (a : SenderScript T) (b : ReceiverScript) where
   none_waits : (moves : List Move) (entries : List Entry) (now : Scene T) → HasRun a b moves entries now
-      → IsRight a b moves (told_at entries now)
+      → IsRight a b moves (trace_at entries now)
       → list_any (λ (x : Answered). is_end_of_sender x.0) (answered_by Sender (marks (calls_of a b) entries)) ≡ true
       → waits a b entries now.world ≡ false
   none_waits moves entries now ran right answered =
       not_waiting (has_answered is_end_of_sender (marks (calls_of a b) entries)) (waits a b entries now.world)
-      (has_ended (marks (calls_of a b) entries) answered) (woken_at a b moves entries now ran right)
+      (ended_once_answered (marks (calls_of a b) entries) answered) (woken_at a b moves entries now ran right)
 
 pub nobody_waits_in_a_run : (T : Type 0) → NobodyWaitsInARun T
 nobody_waits_in_a_run T a b xs ys word s r come answered run =
-    let told : answered_by Sender (marks (calls_of a b) run.entries) ≡ s.2 =
+    let replies : answered_by Sender (marks (calls_of a b) run.entries) ≡ s.2 =
     ap (λ (z : SenderStand). z.2) run.sender in
     none_waits a b run.moves run.entries run.now run.run.run run.right
-    (subst (λ told. list_any (λ (x : Answered). is_end_of_sender x.0) told ≡ true) (sym told) answered)
+    (subst (λ replies. list_any (λ (x : Answered). is_end_of_sender x.0) replies ≡ true) (sym replies) answered)
 
 -- what the sender has left by the entries is what its world has left
 left_turn : (n : ℕ) (side : End) (w : World) (entry : Entry) (next : World) → Turned n w side entry next
@@ -55,12 +55,12 @@ left_turn n _ w _ _ (sender_made p row at steps) entries = refl
 left_turn n _ w _ _ (receiver_made answer p row at steps) entries = refl
 
 left_last : (n : ℕ) (w : World) (worlds : List World) (moves : List Move) (entries : List Entry)
-    → Tells_from n w worlds moves entries → left_all Sender w.sender entries ≡ (last_of w worlds).sender
-left_last n w [] [] [] told = refl
-left_last n w (next ∷ worlds) (move ∷ moves) (entry ∷ entries) told =
-    left_turn n (side_of move) w entry next (turned n w move (entry, next) told.0) entries
-    ∙ left_last (n + 1) next worlds moves entries told.1
-left_last n w _ _ _ told = elim told [ ]
+    → IsRunFrom n w worlds moves entries → left_all Sender w.sender entries ≡ (last_of w worlds).sender
+left_last n w [] [] [] is_run = refl
+left_last n w (next ∷ worlds) (move ∷ moves) (entry ∷ entries) is_run =
+    left_turn n (side_of move) w entry next (turned n w move (entry, next) is_run.0) entries
+    ∙ left_last (n + 1) next worlds moves entries is_run.1
+left_last n w _ _ _ is_run = elim is_run [ ]
 
 any_last : (test : Answered → Bool) (xs ys : List Answered) → list_any test ys ≡ true → list_any test (xs ++ ys) ≡ true
 any_last test [] ys any = any
@@ -80,11 +80,11 @@ module _ {T : Type 0} (a : SenderScript T) (b : ReceiverScript) {moves : List Mo
   answers_then e reply side replies last =
       let ends = λ (x : Answered). is_end_of_sender x.0 in
       let left = left_all Sender (opening_sender a).1 entries in
-      let same : left ≡ now.world.sender = left_last 1 (opening a b) ran.worlds moves entries ran.tells
+      let same : left ≡ now.world.sender = left_last 1 (opening a b) ran.worlds moves entries ran.is_run
       ∙ ap (λ (w : World). w.sender) ran.ends in
       let own : list_any ends (replied_by Sender left (Made_entry e ∷ [])) ≡ true =
       rw (side, replies, same, last) refl in
-      subst (λ told. list_any ends told ≡ true)
+      subst (λ replies. list_any ends replies ≡ true)
       (sym (shown a b (entries ++ Made_entry e ∷ []) Sender
       ∙ replied_more Sender (opening_sender a).1 entries (Made_entry e ∷ [])))
       (any_last ends (replied_by Sender (opening_sender a).1 entries) (replied_by Sender left (Made_entry e ∷ [])) own)
@@ -94,7 +94,7 @@ wake_is : (step : Step) → is_wake step ≡ true → step ≡ Wake
 wake_is Wake e = refl
 wake_is _ e = absurd (cc e)
 
-reply_is : (row : Option (Outcome SenderPos)) → answers row ≡ true → (reply : Reply) × row ≡ Some (Answers reply)
+reply_is : (row : Option (Outcome SenderPos)) → is_answer_row row ≡ true → (reply : Reply) × row ≡ Some (Answers reply)
 reply_is (Some (Answers reply)) e = (reply, refl)
 reply_is _ e = absurd (cc e)
 
@@ -109,7 +109,7 @@ about_to_wake : (w : World) (p : SenderPos) (call : Option Call) → wakes_at (S
     → or_stray call ≡ as_call all_alike (call_under_way w.sender) → IsAboutToWake w p
 about_to_wake w p call so same =
     let wake = and_parts (is_wake (sender_step p)) _ so in
-    let answer = and_parts (answers (sender_row p Done)) (is_end_of_sender (or_stray call)) wake.1 in
+    let answer = and_parts (is_answer_row (sender_row p Done)) (is_end_of_sender (or_stray call)) wake.1 in
     let replies = reply_is (sender_row p Done) answer.0 in
     record {
       wakes = wake_is (sender_step p) wake.0;
@@ -135,7 +135,7 @@ about_to w m by p q found is at =
 module _ (w : World) (p : SenderPos) (reached : IsReached w) (at : w.state.sender ≡ SS.At p)
     (about : IsAboutToWake w p) where
   abbrev woke : Made × State
-  woke = sender_stepped nothing_told w.state (sender_step p) (Answers about.reply)
+  woke = sender_stepped no_input w.state (sender_step p) (Answers about.reply)
 
   stands : sender_stands_at w ≡ Some p
   stands = ap (λ (state : SenderState). the_sender.position (state, w.sender, [])) at
@@ -147,7 +147,7 @@ module _ (w : World) (p : SenderPos) (reached : IsReached w) (at : w.state.sende
       → turn k w M.Sender ≡ Some (Made_entry woke.0, sender_world w (sender_step p) (Answers about.reply))
   wake_turns k =
       sender_turn k w p (Answers about.reply) stands
-      (by_row (sender_fits w.state (sender_step p)) (sender_stepped nothing_told w.state (sender_step p))
+      (by_row (sender_fits w.state (sender_step p)) (sender_stepped no_input w.state (sender_step p))
       (sender_row p (seen_by false w.state (sender_step p))) (Answers about.reply) (sender_makes w p reached
       stands) sees)
 
@@ -193,7 +193,7 @@ module _ {T : Type 0} {a : SenderScript T} {b : ReceiverScript} {xs ys : List No
   is_over : (receiver_at ys ≡ gone) × (r.0 ≡ RS.Ended)
   is_over =
       let run : RunsTo a b xs ys word s r =
-      orders_run T a b xs ys word s r (in_order come.order) come.sender come.receiver in
+      orders_run T a b xs ys word s r (order_is come.order) come.sender come.receiver in
       let w = run.now.world in
       let over = and_parts (is_gone (receiver_at ys)) (receiver_ended w.state.receiver)
       (where_so (found_it_gone (sender_at xs)) _ (found_passes ends_well all_end w

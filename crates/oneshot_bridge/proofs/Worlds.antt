@@ -1,7 +1,7 @@
 -- The model makes each step of a walk by one move.
 use Rattle.oneshot_bridge.proofs.Names.{◌≡◌, ℕ, ◌+◌, Bool, false, List, [], ◌∷◌, ◌++◌, Some, refl, ap, ◌∙◌, option_map, Receiver, ReceiverPos, SenderPos, Op, Noted, op_of, saw, receiver_step}
 use Rattle.oneshot_bridge.proofs.Names.{receiver_row, sender_step, sender_row, word_after, Outcome, left_by, seen_by, word_left, reply_of, IsReached, sender_fits, receiver_fits, sender_steps}
-use Rattle.oneshot_bridge.proofs.Names.{receiver_steps, sender_stepped, receiver_stepped, World, turn, nothing_told, receiver_told, opening, Move, ReceiverScript, SenderScript, State, Entry}
+use Rattle.oneshot_bridge.proofs.Names.{receiver_steps, sender_stepped, receiver_stepped, World, turn, no_input, receiver_input, opening, Move, ReceiverScript, SenderScript, State, Entry}
 use Rattle.oneshot_bridge.proofs.Names.{sender_world, receiver_world, sender_row_reaches, receiver_row_reaches, opening_reached, message_of, Scene, goes_on, log_of, RunsSo, answers_with, stands_after}
 use Rattle.oneshot_bridge.proofs.Names.{opening_sender, opening_receiver, SenderStand, ReceiverStand, the_sender, the_receiver, Quiet, quiet, Operates, operates}
 use Rattle.oneshot_machine.specs.declared.machine.End.TheVariants.{Sender}
@@ -15,7 +15,8 @@ use Rattle.oneshot_bridge.proofs.Replied.{replied_by, replies_more, replies_same
 use Rattle.oneshot_bridge.proofs.Turns.{by_row, quiet_word, quiet_op, log_stays, log_grows, sender_turn, receiver_turn}
 
 module _ {X : Type 0} (a : SenderScript X) (b : ReceiverScript) where
-  -- a run, with what holds of the world that it leads to
+  -- The simulation relation: a run with both logs that has led to where both walks are. `sender_told` and
+  -- `receiver_told` are the replies so far, stated so that they stay true as the trace grows.
   pub record Got (xs ys : List Noted) (n : ℕ) (s : SenderStand) (r : ReceiverStand) : Type 0 where
     pub moves : List Move
     pub entries : List Entry
@@ -25,19 +26,19 @@ module _ {X : Type 0} (a : SenderScript X) (b : ReceiverScript) where
     pub sender_left : now.world.sender ≡ s.1
     pub receiver : now.world.state.receiver ≡ r.0
     pub receiver_left : now.world.receiver ≡ r.1
-    pub sender_told : (more : List Entry)
+    pub sender_replied : (more : List Entry)
         → replied_by Sender (opening_sender a).1 (entries ++ more) ≡ s.2 ++ replied_by Sender s.1 more
-    pub receiver_told : (more : List Entry)
+    pub receiver_replied : (more : List Entry)
         → replied_by Receiver (opening_receiver b).1 (entries ++ more) ≡ r.2 ++ replied_by Receiver r.1 more
     pub reached : IsReached now.world
 
   -- the entry of a step by a row
   abbrev sender_entry : State → SenderPos → Outcome SenderPos → Entry
-  sender_entry state p row = Made_entry (sender_stepped nothing_told state (sender_step p) row).0
+  sender_entry state p row = Made_entry (sender_stepped no_input state (sender_step p) row).0
 
   abbrev receiver_entry : Bool → Scene X → State → ReceiverPos → Outcome ReceiverPos → Entry
   receiver_entry answer now state p row =
-      Made_entry (receiver_stepped (receiver_told answer (now.count + 1) now.world) state (receiver_step p) row).0
+      Made_entry (receiver_stepped (receiver_input answer (now.count + 1) now.world) state (receiver_step p) row).0
 
   -- where a move leads
   abbrev then_at : Scene X → World → Scene X
@@ -60,14 +61,14 @@ module _ {X : Type 0} (a : SenderScript X) (b : ReceiverScript) where
     -- a sender makes the step of its world by a row
     sender_made : {s : SenderStand} {r : ReceiverStand} (g : Got xs ys n s r) (p : SenderPos) (row : Outcome SenderPos)
         → the_sender.position s ≡ Some p → sender_row p (seen_by false g.now.world.state (sender_step p)) ≡ Some row
-        → (sender_at g.now.world ≡ Some p) × (sender_steps nothing_told g.now.world.state p
-        ≡ Some (sender_stepped nothing_told g.now.world.state (sender_step p) row))
+        → (sender_at g.now.world ≡ Some p) × (sender_steps no_input g.now.world.state p
+        ≡ Some (sender_stepped no_input g.now.world.state (sender_step p) row))
     sender_made {s} g p row at rows =
         let w = g.now.world in
         let there : sender_at w ≡ Some p =
         (λ i. the_sender.position (g.sender i, g.sender_left i, s.2)) ∙ at in (
           there,
-          by_row (sender_fits w.state (sender_step p)) (sender_stepped nothing_told w.state (sender_step p))
+          by_row (sender_fits w.state (sender_step p)) (sender_stepped no_input w.state (sender_step p))
               (sender_row p (seen_by false w.state (sender_step p))) row (sender_makes w p g.reached there) rows,
         )
 
@@ -94,10 +95,10 @@ module _ {X : Type 0} (a : SenderScript X) (b : ReceiverScript) where
           sender_left = ap (left_by Sender (reply_of row)) g.sender_left;
           receiver = g.receiver;
           receiver_left = g.receiver_left;
-          sender_told =
+          sender_replied =
               replies_more Sender entry g.entries _ s.1 (left_by Sender (reply_of row) s.1) s.2
-              (answers_with s.1 (reply_of row)) g.sender_told (λ more. refl);
-          receiver_told = replies_same Receiver entry g.entries _ r.1 r.2 g.receiver_told (λ more. refl);
+              (answers_with s.1 (reply_of row)) g.sender_replied (λ more. refl);
+          receiver_replied = replies_same Receiver entry g.entries _ r.1 r.2 g.receiver_replied (λ more. refl);
           reached = sender_row_reaches w p row g.reached made.0 made.1;
         }
 
@@ -128,8 +129,9 @@ module _ {X : Type 0} (a : SenderScript X) (b : ReceiverScript) where
         (row : Outcome ReceiverPos) → the_receiver.position r ≡ Some p
         → receiver_row p (seen_by answer g.now.world.state (receiver_step p)) ≡ Some row
         → (receiver_at g.now.world ≡ Some p)
-        × (receiver_steps (receiver_told answer (g.now.count + 1) g.now.world) g.now.world.state p ≡ Some
-        (receiver_stepped (receiver_told answer (g.now.count + 1) g.now.world) g.now.world.state (receiver_step p) row))
+        × (receiver_steps (receiver_input answer (g.now.count + 1) g.now.world) g.now.world.state p ≡ Some
+        (receiver_stepped (receiver_input answer (g.now.count + 1) g.now.world) g.now.world.state (receiver_step p)
+            row))
     receiver_made {r} answer g p row at rows =
         let w = g.now.world in
         let k = g.now.count + 1 in
@@ -137,7 +139,7 @@ module _ {X : Type 0} (a : SenderScript X) (b : ReceiverScript) where
         (λ i. the_receiver.position (g.receiver i, g.receiver_left i, r.2)) ∙ at in (
           there,
           by_row (receiver_fits w.state (receiver_step p))
-              (receiver_stepped (receiver_told answer k w) w.state (receiver_step p))
+              (receiver_stepped (receiver_input answer k w) w.state (receiver_step p))
               (receiver_row p (seen_by answer w.state (receiver_step p))) row
               (receiver_makes answer k w p g.reached there) rows,
         )
@@ -152,7 +154,7 @@ module _ {X : Type 0} (a : SenderScript X) (b : ReceiverScript) where
     receiver_then {s} {r} answer g p row at rows log word =
         let w = g.now.world in
         let k = g.now.count + 1 in
-        let t = receiver_told answer k w in
+        let t = receiver_input answer k w in
         let next = receiver_world t w (receiver_step p) row in
         let entry = receiver_entry answer g.now w.state p row in
         let made = receiver_made answer g p row at rows in
@@ -167,10 +169,10 @@ module _ {X : Type 0} (a : SenderScript X) (b : ReceiverScript) where
           receiver = refl;
           sender_left = g.sender_left;
           receiver_left = ap (left_by Receiver (reply_of row)) g.receiver_left;
-          sender_told = replies_same Sender entry g.entries _ s.1 s.2 g.sender_told (λ more. refl);
-          receiver_told =
+          sender_replied = replies_same Sender entry g.entries _ s.1 s.2 g.sender_replied (λ more. refl);
+          receiver_replied =
               replies_more Receiver entry g.entries _ r.1 (left_by Receiver (reply_of row) r.1) r.2
-              (answers_with r.1 (reply_of row)) g.receiver_told (λ more. refl);
+              (answers_with r.1 (reply_of row)) g.receiver_replied (λ more. refl);
           reached = receiver_row_reaches answer k w p row g.reached made.0 made.1;
         }
 
@@ -202,7 +204,7 @@ module _ {X : Type 0} (a : SenderScript X) (b : ReceiverScript) where
         entries = [];
         now = record { world = opening a b; count = 0; message = message_of a.last };
         run = record {
-          run = record { worlds = []; tells = tt; ends = refl; count = refl; message = refl };
+          run = record { worlds = []; is_run = tt; ends = refl; count = refl; message = refl };
           sender_log = refl;
           receiver_log = refl;
           leaves = refl;
@@ -211,8 +213,8 @@ module _ {X : Type 0} (a : SenderScript X) (b : ReceiverScript) where
         sender_left = refl;
         receiver = refl;
         receiver_left = refl;
-        sender_told = λ more. refl;
-        receiver_told = λ more. refl;
+        sender_replied = λ more. refl;
+        receiver_replied = λ more. refl;
         reached = opening_reached a b;
       }
 

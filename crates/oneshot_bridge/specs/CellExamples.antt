@@ -23,7 +23,7 @@ use Rattle.oneshot_laws.specs.Marks.{Mark, marks}
 use Rattle.oneshot_replay.specs.Scene.{Scene}
 use Rattle.oneshot_replay.specs.TraceView.{last_of}
 use Rattle.oneshot_word.specs.Rule.{bare, has_message}
-use Rattle.oneshot_bridge.specs.Examples.{sends, receives, sent, r, entries, told_from}
+use Rattle.oneshot_bridge.specs.Examples.{sends, receives, sent, r, entries, trace_from}
 use Rattle.oneshot_bridge.specs.Homes.{message_of_logs, waker_of_logs, CellsAreSo}
 use Rattle.oneshot_bridge.specs.Joined.{SlotsAreSo, Passed}
 use Rattle.oneshot_bridge.specs.OrdersRun.{RunsSo}
@@ -43,10 +43,10 @@ to_wake = Sender ∷ Sender ∷ Sender ∷ Sender ∷ []
 module _ {T : Type 0} (m : T) where
   -- where a schedule leads
   abbrev pub entries_by : ReceiverScript → List Move → List Entry
-  entries_by b moves = map (λ (t : Entry × World). t.0) (told_from 1 (opening (sends m) b) moves)
+  entries_by b moves = map (λ (t : Entry × World). t.0) (trace_from 1 (opening (sends m) b) moves)
 
   abbrev pub worlds_by : ReceiverScript → List Move → List World
-  worlds_by b moves = map (λ (t : Entry × World). t.1) (told_from 1 (opening (sends m) b) moves)
+  worlds_by b moves = map (λ (t : Entry × World). t.1) (trace_from 1 (opening (sends m) b) moves)
 
   abbrev pub world_by : ReceiverScript → List Move → World
   world_by b moves = last_of (opening (sends m) b) (worlds_by b moves)

@@ -43,20 +43,20 @@ schedule =
     r ∷ r ∷ r ∷ Sender ∷ Sender ∷ r ∷ r ∷ Sender ∷ Sender ∷ Sender ∷ r ∷ r ∷ r ∷ r ∷ []
 
 -- what a schedule leads to: for each move an entry, and the world after it
-abbrev pub told_from : ℕ → World → List Move → List (Entry × World)
-told_from n w [] = []
-told_from n w (move ∷ moves) =
-    elim (turn n w move) [ None ↦ [] | Some told ↦ told ∷ told_from (n + 1) told.1 moves ]
+abbrev pub trace_from : ℕ → World → List Move → List (Entry × World)
+trace_from n w [] = []
+trace_from n w (move ∷ moves) =
+    elim (turn n w move) [ None ↦ [] | Some trace ↦ trace ∷ trace_from (n + 1) trace.1 moves ]
 
 module _ {T : Type 0} (m : T) where
-  abbrev pub told : List (Entry × World)
-  told = told_from 1 (opening (sends m) receives) schedule
+  abbrev pub trace : List (Entry × World)
+  trace = trace_from 1 (opening (sends m) receives) schedule
 
   abbrev pub entries : List Entry
-  entries = map (λ (t : Entry × World). t.0) told
+  entries = map (λ (t : Entry × World). t.0) trace
 
   abbrev pub worlds : List World
-  worlds = map (λ (t : Entry × World). t.1) told
+  worlds = map (λ (t : Entry × World). t.1) trace
 
   abbrev pub last : Scene T
   last = record { world = last_of (opening (sends m) receives) worlds; count = 14; message = Some m }

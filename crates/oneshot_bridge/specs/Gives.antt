@@ -21,7 +21,8 @@ use Rattle.oneshot_bridge.specs.Walks.{Answered, the_receiver, SenderStand, Rece
 abbrev pub OrderOfBoth : Type 1
 OrderOfBoth = List Noted → List Noted → ℕ → Type 0
 
--- each end alone has carried out its script up to here, and the operations of both have such an order
+-- Each end alone has carried out its script up to here, and the operations of both have such an order. In the field's
+-- terms: a reachable state of both ends' transition systems in parallel, which meet only in the word.
 pub record HaveCome {T : Type 0} (Order : OrderOfBoth) (a : SenderScript T) (b : ReceiverScript) (xs ys : List Noted)
     (word : ℕ) (s : SenderStand) (r : ReceiverStand) : Type 0 where
   pub order : Order xs ys word

@@ -1,4 +1,6 @@
 -- What a run's cells hold, given the slots that the rule of the word has at home, and when the block may be freed.
+-- A slot is at home while it is in the shared table: no end has taken it. In the field's terms the table's invariant
+-- owns it. Both phases fix which slots are at home: `message_home` and `waker_home` of oneshot_word/specs/Rule.antt.
 use Rattle.std.specs.Prelude.{◌≡◌, ℕ, Bool, true, false, ◌&&◌, ◌||◌, List, [], ◌∷◌, Option, Some, None, is_some, IsTrue, IsFalse}
 use Rattle.oneshot_machine.specs.Noted.{Noted}
 use Rattle.oneshot_machine.specs.Orders.{Reaches}

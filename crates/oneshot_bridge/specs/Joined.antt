@@ -9,7 +9,7 @@ use Rattle.oneshot_replay.specs.Rest.{rest_at}
 use Rattle.oneshot_replay.specs.Scene.{Scene}
 use Rattle.oneshot_replay.specs.declared.rest.Rest.TheVariants.{InCell}
 use Rattle.oneshot_word.specs.declared.any_waker.AnyWaker.{AnyWaker}
-use Rattle.oneshot_word.specs.declared.rule.Role.TheVariants.{Maker, Dealer, Sender, Receiver}
+use Rattle.oneshot_word.specs.declared.rule.Role.TheVariants.{Maker, MakerWithSlot, Sender, Receiver}
 use Rattle.oneshot_word.specs.declared.rule.View.{View}
 use Rattle.oneshot_word.specs.Rule.{Home, bare, has_message, has_waker, Tied}
 use Rattle.oneshot_word.specs.Seats.{view}
@@ -37,7 +37,7 @@ pub data OfARun {T H K P : Type 0} (W : Type 0) (q : P)
     : List ℕ → List (Home T H K) → List (View T H K P) → Type 0 where
   -- before there are ends
   maker_before : {homes : List (Home T H K)} → OfARun W q (EMPTY ∷ []) homes (view q Maker [] None None ∷ [])
-  dealer_before : {homes : List (Home T H K)} → OfARun W q (EMPTY ∷ []) homes (view q Dealer [] None None ∷ [])
+  dealer_before : {homes : List (Home T H K)} → OfARun W q (EMPTY ∷ []) homes (view q MakerWithSlot [] None None ∷ [])
   -- From then on: both views have the operations of a run, which has this word and these slots. Between
   -- two calls of the receiver there is also such a run that has made its own calls, with the same
   -- replies. The message of the run is the one that the sender gave, if it gave one, and that the
@@ -51,6 +51,9 @@ pub data OfARun {T H K P : Type 0} (W : Type 0) (q : P)
       → OfARun W q (word ∷ []) (message ∷ waker ∷ []) (view q Sender xs given woke ∷ view q Receiver ys taken put ∷ [])
 
 -- Each state that the rule allows is that of a run of the model. A sender needs a message to send.
+-- In the field's terms the real table refines the model: each state that the table's invariant allows (`Tied`) is
+-- related (`OfARun`) to a state that the model can reach. What passed, by a view, is a history variable: no operation
+-- reads it.
 abbrev pub TablesAreOfRuns : {T P : Type 0} (H K W : Type 0) → (P → T → Type 0) → Type 0
 TablesAreOfRuns {T} {P} H K W keeps =
     (m : T) (q : P) (words : List ℕ) (homes : List (Home T H K)) (views : List (View T H K P))

@@ -17,7 +17,7 @@ use Rattle.oneshot_world.specs.declared.trace.Made.{Made}
 use Rattle.oneshot_laws.specs.Entries.{is_same_end}
 use Rattle.oneshot_laws.specs.Marks.{Mark, marks, side}
 use Rattle.oneshot_replay.specs.Right.{IsRight}
-use Rattle.oneshot_replay.specs.Run.{HasRun, told_at}
+use Rattle.oneshot_replay.specs.Run.{HasRun, trace_at}
 use Rattle.oneshot_replay.specs.Scene.{Scene}
 use Rattle.oneshot_bridge.specs.Walks.{Answered, SenderStand, ReceiverStand, SenderWalk, ReceiverWalk}
 
@@ -43,6 +43,7 @@ abbrev pub answered_by : End → List Mark → List Answered
 answered_by end = filter_map (answered_at end)
 
 -- A run of both scripts under these moves, whose entries have these logs, and whose last world has this word.
+-- It relates the model to what both real ends show, as a simulation relation relates two systems.
 pub record RunsSo {T : Type 0} (a : SenderScript T) (b : ReceiverScript) (moves : List Move) (entries : List Entry)
     (now : Scene T) (xs ys : List Noted) (word : ℕ) : Type 0 where
   pub run : HasRun a b moves entries now
@@ -50,7 +51,8 @@ pub record RunsSo {T : Type 0} (a : SenderScript T) (b : ReceiverScript) (moves 
   pub receiver_log : log_of Receiver entries ≡ ys
   pub leaves : now.world.state.word ≡ word
 
--- at its end both ends are here in their scripts, with the same calls and replies
+-- There is such a run. At its end both ends are here in their scripts, with the same calls and replies, and the run
+-- keeps every law.
 pub record RunsTo {T : Type 0} (a : SenderScript T) (b : ReceiverScript) (xs ys : List Noted) (word : ℕ)
     (s : SenderStand) (r : ReceiverStand) : Type 0 where
   pub moves : List Move
@@ -59,11 +61,11 @@ pub record RunsTo {T : Type 0} (a : SenderScript T) (b : ReceiverScript) (xs ys 
   pub run : RunsSo a b moves entries now xs ys word
   pub sender : (now.world.state.sender, now.world.sender, answered_by Sender (marks (calls_of a b) entries)) ≡ s
   pub receiver : (now.world.state.receiver, now.world.receiver, answered_by Receiver (marks (calls_of a b) entries)) ≡ r
-  pub right : IsRight a b moves (told_at entries now)
+  pub right : IsRight a b moves (trace_at entries now)
 
 -- Whatever order the operations of both ends had: if each end alone carries out its script, a schedule
 -- leads the model through the same operations, which find the same words, to where both ends are, with
--- the same replies.
+-- the same replies. In the field's terms this is a forward simulation; `Got` of proofs/Worlds.antt is its relation.
 abbrev pub OrdersAreRuns : (T : Type 0) → Type 0
 OrdersAreRuns T =
     (a : SenderScript T) (b : ReceiverScript) (xs ys : List Noted) (word : ℕ) (s : SenderStand) (r : ReceiverStand)

@@ -62,10 +62,10 @@ abbrev pub tried_call : List (ReceiverStart × Reply)
 tried_call = (RC.TryRecv, R.Message) ∷ []
 
 abbrev pub sender_stands : List Answered → SenderStand
-sender_stands told = (SS.Ended, record { calls = []; error = [] }, told)
+sender_stands replies = (SS.Ended, record { calls = []; error = [] }, replies)
 
 abbrev pub receiver_stands : List Answered → ReceiverStand
-receiver_stands told = (RS.Ready, record { calls = []; error = [] }, told)
+receiver_stands replies = (RS.Ready, record { calls = []; error = [] }, replies)
 
 pub record AnswersThatAre : Type 0 where
   pub tried : receiver_answered tried_call ≡ (C.Of_receiver RC.TryRecv, R.Message) ∷ []
@@ -82,15 +82,16 @@ pub record AnswersThatAre : Type 0 where
   pub took_it_back : IsFalse (gave_message (C.Of_sender SC.IntoInner, R.Message))
 
 module _ {T : Type 0} (m : T) where
-  abbrev pub told : List Entry
-  told = entries_by m tries in_turn
+  abbrev pub entries_of_run : List Entry
+  entries_of_run = entries_by m tries in_turn
 
   pub record RunsThatAre : Type 0 where
     -- the `send` replies by the second entry, and the `try_recv` by the last
-    pub answered_first : answered_by End.Sender (marks (calls_of (sends m) tries) (take 2 told))
+    pub answered_first : answered_by End.Sender (marks (calls_of (sends m) tries) (take 2 entries_of_run))
         ≡ sender_answered sent_call
-    pub not_yet : answered_by End.Receiver (marks (calls_of (sends m) tries) (take 4 told)) ≡ []
-    pub answered : answered_by End.Receiver (marks (calls_of (sends m) tries) told) ≡ receiver_answered tried_call
+    pub not_yet : answered_by End.Receiver (marks (calls_of (sends m) tries) (take 4 entries_of_run)) ≡ []
+    pub answered : answered_by End.Receiver (marks (calls_of (sends m) tries) entries_of_run)
+        ≡ receiver_answered tried_call
     pub come : HaveCome InOrder (sends m) tries sent_log tried_log DISCONNECTED
         (sender_stands (sender_answered sent_call)) (receiver_stands (receiver_answered tried_call))
     pub run : RunsTo (sends m) tries sent_log tried_log DISCONNECTED
@@ -113,13 +114,13 @@ module _ {T : Type 0} (m : T) where
         → HaveCome InOrder (sends m) receives [] ((Swap RECEIVING, Word EMPTY) ∷ []) RECEIVING s r → ⊥
     -- a run with these entries and another log, or with an end that has made no call
     pub has_sent_nothing : {ys : List Noted} {word : ℕ} {s : SenderStand} {r : ReceiverStand}
-        (run : RunsTo (sends m) tries [] ys word s r) → run.entries ≡ told → ⊥
+        (run : RunsTo (sends m) tries [] ys word s r) → run.entries ≡ entries_of_run → ⊥
     pub has_tried_nothing : {xs : List Noted} {word : ℕ} {s : SenderStand} {r : ReceiverStand}
-        (run : RunsTo (sends m) tries xs [] word s r) → run.entries ≡ told → ⊥
+        (run : RunsTo (sends m) tries xs [] word s r) → run.entries ≡ entries_of_run → ⊥
     pub sender_is_silent : {xs ys : List Noted} {word : ℕ} {r : ReceiverStand}
-        (run : RunsTo (sends m) tries xs ys word (sender_stands []) r) → run.entries ≡ told → ⊥
+        (run : RunsTo (sends m) tries xs ys word (sender_stands []) r) → run.entries ≡ entries_of_run → ⊥
     pub receiver_is_silent : {xs ys : List Noted} {word : ℕ} {s : SenderStand}
-        (run : RunsTo (sends m) tries xs ys word s (receiver_stands [])) → run.entries ≡ told → ⊥
+        (run : RunsTo (sends m) tries xs ys word s (receiver_stands [])) → run.entries ≡ entries_of_run → ⊥
     -- what is false of the logs above does not hold wherever both ends come to
     pub send_nothing : WhereverTheyCome T InOrder (λ a b xs ys word s r. xs ≡ []) → ⊥
     -- a table with one end

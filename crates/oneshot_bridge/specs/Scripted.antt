@@ -8,7 +8,7 @@ use Rattle.oneshot_world.specs.declared.script.SenderScript.{SenderScript}
 use Rattle.oneshot_world.specs.declared.trace.Entry.{Entry}
 use Rattle.oneshot_replay.specs.Rest.{message_of}
 use Rattle.oneshot_replay.specs.Right.{IsRight}
-use Rattle.oneshot_replay.specs.Run.{told_at}
+use Rattle.oneshot_replay.specs.Run.{trace_at}
 use Rattle.oneshot_replay.specs.Scene.{Scene}
 use Rattle.oneshot_bridge.specs.OrdersRun.{RunsSo}
 use Rattle.oneshot_bridge.specs.Walks.{SenderStand, ReceiverStand, SenderWalk, ReceiverWalk}
@@ -39,7 +39,7 @@ pub record IsOfARun {T : Type 0} (message : T) (xs ys : List Noted) (word : ℕ)
   pub entries : List Entry
   pub now : Scene T
   pub run : RunsSo sender receiver moves entries now xs ys word
-  pub right : IsRight sender receiver moves (told_at entries now)
+  pub right : IsRight sender receiver moves (trace_at entries now)
 
 -- Each state that the rule of the word allows is that of a run.
 abbrev pub StatesAreOfRuns : (T : Type 0) → Type 0

@@ -1,6 +1,8 @@
 -- A walk: one end carries out its script alone, each step by a row of its table.
 -- It notes its operations on the word and the replies of its calls. It knows no other end, no schedule,
 -- and only the words that it found.
+-- In the field's terms each end is a labelled transition system, and a walk is one of its executions. The walk's log is
+-- the execution's trace: an operation is a visible label, and a quiet step is a silent one.
 use Rattle.std.specs.Prelude.{◌≡◌, Bool, true, false, List, [], ◌∷◌, ◌++◌, Option, Some, None}
 use Rattle.std.specs.Option.{option_and_then}
 use Rattle.oneshot_machine.specs.declared.machine.End.{End}
@@ -32,7 +34,8 @@ use Rattle.oneshot_laws.specs.Marks.{call_under_way}
 abbrev pub Answered : Type 0
 Answered = Call × Reply
 
--- an end's state in its call, what is left of its script, and its calls that have replied
+-- An end's state in its call, what is left of its script, and its calls that have replied. The last part is a history
+-- variable: no step reads it.
 abbrev pub Stand : Type 0 → Type 0
 Stand S = S × Unanswered × List Answered
 
@@ -66,20 +69,20 @@ may_see _ seen = false
 module _ {P S : Type 0} (w : Walker P S) where
   -- where the end is after a row
   abbrev pub stands_after : P → Outcome P → Unanswered → List Answered → Stand S
-  stands_after p row left told =
-      (w.goes (w.step p) row, left_by w.side (reply_of row) left, told ++ answers_with left (reply_of row))
+  stands_after p row left replies =
+      (w.goes (w.step p) row, left_by w.side (reply_of row) left, replies ++ answers_with left (reply_of row))
 
   -- one step that is no operation on the word
   pub data Quiet : Stand S → Stand S → Type 0 where
-    quiet : {s : S} {left : Unanswered} {told : List Answered} (p : P) (seen : Seen) (row : Outcome P)
-        → w.position (s, left, told) ≡ Some p → may_see (w.step p) seen ≡ true → w.row p seen ≡ Some row
-        → Quiet (s, left, told) (stands_after p row left told)
+    quiet : {s : S} {left : Unanswered} {replies : List Answered} (p : P) (seen : Seen) (row : Outcome P)
+        → w.position (s, left, replies) ≡ Some p → may_see (w.step p) seen ≡ true → w.row p seen ≡ Some row
+        → Quiet (s, left, replies) (stands_after p row left replies)
 
   -- one operation on the word, with what it saw
   pub data Operates : Stand S → Noted → Stand S → Type 0 where
-    operates : {s : S} {left : Unanswered} {told : List Answered} (p : P) (x : Noted) (row : Outcome P)
-        → w.position (s, left, told) ≡ Some p → w.step p ≡ Word x.0 → w.row p x.1 ≡ Some row
-        → Operates (s, left, told) x (stands_after p row left told)
+    operates : {s : S} {left : Unanswered} {replies : List Answered} (p : P) (x : Noted) (row : Outcome P)
+        → w.position (s, left, replies) ≡ Some p → w.step p ≡ Word x.0 → w.row p x.1 ≡ Some row
+        → Operates (s, left, replies) x (stands_after p row left replies)
 
 -- steps from here on, with the log of their operations
 pub data Walk {At : Type 0} (Rests : At → At → Type 0) (Makes : At → Noted → At → Type 0) (from : At)

@@ -5,7 +5,7 @@ use Rattle.oneshot_machine.specs.declared.machine.End.TheVariants as End
 use Rattle.oneshot_machine.specs.declared.machine.Step.TheVariants.{Wake}
 use Rattle.oneshot_machine.specs.declared.machine.sender.SenderPos.{SenderPos}
 use Rattle.oneshot_machine.specs.Orders.{InOrder, Reaches}
-use Rattle.oneshot_machine.specs.Phases.{By, SenderAt, finished, late, overtaken, sender_at, gone, receiver_at}
+use Rattle.oneshot_machine.specs.Phases.{By, SenderAt, finished, found_gone, overtaken, sender_at, gone, receiver_at}
 use Rattle.oneshot_world.specs.Ahead.{ahead_of}
 use Rattle.oneshot_world.specs.Scripts.{calls_of}
 use Rattle.oneshot_world.specs.World.{World, turn}
@@ -54,7 +54,7 @@ WakeIsNextInARun T =
 
 -- If the sender's last operation found the receiver gone, the receiver's last operation is that of its drop.
 abbrev pub found_it_gone : SenderAt → Bool
-found_it_gone (late by) = true
+found_it_gone (found_gone by) = true
 found_it_gone (overtaken by) = true
 found_it_gone _ = false
 

@@ -1,4 +1,10 @@
 //! What the ends of the channel do is a run of the model: each function's contract is a law, and its body is empty.
+//!
+//! A real end shows proofs only its log: its operations on the shared word, with what each found. The model runs two
+//! scripts under a schedule, and `oneshot_laws` proves its laws of every run. The laws here lead from logs to runs.
+//! `ends_are_scripted` leads from a log to a walk of one end, `orders_are_runs` from two walks to a run, and
+//! `every_table_answers_calls` from a state of the shared table to its run. `specs/Lib.antt` and `proofs/Lib.antt` have
+//! the order in which to read.
 #![tactic(auto)]
 
 ghost use Rattle.oneshot_bridge.specs.CallExamples.{WorkedCalls, WrongCalls};

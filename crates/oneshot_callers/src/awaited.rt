@@ -1,6 +1,5 @@
 //! A caller that awaits a message under an executor, and its tests.
 
-use crate::asserts::{assert_same, assert_that};
 use futures::executor::block_on;
 use oneshot_channel::{AsyncReceiver, RecvError, async_channel};
 use std::io;
@@ -25,8 +24,8 @@ fn a_message_is_awaited(rt: HostRuntime) -> Result<(), Fail> {
         || awaited(&rt, receiver),
         || sender.send(19u64).is_ok(),
     );
-    assert_same(&rt, received?, Ok(19));
-    assert_that(&rt, sent);
+    assert_eq!(rt; received?, Ok(19));
+    assert!(rt; sent);
     Ok(())
 }
 
@@ -34,6 +33,6 @@ fn a_message_is_awaited(rt: HostRuntime) -> Result<(), Fail> {
 fn a_sender_that_goes_ends_the_wait(rt: HostRuntime) -> Result<(), Fail> {
     let (sender, receiver) = async_channel::<u64, _>(&rt, rt.alloc())?;
     let (received, ()) = join(&rt, || awaited(&rt, receiver), || drop(sender));
-    assert_same(&rt, received?, Err(RecvError));
+    assert_eq!(rt; received?, Err(RecvError));
     Ok(())
 }

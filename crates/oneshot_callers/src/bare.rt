@@ -3,7 +3,6 @@
 ghost use Rattle.futures.specs.Poll.{OnPending};
 ghost use Rattle.oneshot_channel.specs.Ends.{WillBeWoken};
 
-use crate::asserts::{assert_same, assert_that};
 use futures::Future;
 use futures::executor::block_on;
 use futures::task::{Context, Poll};
@@ -35,7 +34,7 @@ fn poll_once<T: Drop>(
 #[test]
 fn a_thread_is_awaited(rt: HostRuntime) -> Result<(), Fail> {
     let receiver = start(&rt, rt.alloc(), 21)?;
-    assert_same(&rt, block_on(&rt, receiver)?, Ok(21));
+    assert_eq!(rt; block_on(&rt, receiver)?, Ok(21));
     Ok(())
 }
 
@@ -47,8 +46,8 @@ fn a_message_is_awaited(rt: HostRuntime) -> Result<(), Fail> {
         || block_on(&rt, receiver),
         || sender.send(19u64).is_ok(),
     );
-    assert_same(&rt, received?, Ok(19));
-    assert_that(&rt, sent);
+    assert_eq!(rt; received?, Ok(19));
+    assert!(rt; sent);
     Ok(())
 }
 
@@ -56,12 +55,12 @@ fn a_message_is_awaited(rt: HostRuntime) -> Result<(), Fail> {
 fn a_message_is_polled_by_hand(rt: HostRuntime) -> Result<(), Fail> {
     let task = MockTask::new(&rt)?;
     let (sender, mut receiver) = async_channel((), rt.alloc())?;
-    assert_same(&rt, task.poll(&mut receiver), Poll::Pending);
-    assert_same(&rt, receiver.try_recv(), Err(TryRecvError::Empty));
-    assert_that(&rt, !task.is_woken());
-    assert_that(&rt, sender.send(19u64).is_ok());
-    assert_that(&rt, task.is_woken());
-    assert_same(&rt, task.poll(&mut receiver), Poll::Ready(Ok(19)));
-    assert_same(&rt, task.poll(&mut receiver), Poll::Ready(Err(RecvError)));
+    assert_eq!(rt; task.poll(&mut receiver), Poll::Pending);
+    assert_eq!(rt; receiver.try_recv(), Err(TryRecvError::Empty));
+    assert!(rt; !task.is_woken());
+    assert!(rt; sender.send(19u64).is_ok());
+    assert!(rt; task.is_woken());
+    assert_eq!(rt; task.poll(&mut receiver), Poll::Ready(Ok(19)));
+    assert_eq!(rt; task.poll(&mut receiver), Poll::Ready(Err(RecvError)));
     Ok(())
 }

@@ -3,7 +3,6 @@
 ghost use Rattle.std.specs.Prelude.{◌≡◌, true, IfOk, IsNone};
 ghost use Rattle.oneshot_channel.specs.Ends.{IsClosed, IsOpen};
 
-use crate::asserts::{assert_same, assert_that};
 use oneshot_channel::{Receiver, Sender, TryRecvError, channel};
 use std::alloc::{AllocError, Global};
 use std::test::Fail;
@@ -52,11 +51,11 @@ impl<T: Drop> Inbox<T> {
 #[test]
 fn an_inbox_gives_its_message_once(rt: HostRuntime) -> Result<(), Fail> {
     let (sender, mut inbox) = Inbox::new(rt.alloc())?;
-    assert_same(&rt, inbox.look(), None);
-    assert_that(&rt, !inbox.done);
-    assert_that(&rt, sender.send(19u64).is_ok());
-    assert_same(&rt, inbox.look(), Some(19));
-    assert_that(&rt, inbox.done);
-    assert_same(&rt, inbox.look(), None);
+    assert_eq!(rt; inbox.look(), None);
+    assert!(rt; !inbox.done);
+    assert!(rt; sender.send(19u64).is_ok());
+    assert_eq!(rt; inbox.look(), Some(19));
+    assert!(rt; inbox.done);
+    assert_eq!(rt; inbox.look(), None);
     Ok(())
 }

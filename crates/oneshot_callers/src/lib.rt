@@ -3,15 +3,12 @@
 #![tactic(auto)]
 
 #[cfg(test)]
-mod asserts;
 #[cfg(test)]
 mod awaited;
 #[cfg(test)]
 mod bare;
 #[cfg(test)]
 mod errors;
-#[cfg(test)]
-mod glanced;
 #[cfg(test)]
 mod inbox;
 #[cfg(test)]
@@ -30,3 +27,5 @@ mod taken;
 mod tallied;
 #[cfg(test)]
 mod tickets;
+#[cfg(test)]
+mod tried;

@@ -3,7 +3,6 @@
 ghost use Rattle.std.specs.Prelude.{◌≡◌, ◌<◌, None, Some, Err, IfOk, IfSome};
 ghost use Rattle.oneshot_channel.specs.TryRecvError.TheVariants as Tried;
 
-use crate::asserts::assert_same;
 use oneshot_channel::laws::{
     an_unfinished_future_took_none, one_channel_is_about_one_value,
     one_channel_of_a_future_is_about_one_value,
@@ -63,18 +62,18 @@ fn tried<T: Drop, Rt: Drop, P: Promise<T>>(
 #[test]
 fn both_ends_are_about_one_length(rt: HostRuntime) -> Result<(), Fail> {
     let (sender, mut receiver) = channel_for((), rt.alloc(), &Below(3))?;
-    assert_same(&rt, left_by(sender, &mut receiver), None);
+    assert_eq!(rt; left_by(sender, &mut receiver), None);
     let (sender, mut future) = async_channel_for((), rt.alloc(), &Below(3))?;
-    assert_same(&rt, left_to_a_future(sender, &mut future), None);
+    assert_eq!(rt; left_to_a_future(sender, &mut future), None);
     Ok(())
 }
 
 #[test]
 fn a_future_takes_its_message_once(rt: HostRuntime) -> Result<(), Fail> {
     let (sender, mut future) = async_channel::<u8, ()>((), rt.alloc())?;
-    assert_same(&rt, tried(&mut future), Err(TryRecvError::Empty));
-    assert_same(&rt, sender.send(7).is_ok(), true);
-    assert_same(&rt, tried(&mut future), Ok(7));
-    assert_same(&rt, tried(&mut future), Err(TryRecvError::Disconnected));
+    assert_eq!(rt; tried(&mut future), Err(TryRecvError::Empty));
+    assert_eq!(rt; sender.send(7).is_ok(), true);
+    assert_eq!(rt; tried(&mut future), Ok(7));
+    assert_eq!(rt; tried(&mut future), Err(TryRecvError::Disconnected));
     Ok(())
 }

@@ -4,7 +4,6 @@ ghost use Rattle.std.specs.Prelude.{◌≡◌, ◌≢◌, None, Ok, Err, IsErr, 
 ghost use Rattle.oneshot_channel.specs.Ends.{IsClosed, IsOpen};
 ghost use Rattle.oneshot_channel.specs.TryRecvError.TheVariants as Tried;
 
-use crate::asserts::{assert_same, assert_that};
 use oneshot_channel::{
     RawReceiver, Receiver, RecvError, RecvTimeoutError, Sender, TryRecvError, channel,
 };
@@ -86,38 +85,37 @@ fn opaque_received_before<T: Drop, Rt: Wait + Clock + Drop>(
 fn a_message_is_kept_if_the_receiver_is_gone(rt: HostRuntime) -> Result<(), Fail> {
     let (sender, receiver) = channel(&rt, rt.alloc())?;
     drop(receiver);
-    assert_same(&rt, send_or_keep(sender, 19), Some(19));
+    assert_eq!(rt; send_or_keep(sender, 19), Some(19));
     Ok(())
 }
 
 #[test]
 fn a_message_that_was_sent_is_not_kept(rt: HostRuntime) -> Result<(), Fail> {
     let (sender, receiver) = channel(&rt, rt.alloc())?;
-    assert_same(&rt, send_or_keep(sender, 19), None);
-    assert_same(&rt, receiver.recv(), Ok(19));
+    assert_eq!(rt; send_or_keep(sender, 19), None);
+    assert_eq!(rt; receiver.recv(), Ok(19));
     Ok(())
 }
 
 #[test]
 fn a_poll_is_made_again_while_the_channel_is_open(rt: HostRuntime) -> Result<(), Fail> {
     let (sender, mut receiver) = channel::<u64, ()>((), rt.alloc())?;
-    assert_same(&rt, poll(&mut receiver), Ok(None));
-    assert_that(&rt, sender.send(19).is_ok());
-    assert_same(&rt, poll(&mut receiver), Ok(Some(19)));
-    assert_same(&rt, poll(&mut receiver), Err(RecvError));
+    assert_eq!(rt; poll(&mut receiver), Ok(None));
+    assert!(rt; sender.send(19).is_ok());
+    assert_eq!(rt; poll(&mut receiver), Ok(Some(19)));
+    assert_eq!(rt; poll(&mut receiver), Err(RecvError));
     Ok(())
 }
 
 #[test]
 fn no_second_message_comes(rt: HostRuntime) -> Result<(), Fail> {
     let (sender, mut receiver) = channel(&rt, rt.alloc())?;
-    assert_that(&rt, sender.send(19u64).is_ok());
-    assert_same(
-        &rt,
+    assert!(rt; sender.send(19u64).is_ok());
+    assert_eq!(rt;
         twice(&mut receiver),
-        (Ok(19), Err(TryRecvError::Disconnected)),
+        (Ok(19), Err(TryRecvError::Disconnected))
     );
-    assert_same(&rt, receiver.recv(), Err(RecvError));
+    assert_eq!(rt; receiver.recv(), Err(RecvError));
     Ok(())
 }
 
@@ -131,18 +129,18 @@ fn a_receiver_blocks_on_after_its_deadline(rt: HostRuntime) -> Result<(), Fail> 
             let _ = sender.send(19u64);
         }
     });
-    assert_same(&rt, received, Ok(19));
+    assert_eq!(rt; received, Ok(19));
     Ok(())
 }
 
 #[test]
 fn a_receiver_that_received_ends_with_an_error(rt: HostRuntime) -> Result<(), Fail> {
     let (sender, mut receiver) = channel(&rt, rt.alloc())?;
-    assert_that(&rt, sender.send(19u64).is_ok());
+    assert!(rt; sender.send(19u64).is_ok());
     let first = receiver.recv_timeout(Duration::from_secs(60));
-    assert_same(&rt, first, Ok(19));
+    assert_eq!(rt; first, Ok(19));
     if first.is_ok() {
-        assert_same(&rt, received_before(receiver), Err(RecvError));
+        assert_eq!(rt; received_before(receiver), Err(RecvError));
     }
     Ok(())
 }
@@ -150,12 +148,8 @@ fn a_receiver_that_received_ends_with_an_error(rt: HostRuntime) -> Result<(), Fa
 #[test]
 fn an_opaque_receiver_that_received_ends_with_an_error(rt: HostRuntime) -> Result<(), Fail> {
     let (sender, mut receiver) = channel(&rt, rt.alloc())?;
-    assert_that(&rt, sender.send(19u64).is_ok());
-    assert_same(&rt, receiver.recv_ref(), Ok(19));
-    assert_same(
-        &rt,
-        opaque_received_before(receiver.into_raw()),
-        Err(RecvError),
-    );
+    assert!(rt; sender.send(19u64).is_ok());
+    assert_eq!(rt; receiver.recv_ref(), Ok(19));
+    assert_eq!(rt; opaque_received_before(receiver.into_raw()), Err(RecvError));
     Ok(())
 }

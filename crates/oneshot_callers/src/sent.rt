@@ -2,7 +2,6 @@
 
 ghost use Rattle.std.specs.Prelude.{◌≡◌, IfOk};
 
-use crate::asserts::assert_same;
 use oneshot_channel::{Promise, Receiver, RecvError, Sender, channel_for};
 use std::sync::Wait;
 use std::test::Fail;
@@ -35,6 +34,6 @@ fn send_it(sender: Sender<u64, Exactly>, message: u64) -> bool
 fn the_message_that_comes_back_is_the_one_that_was_sent(rt: HostRuntime) -> Result<(), Fail> {
     let (sender, receiver) = channel_for(&rt, rt.alloc(), &Exactly(19))?;
     let (message, sent) = join(&rt, || received(receiver), || send_it(sender, 19));
-    assert_same(&rt, (message, sent), (Ok(19), true));
+    assert_eq!(rt; (message, sent), (Ok(19), true));
     Ok(())
 }

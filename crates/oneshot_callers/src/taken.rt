@@ -3,7 +3,6 @@
 ghost use Rattle.std.specs.Prelude.{◌≡◌, None, Some, Err, IfOk};
 ghost use Rattle.oneshot_channel.specs.TryRecvError.TheVariants as Tried;
 
-use crate::asserts::assert_same;
 use oneshot_channel::laws::an_open_receiver_took_none;
 use oneshot_channel::{Promise, Receiver, TryRecvError, channel};
 use std::test::Fail;
@@ -24,9 +23,9 @@ fn tried<T: Drop, Rt: Drop, P: Promise<T>>(
 #[test]
 fn a_message_is_taken_once(rt: HostRuntime) -> Result<(), Fail> {
     let (sender, mut receiver) = channel::<u8, ()>((), rt.alloc())?;
-    assert_same(&rt, tried(&mut receiver), Err(TryRecvError::Empty));
-    assert_same(&rt, sender.send(7).is_ok(), true);
-    assert_same(&rt, tried(&mut receiver), Ok(7));
-    assert_same(&rt, tried(&mut receiver), Err(TryRecvError::Disconnected));
+    assert_eq!(rt; tried(&mut receiver), Err(TryRecvError::Empty));
+    assert_eq!(rt; sender.send(7).is_ok(), true);
+    assert_eq!(rt; tried(&mut receiver), Ok(7));
+    assert_eq!(rt; tried(&mut receiver), Err(TryRecvError::Disconnected));
     Ok(())
 }

@@ -3,10 +3,9 @@
 ghost use Rattle.std.specs.Prelude.{◌≡◌, [], ◌∷◌};
 ghost use Rattle.oneshot_channel.specs.BetweenCalls.{try_recv_reply};
 ghost use Rattle.oneshot_channel.specs.Called.{as_receiver, ReceiverCalled};
-ghost use Rattle.oneshot_channel.specs.Ends.{Waking};
+ghost use Rattle.oneshot_channel.specs.Ends.{UnnamedWaker};
 ghost use Rattle.oneshot_channel.specs.ReceiverStart.TheVariants.{TryRecv};
 
-use crate::asserts::assert_same;
 use oneshot_channel::laws::calls_add_up;
 use oneshot_channel::{Receiver, TryRecvError, channel};
 use std::test::Fail;
@@ -16,7 +15,7 @@ fn tried_twice<T: Send + Drop>(
     receiver: &mut Receiver<T, ()>,
 ) -> (Result<T, TryRecvError>, Result<T, TryRecvError>)
     requires { receiver.old.log ≡ [] }
-    ensures { ReceiverCalled T Waking as_receiver
+    ensures { ReceiverCalled T UnnamedWaker as_receiver
         ((TryRecv, try_recv_reply result.0) ∷ (TryRecv, try_recv_reply result.1) ∷ []) receiver.new.log }
 {
     calls_add_up::<T>();
@@ -29,21 +28,16 @@ fn tried_twice<T: Send + Drop>(
 fn nothing_is_there_and_then_nobody(rt: HostRuntime) -> Result<(), Fail> {
     let (sender, mut receiver) = channel::<u8, ()>((), rt.alloc())?;
     let kept = tried_twice(&mut receiver);
-    assert_same(
-        &rt,
-        kept,
-        (Err(TryRecvError::Empty), Err(TryRecvError::Empty)),
-    );
+    assert_eq!(rt; kept, (Err(TryRecvError::Empty), Err(TryRecvError::Empty)));
     drop(sender);
     let (_, mut receiver) = channel::<u8, ()>((), rt.alloc())?;
     let gone = tried_twice(&mut receiver);
-    assert_same(
-        &rt,
+    assert_eq!(rt;
         gone,
         (
             Err(TryRecvError::Disconnected),
             Err(TryRecvError::Disconnected),
-        ),
+        )
     );
     Ok(())
 }

@@ -95,9 +95,9 @@ where
 fn both_replies_come(rt: HostRuntime) -> Result<(), Fail> {
     let (few, first) = request((), rt.alloc(), 7u32).map_err(|_| AllocError)?;
     let (many, second) = request((), rt.alloc(), 11u32).map_err(|_| AllocError)?;
-    crate::asserts::assert_that(&rt, serve(many));
-    crate::asserts::assert_that(&rt, serve(few));
-    crate::asserts::assert_same(&rt, both_replies(&rt, first, second)?, Some((7, 10)));
+    assert!(rt; serve(many));
+    assert!(rt; serve(few));
+    assert_eq!(rt; both_replies(&rt, first, second)?, Some((7, 10)));
     Ok(())
 }
 
@@ -105,8 +105,8 @@ fn both_replies_come(rt: HostRuntime) -> Result<(), Fail> {
 fn one_reply_comes_first(rt: HostRuntime) -> Result<(), Fail> {
     let (unserved, first) = request((), rt.alloc(), 7u32).map_err(|_| AllocError)?;
     let (served, second) = request((), rt.alloc(), 7u32).map_err(|_| AllocError)?;
-    crate::asserts::assert_that(&rt, serve(served));
-    crate::asserts::assert_same(&rt, first_reply(&rt, first, second)?, Some(7));
-    crate::asserts::assert_that(&rt, !serve(unserved));
+    assert!(rt; serve(served));
+    assert_eq!(rt; first_reply(&rt, first, second)?, Some(7));
+    assert!(rt; !serve(unserved));
     Ok(())
 }

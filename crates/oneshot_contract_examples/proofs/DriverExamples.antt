@@ -1,14 +1,14 @@
 -- Proofs of the examples of ends, of what a call leaves, of replies and of hands.
-use Rattle.oneshot_drive.proofs.Names.{true, false, inl, inr, refl, closed_itself, found_closed, looked, between, blocked, waits, withdrew, rests_new, rests_open, rests_closed}
+use Rattle.oneshot_drive.proofs.Names.{true, false, inl, inr, refl, closed_itself, found_closed, after_load, after_timeout, blocked, waits, withdrew, rests_new, rests_open, rests_closed}
 use Rattle.oneshot_drive.proofs.Names.{leaves_open, leaves_closed, left_received, left_closed, timed_received, timed_out, timed_closed, as_it_was, sender_took, came_back, returned, taken}
-use Rattle.oneshot_contract_examples.specs.DriverExamples.{sent}
+use Rattle.oneshot_contract_examples.specs.DriverExamples.{message}
 use Rattle.oneshot_drive.proofs.Names.{Polled, unpolled, left_copy, kept_copy, found_sender}
-use Rattle.oneshot_contract_examples.specs.DriverExamples.{EndsThatAre, EndsThatAreNot, CallsThatLeave, CallsThatDoNot, RepliesThatAre, HandsThatAre, HandsThatAreNot}
+use Rattle.oneshot_contract_examples.specs.DriverExamples.{PhasesThatAre, PhasesThatAreNot, CallsThatLeave, CallsThatDoNot, RepliesThatAre, HandsThatAre, HandsThatAreNot}
 use Rattle.oneshot_drive.proofs.Names.{has_resolved, leaves_resolved, leaves_gone, leaves_waiting, tried_resolved, tried_its_copy, is_disconnected}
 use Rattle.oneshot_drive.specs.BetweenCalls.{leaves_received, last_finished, last_overtaken}
 
-pub ends_that_are : EndsThatAre
-ends_that_are =
+pub phases_that_are : PhasesThatAre
+phases_that_are =
     record {
       new_is_open = refl;
       looked_is_open = λ _. refl;
@@ -17,8 +17,8 @@ ends_that_are =
       disconnected_is_closed = λ _. refl;
       resolved_is_closed = λ _. refl;
       new_rests = rests_new;
-      looked_rests = rests_open looked;
-      ran_out_rests = rests_open between;
+      looked_rests = rests_open after_load;
+      ran_out_rests = rests_open after_timeout;
       received_rests = rests_closed closed_itself;
       new_is_polled = unpolled rests_new;
       registered_is_polled = left_copy;
@@ -35,8 +35,8 @@ blocked_is_polled (unpolled rests) = elim rests [ ]
 withdrawn_is_polled : Polled withdrew → ⊥
 withdrawn_is_polled (unpolled rests) = elim rests [ ]
 
-pub ends_that_are_not : EndsThatAreNot
-ends_that_are_not =
+pub phases_that_are_not : PhasesThatAreNot
+phases_that_are_not =
     record {
       disconnected_is_open = λ _ e. cc;
       resolved_is_open = λ _ e. cc;
@@ -62,18 +62,18 @@ ends_that_are_not =
 pub calls_that_leave : CallsThatLeave
 calls_that_leave =
     record {
-      takes = leaves_received sent;
+      takes = leaves_received message;
       finds_nothing = leaves_open;
       finds_no_sender = leaves_closed;
-      blocks_for_it = left_received sent;
+      blocks_for_it = left_received message;
       blocks_in_vain = left_closed;
-      comes_in_time = timed_received sent;
+      comes_in_time = timed_received message;
       runs_out = timed_out;
       ends_in_time = timed_closed;
-      polls_it = leaves_resolved sent;
+      polls_it = leaves_resolved message;
       polls_over_nobody = λ e. leaves_gone e found_closed;
       polls_too_early = leaves_waiting;
-      tries_it = tried_resolved sent;
+      tries_it = tried_resolved message;
       tries_too_early = tried_its_copy;
       leaves_its_copy = inl (refl, tt);
       woke_its_task = inr tt;

@@ -28,11 +28,11 @@ use Rattle.oneshot_machine.specs.TableRows.{Goes, Answers}
 use Rattle.oneshot_machine.proofs.FirstSteps.{tries_once, tries_in_vain, sends_with}
 use Rattle.oneshot_word.proofs.Between.{between}
 use Rattle.oneshot_word.proofs.RuleImplies.{Is, word_between}
-use Rattle.oneshot_ends.specs.Ends.{Waking, SenderGrew, ReceiverGrew}
-use Rattle.oneshot_contract_examples.specs.EndExamples.{ran_out, EndsThatAre, EndsThatAreNot, CallsThatGrow, CallsThatDoNot, CopiesThatAre}
-use Rattle.oneshot_contract_examples.specs.EndExamples.{CopiesThatAreNot, GroundsThatAre}
+use Rattle.oneshot_ends.specs.Ends.{UnnamedWaker, SenderGrew, ReceiverGrew}
+use Rattle.oneshot_contract_examples.specs.EndExamples.{ran_out, EndsThatAre, EndsThatAreNot, CallsThatGrow, CallsThatDoNotGrow, CopiesThatAre}
+use Rattle.oneshot_contract_examples.specs.EndExamples.{CopiesThatAreNot, RealGroundsThatAre}
 use Rattle.oneshot_ends.specs.OwnWakers.{is_waiting}
-use Rattle.oneshot_contract_examples.specs.EndExamples.{GroundsThatAreNot, OrdersThatAre, OrdersThatAreNot}
+use Rattle.oneshot_contract_examples.specs.EndExamples.{RealGroundsThatAreNot, OrderedLogs, UnorderedLogs}
 use Rattle.oneshot_ends.proofs.CallsAnswered.{one_more, was_refused}
 use Rattle.oneshot_contract_examples.proofs.Endless.{never_runs_out}
 use Rattle.oneshot_contract_examples.proofs.ComputedRuns.{computed}
@@ -128,7 +128,7 @@ module _ {T : Type 0} where
       tried = record { run = worded Load EMPTY ∷ []; is_run = last _ refl refl; list = refl }
 
   -- the one call of an error, from its log
-  refused_with : {calls : List (SenderCall × Reply)} {log : List Noted} → SenderCalled T Waking calls log
+  refused_with : {calls : List (SenderCall × Reply)} {log : List Noted} → SenderCalled T UnnamedWaker calls log
       → calls ≡ (Send, R.Refused) ∷ [] → SenderGrew T Send [] log R.Refused
   refused_with not_called_yet is = absurd (cc is)
   refused_with (called_once call reply run its made) is =
@@ -145,8 +145,8 @@ module _ {T : Type 0} where
   never_ends true ends grew = ends refl
   never_ends false ends grew = never_runs_out (Timed (SumClock false)) grew.run refl grew.is_run
 
-  pub calls_that_do_not : CallsThatDoNot T
-  calls_that_do_not =
+  pub calls_that_do_not_grow : CallsThatDoNotGrow T
+  calls_that_do_not_grow =
       record {
         says_that_it_sent = λ grew. let e = sends_with {s = R.Refused} refl grew.is_run grew.list in cc;
         says_that_it_was_refused = λ grew. let e = sends_with {s = R.Sent} refl grew.is_run grew.list in cc;
@@ -160,8 +160,8 @@ module _ {T : Type 0} where
         runs_out_of_no_end = λ timeout now log sum ran. never_ends ran.has_end (λ ends. sum (ran.held.0 ends)) ran.grew;
       }
 
-pub orders_that_are : OrdersThatAre
-orders_that_are =
+pub ordered_logs : OrderedLogs
+ordered_logs =
     record {
       sent = ([], 4, sender_makes Add nothing_made (has_row head));
       looked = ([], 3, receiver_makes Load nothing_made (has_row head));
@@ -173,8 +173,8 @@ no_order (finished sending) met = elim met [ ]
 no_order (finished dropping) met = elim met [ ]
 no_order _ met = elim met [ ]
 
-pub orders_that_are_not : OrdersThatAreNot
-orders_that_are_not =
+pub unordered_logs : UnorderedLogs
+unordered_logs =
     record {
       sent_over_a_message = λ (ys, word, reaches). elim (between reaches) [ ];
       found_a_waker_first = λ (xs, word, reaches). no_order (sender_at xs) (between reaches);
@@ -212,8 +212,8 @@ has_room (Some owns) = owns.0
 has_room None = false
 
 module _ (table : TableId) where
-  pub grounds_that_are : GroundsThatAre table
-  grounds_that_are =
+  pub real_grounds_that_are : RealGroundsThatAre table
+  real_grounds_that_are =
       record {
         keeps_its_slots = refl;
         freed_the_message = refl;
@@ -244,8 +244,8 @@ module _ (table : TableId) where
         frees_nothing = tt;
       }
 
-  pub grounds_that_are_not : GroundsThatAreNot table
-  grounds_that_are_not =
+  pub real_grounds_that_are_not : RealGroundsThatAreNot table
+  real_grounds_that_are_not =
       record {
         frees_while_open = λ e. let message : false ≡ true = ap has_room e in cc message;
         frees_once_gone = λ e. let message : false ≡ true = ap has_room e in cc message;

@@ -1,5 +1,5 @@
 -- Proofs of the examples of grounds and of the wakers that a call passes on.
-use Rattle.oneshot_drive.proofs.Names.{◌≡◌, ℕ, true, List, [], ◌∷◌, None, refl, sym, subst, arith, Sent, Send, Event, Grows, receiver_of, ReceiverAt, blocked, first, here, looked}
+use Rattle.oneshot_drive.proofs.Names.{◌≡◌, ℕ, true, List, [], ◌∷◌, None, refl, sym, subst, arith, Sent, Send, Event, Grows, receiver_of, ReceiverAt, blocked, first, idle, after_load}
 use Rattle.oneshot_contract_examples.specs.RunExamples.{waking}
 use Rattle.oneshot_drive.proofs.Names.{disconnected, found_closed, waits, polled, is_away, is_vacant, IsSlot, rests_new, rests_open, rests_closed}
 use Rattle.oneshot_contract_examples.proofs.RunExamples.{runs_that_are}
@@ -12,7 +12,7 @@ use Rattle.oneshot_machine.specs.declared.machine.Step.TheVariants.{Wake}
 use Rattle.oneshot_machine.specs.Logs.{handed}
 use Rattle.oneshot_machine.proofs.GrownLogs.{words_after}
 use Rattle.oneshot_contract_examples.specs.DriverExamples.{real, met_it}
-use Rattle.oneshot_drive.specs.Wakes.{finds_waiting}
+use Rattle.oneshot_drive.specs.Wakes.{found_receiver_waiting}
 
 pub grounds_that_are : GroundsThatAre
 grounds_that_are =
@@ -27,8 +27,8 @@ grounds_that_are =
           };
       has_looked =
           record {
-            at = here looked;
-            is_one = rests_open looked;
+            at = idle after_load;
+            is_one = rests_open after_load;
             stands = record { phase = refl; message = is_away; waker = is_vacant };
           };
       found_closed_word =
@@ -129,7 +129,8 @@ used_one : {woken : ℕ → Type 0} → SenderWoke woken Send (real []) (real me
 used_one woke =
     elim woke.wakes [
       | wakes k found took used woken ↦ (k, woken)
-      | wakes_none none used ↦ absurd (true≢false (ap finds_waiting (words_after woke.ran.run woke.ran.grows) ∙ none))
+      | wakes_none none used ↦ absurd (true≢false (ap found_receiver_waiting (words_after woke.ran.run woke.ran.grows)
+          ∙ none))
     ]
 
 used_unasked : Wakes {T = ℕ} {W = ℕ} (λ waker. waker ≡ 1) (handed Wake 1 ∷ []) → ⊥

@@ -1,4 +1,11 @@
--- The proofs of the examples of `specs/`, mostly computed. `ComputedRuns` proves a run of known steps.
+-- The proofs of the examples of `specs/`, most of which the checker computes.
+-- `ComputedRuns` and `RowExamples` hold the ideas. `ComputedRuns` proves a run of known steps: the rows compute its
+-- positions. `RowExamples` refuses a counterexample by a test that every row of the table passes, and that the
+-- counterexample does not.
+-- Each other file proves the examples of the file of `specs/` with its name. `NoRunExamples` has those of `RunExamples`
+-- that are no runs, and `GroundExamples` those of `DriverExamples` on grounds and wakers.
+-- `Endless` proves that no run of a receive without an end replies `Timeout`.
+-- The folders follow the functions of `src/`, each of which states the examples of one crate.
 pub mod RunExamples
 pub mod NoRunExamples
 pub mod FutureExamples

@@ -4,9 +4,10 @@ use Rattle.oneshot_machine.specs.declared.machine.Seen.TheVariants.{Word}
 use Rattle.oneshot_machine.specs.declared.states.Op.TheVariants.{Load, Store, Swap, Exchange, Add, Xor}
 use Rattle.oneshot_machine.specs.declared.states.TheConstants.{RECEIVING, UNPARKING, DISCONNECTED, EMPTY, MESSAGE}
 use Rattle.oneshot_machine.specs.Orders.{Reaches, has_row, nothing_made, sender_makes, receiver_makes}
-use Rattle.oneshot_contract_examples.specs.OrderExamples.{waits, sent_over, OrdersThatAre, OrdersThatAreNot}
+use Rattle.oneshot_contract_examples.specs.OrderExamples.{OrdersThatAre, OrdersThatAreNot}
 use Rattle.oneshot_machine.specs.Slots.{head, tail}
 use Rattle.oneshot_machine.proofs.OrdersAhead.{Goes, sender_first, receiver_first, ahead}
+use Rattle.oneshot_contract_examples.specs.ExampleLogs.{sent_over, waits}
 
 looked : Reaches [] ((Load, Word EMPTY) ∷ []) EMPTY
 looked = receiver_makes Load nothing_made (has_row head)

@@ -14,7 +14,7 @@ use Rattle.oneshot_machine.specs.Phases.{sending, blocked, sender_at, receiver_a
 use Rattle.oneshot_machine.specs.Over.{SenderIsOver, over_finished}
 use Rattle.oneshot_drive.specs.Blocking.{Parks, parks_waiting}
 use Rattle.oneshot_drive.specs.Polls.{is_registered}
-use Rattle.oneshot_drive.specs.Wakes.{finds_waiting}
+use Rattle.oneshot_drive.specs.Wakes.{found_receiver_waiting}
 use Rattle.oneshot_contract_examples.proofs.ReceivedExamples.{wakers_that_pass, wakers_that_do_not}
 use Rattle.oneshot_word.specs.declared.any_waker.AnyWaker.{AnyWaker}
 use Rattle.oneshot_word.specs.declared.any_waker.AnyWaker.TheVariants.{Thread, Task}
@@ -26,8 +26,8 @@ use Rattle.oneshot_ends.specs.declared.token.WakingHalf.{WakingHalf}
 use Rattle.oneshot_ends.specs.Ends.{registered_if}
 use Rattle.oneshot_ends.specs.Keeps.{own_stays, polled_stays}
 use Rattle.oneshot_ends.specs.NoLostWakeup.{SleepsOn, ParkerAt, HasGivenTokenOf}
-use Rattle.oneshot_contract_examples.specs.StateExamples.{waits as blocks}
-use Rattle.oneshot_contract_examples.specs.OwnExamples.{side_with, sender_of_it, parks_beside, UsesThatAre, UsesThatAreNot}
+use Rattle.oneshot_contract_examples.specs.ExampleLogs.{waits as blocks}
+use Rattle.oneshot_contract_examples.specs.OwnExamples.{side_by, sender_of_it, parks_beside, UsesThatAre, UsesThatAreNot}
 use Rattle.oneshot_ends.specs.OwnWakers.{RealWaker, IsCopyFor, IsTaskOf, IsHalfOf, IsNoThread, is_waiting, WaitsByHalvesOf}
 use Rattle.oneshot_ends.specs.Woken.{Sending, IsWoken, phase, found_waiting as shown_waiting, HasEnded}
 use Rattle.oneshot_ends.specs.Taken.{taken_stays}
@@ -46,8 +46,8 @@ unused {K} {k} {half} {given} woken is none =
 
 -- what the ground of a sender with this log shows
 module _ {K : Type 0} (s : Sending ⊤ (AnyWaker WakingHalf K) ⊤) {log : List Noted} (logs : s.side.log ≡ log) where
-  shows_waiting : shown_waiting s ≡ finds_waiting log
-  shows_waiting = ap finds_waiting (words_of ⊤ (AnyWaker WakingHalf K) s.side.log ∙ logs)
+  shows_waiting : shown_waiting s ≡ found_receiver_waiting log
+  shows_waiting = ap found_receiver_waiting (words_of ⊤ (AnyWaker WakingHalf K) s.side.log ∙ logs)
 
   shows_phase : phase s ≡ sender_at log
   shows_phase = ap sender_at (words_of ⊤ (AnyWaker WakingHalf K) s.side.log ∙ logs)
@@ -149,7 +149,7 @@ uses_that_are =
           allowed = (wakers_that_pass WakingHalf Waker (λ about message. ⊤)).was_used tt tt (Thread half) tt;
         },
         record { over = over_finished; woken = λ found. (Thread half, (refl, same)) },
-        sleeps_on (side_with blocks (Thread half)) half refl refl refl,
+        sleeps_on (side_by blocks (Thread half)) half refl refl refl,
         parker_at given number states.there,
       );
       keeps_all = λ s. own_stays;

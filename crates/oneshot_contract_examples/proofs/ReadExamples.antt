@@ -5,12 +5,12 @@ use Rattle.oneshot_word.specs.declared.rule.Role.{Role}
 use Rattle.oneshot_word.specs.declared.rule.Role.TheVariants.{Maker}
 use Rattle.oneshot_contract_examples.proofs.OrderExamples.{orders_that_are_not}
 use Rattle.oneshot_word.proofs.Names.{Ordered, maker_before, dealer_before, in_order, Home}
-use Rattle.oneshot_word.specs.declared.rule.Role.TheVariants.{Dealer}
+use Rattle.oneshot_word.specs.declared.rule.Role.TheVariants.{MakerWithSlot}
 use Rattle.oneshot_word.specs.declared.rule.View.{View}
 use Rattle.oneshot_word.specs.declared.any_waker.AnyWaker.{AnyWaker}
 use Rattle.oneshot_contract_examples.specs.ReadExamples.{both_in, both_out, one_out, alone, views, found, ReadsThatAre, ReadsThatAreNot}
 use Rattle.oneshot_word.proofs.Names.{both_views, view, MESSAGE, DISCONNECTED, EMPTY}
-use Rattle.oneshot_machine.proofs.InOrders.{in_order as reached_in_order}
+use Rattle.oneshot_machine.proofs.InOrders.{order_is as reached_in_order}
 use Rattle.oneshot_word.specs.declared.rule.Role.TheVariants.{Sender, Receiver}
 use Rattle.oneshot_word.specs.EndLogs.{sent as sent_alone}
 use Rattle.oneshot_contract_examples.specs.ReadExamples.{sent}
@@ -75,7 +75,7 @@ has_owners {word} {xs} {ys} {h} {k} (two_ends {w = left} {h = h'} {k = k'} xs' y
 
 -- with one seat the table is new, or its maker has the message's slot
 abbrev IsNew : Role → List (Home ℕ ℕ ℕ) → Type 0
-IsNew role homes = ((role ≡ Maker) × (homes ≡ both_in)) ⊎ ((role ≡ Dealer) × (homes ≡ one_out))
+IsNew role homes = ((role ≡ Maker) × (homes ≡ both_in)) ⊎ ((role ≡ MakerWithSlot) × (homes ≡ one_out))
 
 role_is : {v : View ℕ ℕ ℕ ℕ} (role : Role) → alone role ≡ v ∷ [] → v.role ≡ role
 role_is {v} role are =
@@ -91,28 +91,28 @@ first_word (two_ends xs ys owned) are = absurd (cc are)
 first_slots : {words : List ℕ} {seats : List (View ℕ ℕ ℕ ℕ)} {v : View ℕ ℕ ℕ ℕ} {homes : List (Home ℕ ℕ ℕ)}
     → Ruled {P = ℕ} 7 words homes seats → seats ≡ v ∷ [] → IsNew v.role homes
 first_slots maker_alone are = inl (role_is Maker are, refl)
-first_slots dealer_alone are = inr (role_is Dealer are, refl)
+first_slots dealer_alone are = inr (role_is MakerWithSlot are, refl)
 first_slots (two_ends xs ys owned) are = absurd (cc are)
 
 first_order : {words : List ℕ} {seats : List (View ℕ ℕ ℕ ℕ)} {v : View ℕ ℕ ℕ ℕ} → Ordered {P = ℕ} 7 words seats
-    → seats ≡ v ∷ [] → (words ≡ EMPTY ∷ []) × ((v.role ≡ Maker) ⊎ (v.role ≡ Dealer))
+    → seats ≡ v ∷ [] → (words ≡ EMPTY ∷ []) × ((v.role ≡ Maker) ⊎ (v.role ≡ MakerWithSlot))
 first_order maker_before are = (refl, inl (role_is Maker are))
-first_order dealer_before are = (refl, inr (role_is Dealer are))
+first_order dealer_before are = (refl, inr (role_is MakerWithSlot are))
 first_order (in_order xs ys order) are = absurd (cc are)
 
 not_new : IsNew Maker both_out → ⊥
 not_new (inl is) = let homes : both_out ≡ both_in = is.1 in cc homes
-not_new (inr is) = let role : Maker ≡ Dealer = is.0 in cc role
+not_new (inr is) = let role : Maker ≡ MakerWithSlot = is.0 in cc role
 
-not_dealt : IsNew Dealer both_out → ⊥
-not_dealt (inl is) = let role : Dealer ≡ Maker = is.0 in cc role
+not_dealt : IsNew MakerWithSlot both_out → ⊥
+not_dealt (inl is) = let role : MakerWithSlot ≡ Maker = is.0 in cc role
 not_dealt (inr is) = let homes : both_out ≡ one_out = is.1 in cc homes
 
 not_a_sender : IsNew Sender one_out → ⊥
 not_a_sender (inl is) = let role : Sender ≡ Maker = is.0 in cc role
-not_a_sender (inr is) = let role : Sender ≡ Dealer = is.0 in cc role
+not_a_sender (inr is) = let role : Sender ≡ MakerWithSlot = is.0 in cc role
 
-no_sender_alone : (Sender ≡ Maker) ⊎ (Sender ≡ Dealer) → ⊥
+no_sender_alone : (Sender ≡ Maker) ⊎ (Sender ≡ MakerWithSlot) → ⊥
 no_sender_alone (inl is) = cc is
 no_sender_alone (inr is) = cc is
 

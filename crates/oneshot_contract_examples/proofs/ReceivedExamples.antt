@@ -5,9 +5,9 @@ use Rattle.oneshot_word.proofs.Names.{lies_out, lies_bare, lies_filled, took_non
 use Rattle.oneshot_word.proofs.Names.{Swap, Exchange}
 use Rattle.oneshot_word.proofs.Names.{Word, Reaches, claimed_none, claimed_it}
 use Rattle.oneshot_word.proofs.Names.{RECEIVING, EMPTY, MESSAGE}
-use Rattle.oneshot_contract_examples.specs.StateExamples.{waits, polled}
 use Rattle.oneshot_word.proofs.RuleReceives.{was_given, lies_given, was_put, never_claimed, rests_put}
 use Rattle.oneshot_contract_examples.specs.ReceivedExamples.{MessagesThatPass, MessagesThatDoNot, WakersThatPass, WakersThatDoNot}
+use Rattle.oneshot_contract_examples.specs.ExampleLogs.{polled, waits}
 
 module _ {T P : Type 0} (H K : Type 0) (keeps : P → T → Type 0) where
   pub messages_that_pass : MessagesThatPass H K keeps

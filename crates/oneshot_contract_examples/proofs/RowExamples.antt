@@ -5,8 +5,8 @@ use Rattle.std.specs.List.{list_all}
 use Rattle.oneshot_machine.specs.declared.states.Op.{Op}
 use Rattle.oneshot_machine.specs.Noted.{is_same_op}
 use Rattle.oneshot_machine.specs.Phases.{Share, none, empty, filled, Row}
-use Rattle.oneshot_contract_examples.specs.RowExamples.{no_slot, room, has, SlotsThatAre, SlotsThatAreNot}
-use Rattle.oneshot_machine.specs.Slots.{Held, away, vacant, held, IsSlot, is_away, is_vacant, is_held, Turns, stays_away, stays_vacant, stays_held, gives_room, gives_thing, gets_room, gets_thing}
+use Rattle.oneshot_contract_examples.specs.RowExamples.{no_slot, no_content, has, SlotsThatAre, SlotsThatAreNot}
+use Rattle.oneshot_machine.specs.Slots.{Held, away, vacant, held, IsSlot, is_away, is_vacant, is_held, SlotChange, stays_away, stays_vacant, stays_held, gives_room, gives_thing, gets_room, gets_thing}
 use Rattle.oneshot_machine.specs.Slots.{head, tail, May, may, Finds, finds, IsOwned, not_its_own, own_vacant, own_held, Owns, owns}
 use Rattle.oneshot_machine.proofs.Sameness.{each_passes, same_op}
 
@@ -58,14 +58,14 @@ fits_so is_away = refl
 fits_so is_vacant = refl
 fits_so (is_held x) = refl
 
-turns_so : {s t : Share} {h k : Held ℕ} → Turns s t h k → turns s t h k ≡ true
-turns_so stays_away = refl
-turns_so stays_vacant = refl
-turns_so (stays_held x) = eq-eqb x x refl
-turns_so gives_room = refl
-turns_so (gives_thing x) = refl
-turns_so gets_room = refl
-turns_so (gets_thing x) = refl
+changes_so : {s t : Share} {h k : Held ℕ} → SlotChange s t h k → turns s t h k ≡ true
+changes_so stays_away = refl
+changes_so stays_vacant = refl
+changes_so (stays_held x) = eq-eqb x x refl
+changes_so gives_room = refl
+changes_so (gives_thing x) = refl
+changes_so gets_room = refl
+changes_so (gets_thing x) = refl
 
 -- a row that is for this operation with these slots, and one that finds this word
 module _ {At : Type 0} where
@@ -88,7 +88,7 @@ module _ {At : Type 0} where
       (finds {at = at} row message waker) =
       let this = each_passes (λ row. not (is_found op word m w m' w' row)) (rows at) without row in
       let no : false ≡ true =
-      rw (same_op op, eq-eqb word word refl, turns_so message, turns_so waker) at this in cc no
+      rw (same_op op, eq-eqb word word refl, changes_so message, changes_so waker) at this in cc no
 
 -- the end's own slot is not away, and any other is
 not_lost : {X : Type 0} {h : Held X} → IsOwned true h → h ≡ away → ⊥
@@ -131,7 +131,7 @@ slots_that_are_not =
       lost_its_slot = λ own. not_lost (parts own).0 refl;
       lost_its_waker = λ own. not_lost (parts own).1 refl;
       kept_its_message = λ own. let is : has 7 ≡ no_slot = not_kept (parts own).0 in cc is;
-      kept_its_room = λ own. let is : room ≡ no_slot = not_kept (parts own).0 in cc is;
+      kept_its_room = λ own. let is : no_content ≡ no_slot = not_kept (parts own).0 in cc is;
       kept_its_waker = λ own. let is : has 1 ≡ no_slot = not_kept (parts own).1 in cc is;
       of_no_sender = not_none;
       of_no_receiver = not_none;

@@ -10,9 +10,9 @@ use Rattle.oneshot_word.proofs.Names.{UNPARKING}
 use Rattle.oneshot_word.proofs.Names.{EMPTY, MESSAGE}
 use Rattle.oneshot_word.specs.declared.any_waker.AnyWaker.TheVariants as R
 use Rattle.oneshot_word.specs.declared.rule.Role.TheVariants.{Sender, Receiver}
-use Rattle.oneshot_contract_examples.specs.SeatExamples.{claims}
 use Rattle.oneshot_word.proofs.MessagePasses.{seat_keeps, holds_so}
 use Rattle.oneshot_word.proofs.WakerPasses.{claims_so}
+use Rattle.oneshot_contract_examples.specs.ExampleLogs.{claims}
 
 pub slots_as_seen : SlotsAsSeen
 slots_as_seen =

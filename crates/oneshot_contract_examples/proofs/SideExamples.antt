@@ -1,13 +1,13 @@
 -- The examples of sides: each by its row of the table, and what the counterexamples lack.
 use Rattle.std.proofs.Common.{◌≡◌, ℕ, List, [], Some, None, refl}
 use Rattle.oneshot_word.proofs.Names.{get_or, ap, TableId, Seen, Done, Word, Add, Noted, Held, held}
-use Rattle.oneshot_contract_examples.specs.RowExamples.{no_slot, room, has}
+use Rattle.oneshot_contract_examples.specs.RowExamples.{no_slot, no_content, has}
 use Rattle.oneshot_contract_examples.proofs.RowExamples.{slots_that_are, slots_that_are_not}
 use Rattle.oneshot_contract_examples.specs.SeatExamples.{sent_at_once}
 use Rattle.oneshot_contract_examples.specs.SideExamples.{SidesThatAre}
 use Rattle.oneshot_word.proofs.Names.{RECEIVING, EMPTY}
 use Rattle.oneshot_contract_examples.specs.SideExamples.{SidesThatAreNot}
-use Rattle.oneshot_contract_examples.specs.SeatExamples.{claims, looked}
+use Rattle.oneshot_contract_examples.specs.ExampleLogs.{claims, looked}
 
 -- a slot holds one thing
 same_waker : {j k : ℕ} → ◌≡◌ {A = Held ℕ} (held j) (held k) → Some j ≡ Some k
@@ -108,13 +108,13 @@ sides_that_are_not =
       receiver_about_another = λ ends. let is : 8 ≡ 7 = ends.receiver_about in cc is;
       of_two_tables = λ ends. let is : 5 ≡ 6 = ap block ends.table in cc is;
       sender_has_operated = λ ends. let is : claims ≡ [] = ends.sender_log in cc is;
-      sender_has_a_message = λ ends. let is : has 7 ≡ room = ends.sender_slots.0 in cc is;
-      sender_has_the_waker = λ ends. let is : room ≡ no_slot = ends.sender_slots.1 in cc is;
+      sender_has_a_message = λ ends. let is : has 7 ≡ no_content = ends.sender_slots.0 in cc is;
+      sender_has_the_waker = λ ends. let is : no_content ≡ no_slot = ends.sender_slots.1 in cc is;
       sender_has_given = λ ends. let is : Some 7 ≡ None = ends.sender_passed in cc is;
       sender_has_woken = λ ends. let is : Some 1 ≡ None = ends.sender_handed in cc is;
       receiver_has_operated = λ ends. let is : looked ≡ [] = ends.receiver_log in cc is;
-      receiver_has_the_message = λ ends. let is : room ≡ no_slot = ends.receiver_slots.0 in cc is;
-      receiver_has_the_waker = λ ends. let is : room ≡ no_slot = ends.receiver_slots.1 in cc is;
+      receiver_has_the_message = λ ends. let is : no_content ≡ no_slot = ends.receiver_slots.0 in cc is;
+      receiver_has_the_waker = λ ends. let is : no_content ≡ no_slot = ends.receiver_slots.1 in cc is;
       receiver_has_given = λ ends. let is : Some 1 ≡ None = ends.receiver_handed in cc is;
       receiver_has_taken = λ ends. let is : Some 7 ≡ None = ends.receiver_passed in cc is;
       sends_nothing = slots_that_are_not.sends_nothing;

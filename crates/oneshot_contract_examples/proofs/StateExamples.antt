@@ -2,16 +2,16 @@
 use Rattle.std.proofs.Common.{[], ◌∷◌, refl}
 use Rattle.oneshot_word.proofs.Names.{◌≢◌, Word, Add, sending, dropping}
 use Rattle.oneshot_word.specs.declared.any_waker.AnyWaker.{AnyWaker}
-use Rattle.oneshot_contract_examples.specs.StateExamples.{stopped_over, polled, polled_over, exchanged_back, left_meanwhile, sent_over, dropped_over, StatesThatAre}
+use Rattle.oneshot_contract_examples.specs.StateExamples.{stopped_over, polled_over, exchanged_back, left_meanwhile, dropped_over, StatesThatAre}
 use Rattle.oneshot_word.proofs.Names.{Home, out, bare, has_waker, IsSenders, IsReceivers, IsWords, Owned, both_open, waker_stored, waker_claimed, claimed_overdue, claimed_gone}
 use Rattle.oneshot_contract_examples.specs.StateExamples.{StatesThatAreNot}
 use Rattle.oneshot_word.proofs.Names.{receiver_gone, sender_after, written, sender_has_it, left_for_sender, left_for_receiver, receiver_has_it, receiver_found_it, waits_for_receiver}
 use Rattle.oneshot_word.proofs.Names.{waker_at_home}
 use Rattle.oneshot_word.proofs.Names.{EMPTY, RECEIVING, UNPARKING, DISCONNECTED, MESSAGE}
 use Rattle.oneshot_word.specs.declared.any_waker.AnyWaker.TheVariants as R
-use Rattle.oneshot_contract_examples.specs.StateExamples.{waits, claims}
 use Rattle.oneshot_word.specs.EndLogs.{send_found, sent as sent_alone, sent_to_it, sent_to_overdue, dropped_before_overdue, sent_overtaken, dropped_overtaken}
 use Rattle.oneshot_word.specs.ReadRule.{sent, dropped}
+use Rattle.oneshot_contract_examples.specs.ExampleLogs.{claims, polled, sent_over, waits}
 
 module _ {T H K : Type 0} where
   pub states_that_are : StatesThatAre T H K

@@ -9,13 +9,13 @@ use Rattle.oneshot_ends.specs.declared.token.Half.{Half}
 use Rattle.oneshot_ends.specs.declared.token.Half.TheVariants.{Both}
 use Rattle.oneshot_ends.specs.Tokens.{undivided, divides, gives, takes, Life, and_then, made, was_divided, was_given}
 use Rattle.oneshot_ends.specs.Woken.{IsWoken}
-use Rattle.oneshot_contract_examples.specs.TokenExamples.{any_wakes, none_wakes, up_to_its_wake, StatesThatAreNot, LivesThatAre, LivesThatAreNot, StepsThatWake, StepsThatDoNot}
+use Rattle.oneshot_contract_examples.specs.TokenExamples.{any_wakes, none_wakes, up_to_its_wake, TokensThatAreNot, LivesThatAre, LivesThatAreNot, StepsThatWake, StepsThatDoNot}
 use Rattle.oneshot_contract_examples.specs.TokenExamples.{WakersThatWoke, WakersThatDidNot}
 use Rattle.oneshot_ends.proofs.TokenLives.{halves_gave, halves_took}
 use Rattle.oneshot_ends.proofs.Tokens.{Has, has, undivided_has}
 
-pub states_that_are_not : StatesThatAreNot
-states_that_are_not =
+pub tokens_that_are_not : TokensThatAreNot
+tokens_that_are_not =
     record { taken_not_given = λ is. elim is [ ]; lost = λ is. elim is [ ]; there_again = λ is. elim is [ ] }
 
 pub lives_that_are : LivesThatAre

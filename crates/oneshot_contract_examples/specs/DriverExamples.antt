@@ -11,8 +11,8 @@ use Rattle.oneshot_machine.specs.declared.states.Op.TheVariants.{Load, Swap, Exc
 use Rattle.oneshot_machine.specs.declared.states.TheConstants.{RECEIVING, UNPARKING, DISCONNECTED, EMPTY, MESSAGE}
 use Rattle.oneshot_contract_examples.specs.RunExamples.{waking}
 use Rattle.oneshot_machine.specs.Logs.{Event, Log, did, handed, copied, worded}
-use Rattle.oneshot_machine.specs.Phases.{By, sending, dropping, finished, overtaken, Closing, closed_itself, found_closed, Got, Open, looked, between, Swapping, polled, again}
-use Rattle.oneshot_machine.specs.Phases.{blocked, Waiting, first, here, waits, claimed, withdrew, overdue, full, unclosed, disconnected, resolved, gone, ended}
+use Rattle.oneshot_machine.specs.Phases.{By, sending, dropping, finished, overtaken, Closing, closed_itself, found_closed, Got, Open, after_load, after_timeout, Swapping, polled, again}
+use Rattle.oneshot_machine.specs.Phases.{blocked, Waiting, first, idle, waits, claimed, withdrew, overdue, full, unclosed, disconnected, resolved, gone, ended}
 use Rattle.oneshot_machine.specs.Slots.{Held, away, vacant, held}
 use Rattle.oneshot_drive.specs.BetweenCalls.{IsFresh, IsError, LastLeaves, Rests, AtRest, IsClosedAt, IsOpenAt, Leaves, LeavesClosed, LeavesTimed, IsReady}
 use Rattle.oneshot_drive.specs.BetweenCalls.{Hands, send_reply, try_recv_reply, recv_reply, timed_reply, received}
@@ -22,21 +22,21 @@ use Rattle.oneshot_drive.specs.Polls.{Polled, IsPolled, LeavesPolled, LeavesTask
 use Rattle.oneshot_drive.specs.Wakes.{Wakes, SenderWoke}
 
 -- a message
-abbrev pub sent : ℕ
-sent = 7
+abbrev pub message : ℕ
+message = 7
 
 -- OPEN AND CLOSED
-pub record EndsThatAre : Type 0 where
+pub record PhasesThatAre : Type 0 where
   pub new_is_open : IsOpenAt first
-  pub looked_is_open : (o : Open) → IsOpenAt (here o)
+  pub looked_is_open : (o : Open) → IsOpenAt (idle o)
   pub registered_is_open : (w : Waiting) → IsOpenAt (waits w)
   pub claimed_is_open : IsOpenAt claimed
   pub disconnected_is_closed : (c : Closing) → IsClosedAt (disconnected c)
   pub resolved_is_closed : (c : Closing) → IsClosedAt (resolved c)
   -- between two calls: of a receiver, and of a future
   pub new_rests : Rests first
-  pub looked_rests : Rests (here looked)
-  pub ran_out_rests : Rests (here between)
+  pub looked_rests : Rests (idle after_load)
+  pub ran_out_rests : Rests (idle after_timeout)
   pub received_rests : Rests (disconnected closed_itself)
   pub new_is_polled : Polled first
   pub registered_is_polled : Polled (waits polled)
@@ -47,14 +47,14 @@ pub record EndsThatAre : Type 0 where
   pub last_finished_it : (by : By) → LastLeaves by true (finished by)
   pub last_came_too_late : (by : By) → LastLeaves by false (overtaken by)
 
-pub record EndsThatAreNot : Type 0 where
+pub record PhasesThatAreNot : Type 0 where
   pub disconnected_is_open : (c : Closing) → IsOpenAt (disconnected c) → ⊥
   pub resolved_is_open : (c : Closing) → IsOpenAt (resolved c) → ⊥
   pub full_is_open : (g : Got) → IsOpenAt (full g) → ⊥
   pub gone_is_open : IsOpenAt gone → ⊥
   pub ended_is_open : IsOpenAt ended → ⊥
   pub new_is_closed : IsClosedAt first → ⊥
-  pub looked_is_closed : (o : Open) → IsClosedAt (here o) → ⊥
+  pub looked_is_closed : (o : Open) → IsClosedAt (idle o) → ⊥
   pub registered_is_closed : (w : Waiting) → IsClosedAt (waits w) → ⊥
   pub claimed_is_closed : IsClosedAt claimed → ⊥
   pub full_is_closed : (g : Got) → IsClosedAt (full g) → ⊥
@@ -72,89 +72,89 @@ pub record EndsThatAreNot : Type 0 where
 
 -- WHAT A CALL LEAVES
 pub record CallsThatLeave : Type 0 where
-  pub takes : Leaves (Ok sent) (disconnected closed_itself)
-  pub finds_nothing : Leaves {T = ℕ} (Err E.Empty) (here looked)
+  pub takes : Leaves (Ok message) (disconnected closed_itself)
+  pub finds_nothing : Leaves {T = ℕ} (Err E.Empty) (idle after_load)
   pub finds_no_sender : (c : Closing) → Leaves {T = ℕ} (Err E.Disconnected) (disconnected c)
-  pub blocks_for_it : LeavesClosed (Ok sent) (disconnected closed_itself)
+  pub blocks_for_it : LeavesClosed (Ok message) (disconnected closed_itself)
   pub blocks_in_vain : (e : RecvError) (c : Closing) → LeavesClosed {T = ℕ} (Err e) (disconnected c)
-  pub comes_in_time : LeavesTimed (Ok sent) (disconnected closed_itself)
-  pub runs_out : LeavesTimed {T = ℕ} (Err Timed.Timeout) (here between)
+  pub comes_in_time : LeavesTimed (Ok message) (disconnected closed_itself)
+  pub runs_out : LeavesTimed {T = ℕ} (Err Timed.Timeout) (idle after_timeout)
   pub ends_in_time : (c : Closing) → LeavesTimed {T = ℕ} (Err Timed.Disconnected) (disconnected c)
-  pub polls_it : LeavesPolled (Ready (Ok sent)) (resolved closed_itself)
+  pub polls_it : LeavesPolled (Ready (Ok message)) (resolved closed_itself)
   pub polls_over_nobody : (e : RecvError) → LeavesPolled {T = ℕ} (Ready (Err e)) (resolved found_closed)
   pub polls_too_early : LeavesPolled {T = ℕ} Pending (waits polled)
-  pub tries_it : LeavesTried (Ok sent) (resolved closed_itself)
+  pub tries_it : LeavesTried (Ok message) (resolved closed_itself)
   pub tries_too_early : LeavesTried {T = ℕ} (Err E.Empty) (waits again)
   pub leaves_its_copy : LeavesTask (waits polled) ⊤ ⊥
   pub woke_its_task : LeavesTask claimed ⊥ ⊤
   pub stays_registered : StaysRegistered {T = ℕ} (Err E.Empty) (waits polled) (waits again)
   pub finds_its_sender : StaysRegistered {T = ℕ} (Err E.Empty) (waits again) claimed
-  pub stays_unregistered : StaysRegistered {T = ℕ} (Err E.Empty) first (here looked)
+  pub stays_unregistered : StaysRegistered {T = ℕ} (Err E.Empty) first (idle after_load)
 
 pub record CallsThatDoNot : Type 0 where
-  pub takes_and_is_open : Leaves (Ok sent) (here looked) → ⊥
-  pub takes_what_another_closed : Leaves (Ok sent) (disconnected found_closed) → ⊥
+  pub takes_and_is_open : Leaves (Ok message) (idle after_load) → ⊥
+  pub takes_what_another_closed : Leaves (Ok message) (disconnected found_closed) → ⊥
   pub finds_nothing_and_closes : (c : Closing) → Leaves {T = ℕ} (Err E.Empty) (disconnected c) → ⊥
-  pub finds_no_sender_and_is_open : (o : Open) → Leaves {T = ℕ} (Err E.Disconnected) (here o) → ⊥
-  pub blocks_and_is_open : (o : Open) → LeavesClosed (Ok sent) (here o) → ⊥
-  pub fails_and_is_open : (e : RecvError) (o : Open) → LeavesClosed {T = ℕ} (Err e) (here o) → ⊥
+  pub finds_no_sender_and_is_open : (o : Open) → Leaves {T = ℕ} (Err E.Disconnected) (idle o) → ⊥
+  pub blocks_and_is_open : (o : Open) → LeavesClosed (Ok message) (idle o) → ⊥
+  pub fails_and_is_open : (e : RecvError) (o : Open) → LeavesClosed {T = ℕ} (Err e) (idle o) → ⊥
   pub runs_out_and_closes : (c : Closing) → LeavesTimed {T = ℕ} (Err Timed.Timeout) (disconnected c) → ⊥
   pub runs_out_while_it_waits : (w : Waiting) → LeavesTimed {T = ℕ} (Err Timed.Timeout) (waits w) → ⊥
-  pub comes_in_time_and_is_open : (o : Open) → LeavesTimed (Ok sent) (here o) → ⊥
-  pub ends_in_time_and_is_open : (o : Open) → LeavesTimed {T = ℕ} (Err Timed.Disconnected) (here o) → ⊥
-  pub polls_it_and_waits : (w : Waiting) → LeavesPolled (Ready (Ok sent)) (waits w) → ⊥
+  pub comes_in_time_and_is_open : (o : Open) → LeavesTimed (Ok message) (idle o) → ⊥
+  pub ends_in_time_and_is_open : (o : Open) → LeavesTimed {T = ℕ} (Err Timed.Disconnected) (idle o) → ⊥
+  pub polls_it_and_waits : (w : Waiting) → LeavesPolled (Ready (Ok message)) (waits w) → ⊥
   pub polls_over_nobody_and_waits : (e : RecvError) (w : Waiting) → LeavesPolled {T = ℕ} (Ready (Err e)) (waits w) → ⊥
   pub pends_and_never_loaded : LeavesPolled {T = ℕ} Pending first → ⊥
   pub pends_and_is_closed : (c : Closing) → LeavesPolled {T = ℕ} Pending (resolved c) → ⊥
   pub pends_with_the_message : (g : Got) → LeavesPolled {T = ℕ} Pending (full g) → ⊥
-  pub tries_it_and_waits : (w : Waiting) → LeavesTried (Ok sent) (waits w) → ⊥
+  pub tries_it_and_waits : (w : Waiting) → LeavesTried (Ok message) (waits w) → ⊥
   pub finds_nothing_and_resolves : (c : Closing) → LeavesTried {T = ℕ} (Err E.Empty) (resolved c) → ⊥
   pub tries_and_has_polled : LeavesTried {T = ℕ} (Err E.Empty) (waits polled) → ⊥
-  pub leaves_no_copy : LeavesTask (here looked) ⊤ ⊥ → ⊥
+  pub leaves_no_copy : LeavesTask (idle after_load) ⊤ ⊥ → ⊥
   pub leaves_an_older_copy : LeavesTask (waits again) ⊤ ⊥ → ⊥
   pub leaves_anothers_copy : LeavesTask (waits polled) ⊥ ⊥ → ⊥
-  pub takes_its_copy_back : StaysRegistered {T = ℕ} (Err E.Empty) (waits polled) (here looked) → ⊥
-  pub registers_unasked : StaysRegistered {T = ℕ} (Err E.Empty) (here looked) (waits polled) → ⊥
+  pub takes_its_copy_back : StaysRegistered {T = ℕ} (Err E.Empty) (waits polled) (idle after_load) → ⊥
+  pub registers_unasked : StaysRegistered {T = ℕ} (Err E.Empty) (idle after_load) (waits polled) → ⊥
 
 -- THE REPLIES
 pub record RepliesThatAre : Type 0 where
   pub was_sent : send_reply true ≡ R.Sent
   pub was_refused : send_reply false ≡ R.Refused
-  pub tried : try_recv_reply (Ok sent) ≡ R.Message
+  pub tried : try_recv_reply (Ok message) ≡ R.Message
   pub tried_in_vain : try_recv_reply {T = ℕ} (Err E.Empty) ≡ R.Empty
   pub tried_over_nobody : try_recv_reply {T = ℕ} (Err E.Disconnected) ≡ R.Disconnected
-  pub blocked_for : recv_reply (Ok sent) ≡ R.Message
+  pub blocked_for : recv_reply (Ok message) ≡ R.Message
   pub blocked_in_vain : (e : RecvError) → recv_reply {T = ℕ} (Err e) ≡ R.Disconnected
-  pub in_time : timed_reply (Ok sent) ≡ R.Message
+  pub in_time : timed_reply (Ok message) ≡ R.Message
   pub too_late : timed_reply {T = ℕ} (Err Timed.Timeout) ≡ R.Timeout
   pub over_nobody : timed_reply {T = ℕ} (Err Timed.Disconnected) ≡ R.Disconnected
-  pub ready : poll_reply (Ready (Ok sent)) ≡ R.Message
+  pub ready : poll_reply (Ready (Ok message)) ≡ R.Message
   pub ready_in_vain : (e : RecvError) → poll_reply {T = ℕ} (Ready (Err e)) ≡ R.Disconnected
   pub pending : poll_reply {T = ℕ} Pending ≡ R.Pending
-  pub gives_it : received {E = RecvError} (Ok sent) ≡ sent ∷ []
+  pub gives_it : received {E = RecvError} (Ok message) ≡ message ∷ []
   pub gives_none : (e : RecvError) → received {T = ℕ} (Err e) ≡ []
-  pub polls_it : poll_received (Ready (Ok sent)) ≡ sent ∷ []
+  pub polls_it : poll_received (Ready (Ok message)) ≡ message ∷ []
   pub polls_none : poll_received {T = ℕ} Pending ≡ []
   pub is_over : (e : RecvError) → IsDisconnected {T = ℕ} (Ready (Err e))
   pub is_not_over : IsDisconnected {T = ℕ} Pending → ⊥
-  pub has_it : IsDisconnected (Ready (Ok sent)) → ⊥
+  pub has_it : IsDisconnected (Ready (Ok message)) → ⊥
 
 -- THE HAND
 pub record HandsThatAre : Type 0 where
-  pub ready : IsReady (Some true) (here looked)
+  pub ready : IsReady (Some true) (idle after_load)
   pub closed_without : (c : Closing) → IsReady {W = Bool} None (disconnected c)
-  pub untouched : Hands (Some true) (Some true) (here looked)
+  pub untouched : Hands (Some true) (Some true) (idle after_load)
   pub taken : (c : Closing) → Hands (Some true) None (disconnected c)
-  pub another_came_back : Hands (Some true) (Some false) (here between)
+  pub another_came_back : Hands (Some true) (Some false) (idle after_timeout)
   pub returned : Returns (Some true) (Some true)
   pub kept_by_the_sender : Returns (Some true) None
 
 pub record HandsThatAreNot : Type 0 where
-  pub open_without : (o : Open) → IsReady {W = Bool} None (here o) → ⊥
-  pub taken_while_open : (o : Open) → Hands (Some true) None (here o) → ⊥
+  pub open_without : (o : Open) → IsReady {W = Bool} None (idle o) → ⊥
+  pub taken_while_open : (o : Open) → Hands (Some true) None (idle o) → ⊥
   pub taken_by_a_future : (c : Closing) → Hands (Some true) None (resolved c) → ⊥
   pub another_while_closed : (c : Closing) → Hands (Some true) (Some false) (disconnected c) → ⊥
-  pub found_one : (o : Open) → Hands None (Some true) (here o) → ⊥
+  pub found_one : (o : Open) → Hands None (Some true) (idle o) → ⊥
   pub returned_another : Returns (Some true) (Some false) → ⊥
 
 -- GROUNDS, whole ones: their steps, the message's slot and the waker's
@@ -197,7 +197,7 @@ pub record GroundsThatAreNot : Type 0 where
   pub waits_without_a_waker : ReceiverAsks (Swap RECEIVING) (ground (worded Load EMPTY ∷ []) away vacant) → ⊥
   pub finds_none_in_4 :
       ReceiverMakes Load MESSAGE (ground [] away away) (ground (worded Load MESSAGE ∷ []) vacant vacant) → ⊥
-  pub parks_open : (o : Open) → Parks false (here o) → ⊥
+  pub parks_open : (o : Open) → Parks false (idle o) → ⊥
   pub parks_until_what_is_over : Parks true overdue → ⊥
 
 -- the log of a real end, which has operations alone, and that of a real `send` that found its receiver waiting

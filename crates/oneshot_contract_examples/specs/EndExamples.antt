@@ -18,62 +18,61 @@ use Rattle.oneshot_machine.specs.declared.states.TheConstants.{RECEIVING, DISCON
 use Rattle.oneshot_machine.specs.Called.{as_receiver, as_future}
 use Rattle.oneshot_machine.specs.Logs.{worded}
 use Rattle.oneshot_machine.specs.Noted.{Noted}
-use Rattle.oneshot_machine.specs.Phases.{first, here, looked, disconnected, found_closed, gone}
+use Rattle.oneshot_machine.specs.Phases.{first, idle, after_load, disconnected, found_closed, gone}
 use Rattle.oneshot_machine.specs.Slots.{away, vacant, held}
 use Rattle.oneshot_word.specs.Side.{Side}
 use Rattle.oneshot_ends.specs.declared.copies.Copies.{Copies}
 use Rattle.oneshot_ends.specs.declared.copies.TaskCopy.{TaskCopy}
 use Rattle.oneshot_ends.specs.Copies.{HasMade, HasNoneOf, PollHas}
 use Rattle.oneshot_ends.specs.OwnWakers.{RealWaker}
-use Rattle.oneshot_ends.specs.Ends.{Channel, EndOf, FutureEndOf, channel_at, Failed, SenderGrew, ReceiverGrew, TimeoutRan, TimeoutGrew, HasCalls, SenderIsOrdered, ReceiverIsOrdered, WasRefused}
+use Rattle.oneshot_ends.specs.Ends.{Channel, ReceiverView, FutureView, channel_at, RefusedView, SenderGrew, ReceiverGrew, TimeoutRan, TimeoutGrew, HasCalls, SenderIsOrdered}
+use Rattle.oneshot_ends.specs.Ends.{ReceiverIsOrdered, WasRefused}
 use Rattle.oneshot_ends.specs.Ends.{IsClosed, IsOpen, IsDone, IsUnfinished}
 use Rattle.oneshot_ends.specs.Grounds.{channel_of, slot_of, state_of, lent, left_of, MayBeFreed, IsNewSender, IsNewReceiver}
 use Rattle.oneshot_ends.specs.Polling.{token_of, polled_state}
+use Rattle.oneshot_contract_examples.specs.ExampleLogs.{polled}
 
 -- LOGS: of a receive whose deadline was over, of one that took the message, and of a poll that stored its copy
 abbrev pub ran_out : List Noted
 ran_out = (Load, Word EMPTY) ∷ (Swap RECEIVING, Word EMPTY) ∷ (Swap EMPTY, Word RECEIVING) ∷ []
 
-abbrev pub received : List Noted
-received = (Load, Word MESSAGE) ∷ (Store DISCONNECTED, Done) ∷ []
-
-abbrev pub polled : List Noted
-polled = (Load, Word EMPTY) ∷ (Exchange EMPTY RECEIVING, Word EMPTY) ∷ []
+abbrev pub received_and_closed : List Noted
+received_and_closed = (Load, Word MESSAGE) ∷ (Store DISCONNECTED, Done) ∷ []
 
 -- OPEN AND CLOSED
 module _ (table : TableId) where
   abbrev pub channel : Channel ℕ
   channel = record { table = table; about = 5 }
 
-  abbrev pub end_with : List Noted → EndOf ℕ ℕ
+  abbrev pub end_with : List Noted → ReceiverView ℕ ℕ
   end_with log = record { channel = channel; log = log; about = 5; took = None }
 
-  abbrev pub error_with : List Noted → Failed ℕ ℕ
+  abbrev pub error_with : List Noted → RefusedView ℕ ℕ
   error_with log = record { message = 7; channel = channel; log = log }
 
-  abbrev pub future_with : List Noted → FutureEndOf ℕ ℕ
+  abbrev pub future_with : List Noted → FutureView ℕ ℕ
   future_with log = record { channel = channel; log = log; source = 1; about = 5; took = None; registered = None }
 
   pub record EndsThatAre : Type 0 where
     pub new_is_open : IsOpen (end_with [])
     pub looked_is_open : IsOpen (end_with ((Load, Word EMPTY) ∷ []))
     pub ran_out_is_open : IsOpen (end_with ran_out)
-    pub received_is_closed : IsClosed (end_with received)
+    pub received_is_closed : IsClosed (end_with received_and_closed)
     pub found_closed_is_closed : IsClosed (end_with ((Load, Word DISCONNECTED) ∷ []))
     pub new_is_unfinished : IsUnfinished (future_with [])
     pub polled_is_unfinished : IsUnfinished (future_with polled)
-    pub received_is_done : IsDone (future_with (polled ++ received))
+    pub received_is_done : IsDone (future_with (polled ++ received_and_closed))
     pub sender_is_gone : IsDone (future_with (polled ++ (Load, Word DISCONNECTED) ∷ []))
     pub error_was_refused : WasRefused ℕ (error_with ((Add, Word DISCONNECTED) ∷ [])).log
 
   pub record EndsThatAreNot : Type 0 where
     pub new_is_closed : IsClosed (end_with []) → ⊥
     pub ran_out_is_closed : IsClosed (end_with ran_out) → ⊥
-    pub received_is_open : IsOpen (end_with received) → ⊥
+    pub received_is_open : IsOpen (end_with received_and_closed) → ⊥
     pub found_closed_is_open : IsOpen (end_with ((Load, Word DISCONNECTED) ∷ [])) → ⊥
     pub takes_and_is_open : IsOpen (end_with ((Load, Word MESSAGE) ∷ [])) → ⊥
     pub polled_is_done : IsDone (future_with polled) → ⊥
-    pub received_is_unfinished : IsUnfinished (future_with (polled ++ received)) → ⊥
+    pub received_is_unfinished : IsUnfinished (future_with (polled ++ received_and_closed)) → ⊥
     pub sender_is_gone_and_it_waits : IsUnfinished (future_with (polled ++ (Load, Word DISCONNECTED) ∷ [])) → ⊥
 
 -- THE LOG OF A CALL
@@ -83,7 +82,7 @@ module _ (T : Type 0) where
     pub is_refused : SenderGrew T Send [] ((Add, Word DISCONNECTED) ∷ []) Refused
     pub was_refused : WasRefused T ((Add, Word DISCONNECTED) ∷ [])
     pub tries : ReceiverGrew T TryRecv ((Load, Word EMPTY) ∷ []) ((Load, Word EMPTY) ∷ (Load, Word EMPTY) ∷ []) Empty
-    pub takes : ReceiverGrew T TryRecv [] received Message
+    pub takes : ReceiverGrew T TryRecv [] received_and_closed Message
     pub has_tried : HasCalls T as_receiver ((Load, Word EMPTY) ∷ [])
     pub has_not_polled : HasCalls T as_future []
     -- a timeout whose clock failed, and one whose end an instant can hold
@@ -91,7 +90,7 @@ module _ (T : Type 0) where
     pub runs_out : (timeout : Duration) (now : Instant) → FitsClock (instant_nanos now)
         → FitsClock (instant_nanos now + as_nanos timeout) → TimeoutRan T timeout (Some now) [] ran_out Timeout
 
-  pub record CallsThatDoNot : Type 0 where
+  pub record CallsThatDoNotGrow : Type 0 where
     pub says_that_it_sent : SenderGrew T Send [] ((Add, Word DISCONNECTED) ∷ []) Sent → ⊥
     pub says_that_it_was_refused : SenderGrew T Send [] ((Add, Word EMPTY) ∷ []) Refused → ⊥
     pub was_not_refused : WasRefused T ((Add, Word EMPTY) ∷ []) → ⊥
@@ -104,11 +103,11 @@ module _ (T : Type 0) where
         → (FitsClock (instant_nanos now + as_nanos timeout) → ⊥) → TimeoutRan T timeout (Some now) [] log Timeout → ⊥
 
 -- LOGS THAT HAVE AN ORDER with some log of the other end
-pub record OrdersThatAre : Type 0 where
+pub record OrderedLogs : Type 0 where
   pub sent : SenderIsOrdered ((Add, Word EMPTY) ∷ [])
   pub looked : ReceiverIsOrdered ((Load, Word EMPTY) ∷ [])
 
-pub record OrdersThatAreNot : Type 0 where
+pub record UnorderedLogs : Type 0 where
   pub sent_over_a_message : SenderIsOrdered ((Add, Word MESSAGE) ∷ []) → ⊥
   pub found_a_waker_first : ReceiverIsOrdered ((Load, Word RECEIVING) ∷ []) → ⊥
 
@@ -147,7 +146,7 @@ module _ (table : TableId) where
   side_with log =
       record { table = table; log = log; message = held 7; waker = held 1; passed = None; handed = None; about = 5 }
 
-  pub record GroundsThatAre : Type 0 where
+  pub record RealGroundsThatAre : Type 0 where
     pub keeps_its_slots : left_of false (side_with []) ≡ side_with []
     pub freed_the_message : (left_of true (side_with [])).message ≡ away
     pub freed_the_waker : (left_of true (side_with [])).waker ≡ away
@@ -159,7 +158,8 @@ module _ (table : TableId) where
     pub no_copy : token_of {W = ℕ} vacant ≡ vacant
     -- its state: the operations of its log alone, with the names of its table and of what was lent
     pub shows_operations :
-        (state_of (side_with received)).log.list ≡ worded Load MESSAGE ∷ worded (Store DISCONNECTED) MESSAGE ∷ []
+        (state_of (side_with received_and_closed)).log.list ≡ worded Load MESSAGE
+            ∷ worded (Store DISCONNECTED) MESSAGE ∷ []
     pub is_not_whole : (state_of (side_with [])).log.whole ≡ false
     pub names_its_table : (state_of (side_with [])).log.channel ≡ channel_of table
     pub names_what_was_lent : (lent (9 ∷ []) (side_with [])).log.channel ≡ 9 ∷ channel_of table
@@ -168,8 +168,8 @@ module _ (table : TableId) where
     pub frees_when_closed : MayBeFreed true (disconnected found_closed)
     pub frees_nothing : MayBeFreed false first
 
-  pub record GroundsThatAreNot : Type 0 where
-    pub frees_while_open : MayBeFreed true (here looked) → ⊥
+  pub record RealGroundsThatAreNot : Type 0 where
+    pub frees_while_open : MayBeFreed true (idle after_load) → ⊥
     pub frees_once_gone : MayBeFreed true gone → ⊥
     pub new_with_a_message : IsNewSender (side_with []) → ⊥
     pub new_with_its_waker : IsNewReceiver (side_with []) → ⊥

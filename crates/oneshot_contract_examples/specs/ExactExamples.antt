@@ -5,7 +5,7 @@ use Rattle.oneshot_machine.specs.declared.machine.sender.SenderPos.TheVariants.{
 use Rattle.oneshot_machine.specs.declared.states.Op.TheVariants.{Load, Swap, Add}
 use Rattle.oneshot_machine.specs.declared.states.TheConstants.{RECEIVING, UNPARKING, EMPTY, MESSAGE}
 use Rattle.oneshot_machine.specs.Exact.{IsFound, IsAllowed, Accepts, IsExact}
-use Rattle.oneshot_machine.specs.Phases.{sending, fresh, owes, first, here, looked, sender_at, receiver_at}
+use Rattle.oneshot_machine.specs.Phases.{sending, fresh, owes, first, idle, after_load, sender_at, receiver_at}
 use Rattle.oneshot_machine.specs.Slots.{SenderMay, SenderFinds, ReceiverMay, ReceiverFinds}
 use Rattle.oneshot_machine.specs.Standing.{sender_table}
 
@@ -16,7 +16,7 @@ pub record TablesAllow : Type 0 where
       IsFound sender_at (SenderFinds {T = ℕ} {W = ℕ}) ((Add, Word RECEIVING) ∷ (Swap MESSAGE, Word UNPARKING) ∷ [])
   pub looks : IsFound receiver_at (ReceiverFinds {T = ℕ} {W = ℕ}) ((Load, Word EMPTY) ∷ [])
   pub may_add : IsAllowed (SenderMay {T = ℕ} {W = ℕ}) fresh Add
-  pub may_store : IsAllowed (ReceiverMay {T = ℕ} {W = ℕ}) (here looked) (Swap RECEIVING)
+  pub may_store : IsAllowed (ReceiverMay {T = ℕ} {W = ℕ}) (idle after_load) (Swap RECEIVING)
   pub adds_over_0 : Accepts sender_table Add RECEIVING SendAdd
   -- a position at which the end performs another operation
   pub adds_elsewhere : Accepts sender_table Add MESSAGE SendFinal

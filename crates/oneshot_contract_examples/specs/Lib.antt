@@ -1,5 +1,15 @@
--- Examples of the tables, their logs and runs; from `StateExamples` on of the word and its table; of the drivers; and
--- from `EndExamples` on of the ends.
+-- Worked examples of the definitions by which the contracts of the channel are stated, and counterexamples of each.
+-- A definition that accepts too much could let every proof above it pass. A counterexample here then fails.
+-- `RunExamples` and `StateExamples` hold the idea. `RunExamples` writes down logs and runs of an end, and some that no
+-- end has. `StateExamples` writes down states of the shared table, and some that have no row.
+-- The files stand in the order of the crates whose definitions they read:
+-- `oneshot_machine`: `ExactExamples`, `RunExamples`, `FutureExamples`, `CountExamples`, `LogExamples`, `RowExamples`,
+-- `OverExamples` and `OrderExamples`.
+-- `oneshot_word`: `StateExamples`, `ReadExamples`, `SeatExamples`, `SideExamples` and `ReceivedExamples`.
+-- `oneshot_drive`: `DriverExamples`. `oneshot_ends`: `EndExamples`, `OwnExamples`, `TakenExamples` and `TokenExamples`.
+-- docs/COVERAGE.md lists the definitions that no example reaches, and why.
+-- `ExampleLogs` has the logs that several of them are about.
+pub mod ExampleLogs
 pub mod ExactExamples
 pub mod RunExamples
 pub mod FutureExamples

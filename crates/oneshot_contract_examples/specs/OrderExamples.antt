@@ -5,15 +5,10 @@ use Rattle.oneshot_machine.specs.declared.states.Op.TheVariants.{Load, Store, Sw
 use Rattle.oneshot_machine.specs.declared.states.TheConstants.{RECEIVING, UNPARKING, DISCONNECTED, EMPTY, MESSAGE}
 use Rattle.oneshot_machine.specs.Noted.{Noted}
 use Rattle.oneshot_machine.specs.Orders.{InOrder, Reaches}
+use Rattle.oneshot_contract_examples.specs.ExampleLogs.{sent_over, waits}
 
 -- a receiver that waits in a call that blocks
-abbrev pub waits : List Noted
-waits = (Load, Word EMPTY) ∷ (Swap RECEIVING, Word EMPTY) ∷ []
-
 -- a sender that found it waiting, and whose final swap found this word
-abbrev pub sent_over : ℕ → List Noted
-sent_over word = (Add, Word RECEIVING) ∷ (Swap MESSAGE, Word word) ∷ []
-
 -- the sender's log, the receiver's, and the word, in an order by both phases' tables
 pub record OrdersThatAre : Type 0 where
   pub new : Reaches [] [] EMPTY

@@ -1,13 +1,13 @@
 -- Examples and counterexamples of ends that are over, at each phase.
 use Rattle.oneshot_machine.specs.Over.{IsLate, SenderIsOver, FoundTheEnd, HasLeft, ReceiverIsOver}
-use Rattle.oneshot_machine.specs.Phases.{By, sending, dropping, fresh, owes, finished, late, overtaken, no_sender, Open, Waiting, Swapping, Got, Closing, first, here, waits, claimed, withdrew}
+use Rattle.oneshot_machine.specs.Phases.{By, sending, dropping, fresh, owes, finished, found_gone, overtaken, no_sender, Open, Waiting, Swapping, Got, Closing, first, idle, waits, claimed, withdrew}
 use Rattle.oneshot_machine.specs.Phases.{overdue, full, unclosed, disconnected, resolved, gone, ended, no_receiver}
 
 pub record EndsThatAreOver : Type 0 where
-  pub late_is_late : (by : By) → IsLate (late by)
+  pub late_is_late : (by : By) → IsLate (found_gone by)
   pub overtaken_is_late : (by : By) → IsLate (overtaken by)
   pub finished_is_over : (by : By) → SenderIsOver by (finished by)
-  pub late_is_over : (by : By) → SenderIsOver by (late by)
+  pub late_is_over : (by : By) → SenderIsOver by (found_gone by)
   pub overtaken_is_over : (by : By) → SenderIsOver by (overtaken by)
   pub full_found_it : (g : Got) → FoundTheEnd (full g)
   pub unclosed_found_it : (s : Swapping) → FoundTheEnd (unclosed s)
@@ -28,12 +28,12 @@ pub record EndsThatAreNotOver : Type 0 where
   -- by the other call
   pub dropped_is_sent : SenderIsOver sending (finished dropping) → ⊥
   pub sent_is_dropped : SenderIsOver dropping (finished sending) → ⊥
-  pub late_drop_is_sent : SenderIsOver sending (late dropping) → ⊥
-  pub late_send_is_dropped : SenderIsOver dropping (late sending) → ⊥
+  pub late_drop_is_sent : SenderIsOver sending (found_gone dropping) → ⊥
+  pub late_send_is_dropped : SenderIsOver dropping (found_gone sending) → ⊥
   pub overtaken_drop_is_sent : SenderIsOver sending (overtaken dropping) → ⊥
   pub overtaken_send_is_dropped : SenderIsOver dropping (overtaken sending) → ⊥
   pub first_found_it : FoundTheEnd first → ⊥
-  pub here_found_it : (o : Open) → FoundTheEnd (here o) → ⊥
+  pub here_found_it : (o : Open) → FoundTheEnd (idle o) → ⊥
   pub waiting_found_it : (w : Waiting) → FoundTheEnd (waits w) → ⊥
   pub claimed_found_it : FoundTheEnd claimed → ⊥
   pub withdrew_found_it : FoundTheEnd withdrew → ⊥
@@ -43,7 +43,7 @@ pub record EndsThatAreNotOver : Type 0 where
   pub ended_found_it : FoundTheEnd ended → ⊥
   pub no_receiver_found_it : FoundTheEnd no_receiver → ⊥
   pub first_has_left : HasLeft first → ⊥
-  pub here_has_left : (o : Open) → HasLeft (here o) → ⊥
+  pub here_has_left : (o : Open) → HasLeft (idle o) → ⊥
   pub waiting_has_left : (w : Waiting) → HasLeft (waits w) → ⊥
   pub claimed_has_left : HasLeft claimed → ⊥
   pub withdrew_has_left : HasLeft withdrew → ⊥

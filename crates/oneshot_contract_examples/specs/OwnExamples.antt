@@ -14,12 +14,13 @@ use Rattle.oneshot_machine.specs.Phases.{sending, receiver_at}
 use Rattle.oneshot_machine.specs.Slots.{away, held}
 use Rattle.oneshot_word.specs.declared.any_waker.AnyWaker.{AnyWaker}
 use Rattle.oneshot_word.specs.declared.any_waker.AnyWaker.TheVariants.{Thread, Task}
-use Rattle.oneshot_contract_examples.specs.StateExamples.{waits as blocks, polled, claims, stopped_over, sent_over}
+use Rattle.oneshot_contract_examples.specs.ExampleLogs.{waits as blocks}
+use Rattle.oneshot_contract_examples.specs.StateExamples.{stopped_over}
 use Rattle.oneshot_contract_examples.specs.SeatExamples.{table}
 use Rattle.oneshot_word.specs.Side.{Side}
 use Rattle.oneshot_ends.specs.declared.token.Given.{Given}
 use Rattle.oneshot_ends.specs.declared.token.WakingHalf.{WakingHalf}
-use Rattle.oneshot_ends.specs.Ends.{FutureEndOf, WillBeWoken, registered_by}
+use Rattle.oneshot_ends.specs.Ends.{FutureView, WillBeWoken, registered_by}
 use Rattle.oneshot_ends.specs.Keeps.{KeepsOwn, KeepsLent, KeepsPolled}
 use Rattle.oneshot_ends.specs.Moments.{AtOneMoment}
 use Rattle.oneshot_ends.specs.NoLostWakeup.{SleepsOn, ParkerAt, HasGivenTokenOf, HasTokenThere, HasUsed, HasUsedWakerOf}
@@ -27,10 +28,11 @@ use Rattle.oneshot_ends.specs.OwnWakers.{RealWaker, IsTaskOf, WaitsForTask, IsHa
 use Rattle.oneshot_ends.specs.PatienceExamples.{in_time, half_of}
 use Rattle.oneshot_ends.specs.Tokens.{ParkingView}
 use Rattle.oneshot_ends.specs.Woken.{Sending, HasWoken, HasEnded}
+use Rattle.oneshot_contract_examples.specs.ExampleLogs.{claims, polled, sent_over}
 
 -- a side with this log, which gave or took this waker
-abbrev pub side_with : List Noted → RealWaker → Side ⊤ RealWaker ⊤
-side_with log k =
+abbrev pub side_by : List Noted → RealWaker → Side ⊤ RealWaker ⊤
+side_by log k =
     record {
       table = table 1 2 5;
       log = log;
@@ -48,11 +50,11 @@ sent_to_it = sent_over UNPARKING
 -- the sender that has given its message by it, and used this half
 abbrev pub sender_of_it : WakingHalf → Given → Sending ⊤ RealWaker ⊤
 sender_of_it half given =
-    record { side = record (side_with sent_to_it (Thread half)) { passed = Some tt }; given = Some given }
+    record { side = record (side_by sent_to_it (Thread half)) { passed = Some tt }; given = Some given }
 
 -- the same by a task's waker
 abbrev pub sender_of_task : Waker → Sending ⊤ RealWaker ⊤
-sender_of_task waker = record { side = record (side_with sent_to_it (Task waker)) { passed = Some tt }; given = None }
+sender_of_task waker = record { side = record (side_by sent_to_it (Task waker)) { passed = Some tt }; given = None }
 
 -- the parking half beside this waking half, which has taken the token or not
 abbrev pub parks_beside : WakingHalf → Bool → ParkingView
@@ -71,9 +73,9 @@ pub record UsesThatAre : Type 0 where
   pub for_its_task : (cx : Context) (waker : Waker) → CopyWakes waker cx → IsTaskOf cx (Task waker)
   pub gives_its_tasks : (cx : Context) (s : Side ⊤ RealWaker ⊤) (waker : Waker) → s.log ≡ polled → s.waker ≡ away
       → s.handed ≡ Some (Task waker) → CopyWakes waker cx → WaitsForTask cx s
-  pub will_be_woken : (cx : Context) (future : FutureEndOf ⊤ ⊤) (waker : Waker) → future.registered ≡ Some waker
+  pub will_be_woken : (cx : Context) (future : FutureView ⊤ ⊤) (waker : Waker) → future.registered ≡ Some waker
       → CopyWakes waker cx → WillBeWoken cx future
-  pub woke_itself : (cx : Context) (future : FutureEndOf ⊤ ⊤) → cx.is_woken ≡ true → WillBeWoken cx future
+  pub woke_itself : (cx : Context) (future : FutureView ⊤ ⊤) → cx.is_woken ≡ true → WillBeWoken cx future
   pub is_registered_by : (s : Side ⊤ RealWaker ⊤) (waker : Waker) → s.log ≡ polled → s.handed ≡ Some (Task waker)
       → registered_by s ≡ Some waker
   pub used_its_waker : (waker : Waker) → HasUsed waker (sender_of_task waker)
@@ -93,7 +95,7 @@ pub record UsesThatAre : Type 0 where
       → HasEnded sending s
   -- the sender has just taken the waker of the receiver that waits
   pub at_one_moment : (k : RealWaker)
-      → AtOneMoment {P = ⊤} (λ about message. ⊤) (side_with claims k) (side_with blocks k)
+      → AtOneMoment {P = ⊤} (λ about message. ⊤) (side_by claims k) (side_by blocks k)
   pub sleeps : (s : Side ⊤ RealWaker ⊤) (half : WakingHalf) → s.log ≡ blocks → s.waker ≡ away
       → s.handed ≡ Some (Thread half) → SleepsOn (parks_beside half false) s
   pub gave_its_token : (half : WakingHalf) (given : Given) → IsSamePass half.pass given.pass
@@ -104,15 +106,15 @@ pub record UsesThatAre : Type 0 where
   -- a sender that has ended, beside it the receiver that sleeps, and the token of its parker
   pub ended_beside_a_sleeper : (half : WakingHalf) (given : Given) → IsSamePass half.pass given.pass
       → given.pass.id ≡ 1
-      → AtOneMoment {P = ⊤} (λ about message. ⊤) (sender_of_it half given).side (side_with blocks (Thread half))
+      → AtOneMoment {P = ⊤} (λ about message. ⊤) (sender_of_it half given).side (side_by blocks (Thread half))
       × HasEnded sending (sender_of_it half given)
-      × SleepsOn (parks_beside half false) (side_with blocks (Thread half)) × ParkerAt given false true
+      × SleepsOn (parks_beside half false) (side_by blocks (Thread half)) × ParkerAt given false true
   -- a sender that has ended, beside it the future that a poll left waiting, by a copy for its task
   pub ended_beside_a_future : (cx : Context) (waker : Waker) → CopyWakes waker cx
-      → AtOneMoment {P = ⊤} (λ about message. ⊤) (sender_of_task waker).side (side_with polled (Task waker))
+      → AtOneMoment {P = ⊤} (λ about message. ⊤) (sender_of_task waker).side (side_by polled (Task waker))
       × HasEnded sending (sender_of_task waker)
-      × WaitsByNoThread (side_with polled (Task waker)) × WaitsForTask cx (side_with polled (Task waker))
-      × (is_waiting (receiver_at polled) ≡ true) × (registered_by (side_with polled (Task waker)) ≡ Some waker)
+      × WaitsByNoThread (side_by polled (Task waker)) × WaitsForTask cx (side_by polled (Task waker))
+      × (is_waiting (receiver_at polled) ≡ true) × (registered_by (side_by polled (Task waker)) ≡ Some waker)
   -- steps of a ground that keep what it has
   pub keeps_all : (s : Side ⊤ RealWaker ⊤) → KeepsOwn s s
   pub spun_and_took : (s : Side ⊤ RealWaker ⊤) (deadline : _) (parker : TableId)
@@ -138,7 +140,7 @@ pub record UsesThatAreNot : Type 0 where
   pub left_anothers_copy : (cx : Context) (s : Side ⊤ RealWaker ⊤) (waker : Waker) → s.log ≡ polled
       → s.handed ≡ Some (Task waker) → cx.lacks_waker ≡ false → (waker.owed.first.task ≡ cx.turn.task → ⊥)
       → WaitsForTask cx s → ⊥
-  pub pends_unregistered : (cx : Context) (future : FutureEndOf ⊤ ⊤) → cx.is_woken ≡ false
+  pub pends_unregistered : (cx : Context) (future : FutureView ⊤ ⊤) → cx.is_woken ≡ false
       → future.registered ≡ None → WillBeWoken cx future → ⊥
   pub woke_another : (cx : Context) (waker : Waker) → cx.lacks_waker ≡ false → (CopyWakes waker cx → ⊥)
       → HasUsedWakerOf cx (sender_of_task waker) → ⊥
@@ -154,7 +156,7 @@ pub record UsesThatAreNot : Type 0 where
   pub dropped_instead : (s : Sending ⊤ (AnyWaker WakingHalf ℕ) ⊤) → s.side.log ≡ (Xor, Word EMPTY) ∷ []
       → HasEnded sending s → ⊥
   pub took_another : (k other : RealWaker) → k ≢ other
-      → AtOneMoment {P = ⊤} (λ about message. ⊤) (side_with claims other) (side_with blocks k) → ⊥
+      → AtOneMoment {P = ⊤} (λ about message. ⊤) (side_by claims other) (side_by blocks k) → ⊥
   pub sleeps_unasked : (s : Side ⊤ RealWaker ⊤) (half : ParkingView) → s.log ≡ [] → SleepsOn half s → ⊥
   pub sleeps_by_a_task : (s : Side ⊤ RealWaker ⊤) {waker : Waker} (half : ParkingView) → s.log ≡ blocks
       → s.handed ≡ Some (Task waker) → SleepsOn half s → ⊥

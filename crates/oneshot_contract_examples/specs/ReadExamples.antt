@@ -5,15 +5,15 @@ use Rattle.oneshot_machine.specs.declared.states.Op.TheVariants.{Load, Add}
 use Rattle.oneshot_machine.specs.declared.states.TheConstants.{UNPARKING, DISCONNECTED, EMPTY, MESSAGE}
 use Rattle.oneshot_machine.specs.Noted.{Noted}
 use Rattle.oneshot_word.specs.declared.rule.Role.{Role}
-use Rattle.oneshot_word.specs.declared.rule.Role.TheVariants.{Maker, Dealer, Sender}
+use Rattle.oneshot_word.specs.declared.rule.Role.TheVariants.{Maker, MakerWithSlot, Sender}
 use Rattle.oneshot_word.specs.declared.rule.View.{View}
-use Rattle.oneshot_contract_examples.specs.StateExamples.{waits, claims, sent_over}
 use Rattle.oneshot_word.specs.Ordered.{Ordered, RuleOrders}
 use Rattle.oneshot_word.specs.ReadRule.{Ruled, RuleReads}
 use Rattle.oneshot_word.specs.Received.{both_views}
 use Rattle.oneshot_word.specs.Rule.{Home, out, bare, has_message}
 use Rattle.oneshot_contract_examples.specs.SeatExamples.{keeps}
 use Rattle.oneshot_word.specs.Seats.{view}
+use Rattle.oneshot_contract_examples.specs.ExampleLogs.{claims, looked, sent_over, waits}
 
 abbrev pub Homes : Type 0
 Homes = List (Home ℕ ℕ ℕ)
@@ -41,20 +41,17 @@ views xs given ys taken = both_views 7 xs given None ys taken None
 abbrev pub sent : List Noted
 sent = (Add, Word EMPTY) ∷ []
 
-abbrev pub looked : List Noted
-looked = (Load, Word EMPTY) ∷ []
-
 abbrev pub found : List Noted
 found = (Load, Word MESSAGE) ∷ []
 
 pub record ReadsThatAre : Type 0 where
   pub new : Ruled {P = ℕ} 7 (EMPTY ∷ []) both_in (alone Maker)
-  pub dealt : Ruled {P = ℕ} 7 (EMPTY ∷ []) one_out (alone Dealer)
+  pub dealt : Ruled {P = ℕ} 7 (EMPTY ∷ []) one_out (alone MakerWithSlot)
   pub both_new : Ruled {P = ℕ} 7 (EMPTY ∷ []) one_out (views [] None [] None)
   pub was_sent : Ruled {P = ℕ} 7 (MESSAGE ∷ []) message_in (views sent (Some 7) [] None)
   pub was_received : Ruled {P = ℕ} 7 (MESSAGE ∷ []) both_out (views sent (Some 7) found (Some 7))
   pub ordered_as_new : Ordered {H = ℕ} {K = ℕ} {P = ℕ} 7 (EMPTY ∷ []) (alone Maker)
-  pub ordered_as_dealt : Ordered {H = ℕ} {K = ℕ} {P = ℕ} 7 (EMPTY ∷ []) (alone Dealer)
+  pub ordered_as_dealt : Ordered {H = ℕ} {K = ℕ} {P = ℕ} 7 (EMPTY ∷ []) (alone MakerWithSlot)
   pub ordered : Ordered {H = ℕ} {K = ℕ} {P = ℕ} 7 (MESSAGE ∷ []) (views sent (Some 7) found (Some 7))
   -- what both laws state of a message in the table
   pub is_read : RuleReads ℕ ℕ keeps → Ruled {P = ℕ} 7 (MESSAGE ∷ []) message_in (views sent (Some 7) [] None)
@@ -64,7 +61,7 @@ pub record ReadsThatAreNot : Type 0 where
   -- before there are ends
   pub new_word : Ruled {P = ℕ} 7 (DISCONNECTED ∷ []) both_in (alone Maker) → ⊥
   pub new_slots : Ruled {P = ℕ} 7 (EMPTY ∷ []) both_out (alone Maker) → ⊥
-  pub dealt_slots : Ruled {P = ℕ} 7 (EMPTY ∷ []) both_out (alone Dealer) → ⊥
+  pub dealt_slots : Ruled {P = ℕ} 7 (EMPTY ∷ []) both_out (alone MakerWithSlot) → ⊥
   pub no_ends : Ruled {P = ℕ} 7 (EMPTY ∷ []) both_in [] → ⊥
   pub one_end : Ruled {P = ℕ} 7 (EMPTY ∷ []) one_out (alone Sender) → ⊥
   -- once there are ends: a state that has no row of owners

@@ -7,10 +7,10 @@ use Rattle.oneshot_machine.specs.Noted.{Noted}
 use Rattle.oneshot_word.specs.declared.any_waker.AnyWaker.{AnyWaker}
 use Rattle.oneshot_word.specs.declared.rule.Role.TheVariants.{Sender, Receiver}
 use Rattle.oneshot_word.specs.declared.rule.View.{View}
-use Rattle.oneshot_contract_examples.specs.StateExamples.{waits, polled, claims, sent_over}
 use Rattle.oneshot_word.specs.Rule.{Home, out, bare, has_message, has_waker, Tied}
 use Rattle.oneshot_word.specs.Seats.{view}
 use Rattle.oneshot_word.specs.Received.{both_views}
+use Rattle.oneshot_contract_examples.specs.ExampleLogs.{claims, polled, sent_over, waits}
 
 module _ {T P : Type 0} (H K : Type 0) (keeps : P → T → Type 0) where
   -- a message that was sent to a receiver that is here, and then received

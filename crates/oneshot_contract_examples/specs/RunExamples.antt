@@ -18,7 +18,7 @@ use Rattle.oneshot_machine.specs.declared.states.Op.TheVariants.{Load, Store, Sw
 use Rattle.oneshot_machine.specs.declared.states.TheConstants.{RECEIVING, UNPARKING, DISCONNECTED, EMPTY, MESSAGE}
 use Rattle.oneshot_machine.specs.Sender.{sender_step, sender_row}
 use Rattle.oneshot_machine.specs.Receiver.{receiver_step, receiver_row}
-use Rattle.oneshot_machine.specs.Phases.{sending, dropping, fresh, owes, finished, late, overtaken, no_sender, sender_at, first, here, looked, between, waits, blocked, overdue, full}
+use Rattle.oneshot_machine.specs.Phases.{sending, dropping, fresh, owes, finished, found_gone, overtaken, no_sender, sender_at, first, idle, after_load, after_timeout, waits, blocked, overdue, full}
 use Rattle.oneshot_machine.specs.Phases.{at_once, waited}
 use Rattle.oneshot_machine.specs.Phases.{swapped, storing, stopping, unclosed, disconnected, found_closed, closed_itself, gone, ended, no_receiver, receiver_at}
 use Rattle.oneshot_machine.specs.Logs.{Event, did, wrote, took, handed, parked, clocked, worded, words, kept, messages_given, messages_got}
@@ -28,7 +28,7 @@ use Rattle.oneshot_machine.specs.Runs.{Run}
 pub record LogsOfSender : Type 0 where
   pub nothing_yet : sender_at [] ≡ fresh
   pub sent : sender_at ((Add, Word EMPTY) ∷ []) ≡ finished sending
-  pub sent_too_late : sender_at ((Add, Word DISCONNECTED) ∷ []) ≡ late sending
+  pub sent_too_late : sender_at ((Add, Word DISCONNECTED) ∷ []) ≡ found_gone sending
   pub found_a_waker : sender_at ((Add, Word RECEIVING) ∷ []) ≡ owes sending
   pub sent_to_it : sender_at ((Add, Word RECEIVING) ∷ (Swap MESSAGE, Word UNPARKING) ∷ []) ≡ finished sending
   pub sent_to_one_that_stopped : sender_at ((Add, Word RECEIVING) ∷ (Swap MESSAGE, Word EMPTY) ∷ []) ≡ finished sending
@@ -37,7 +37,7 @@ pub record LogsOfSender : Type 0 where
   pub dropped : sender_at ((Xor, Word EMPTY) ∷ []) ≡ finished dropping
   pub dropped_before_it :
       sender_at ((Xor, Word RECEIVING) ∷ (Swap DISCONNECTED, Word UNPARKING) ∷ []) ≡ finished dropping
-  pub dropped_too_late : sender_at ((Xor, Word DISCONNECTED) ∷ []) ≡ late dropping
+  pub dropped_too_late : sender_at ((Xor, Word DISCONNECTED) ∷ []) ≡ found_gone dropping
   pub dropped_after_one_that_left_meanwhile :
       sender_at ((Xor, Word RECEIVING) ∷ (Swap DISCONNECTED, Word DISCONNECTED) ∷ []) ≡ overtaken dropping
   -- and logs that no sender has
@@ -53,7 +53,7 @@ pub record LogsOfSender : Type 0 where
 -- the phases of a receiver, by its logs
 pub record LogsOfReceiver : Type 0 where
   pub nothing_yet : receiver_at [] ≡ first
-  pub looked_in_vain : receiver_at ((Load, Word EMPTY) ∷ (Load, Word EMPTY) ∷ []) ≡ here looked
+  pub looked_in_vain : receiver_at ((Load, Word EMPTY) ∷ (Load, Word EMPTY) ∷ []) ≡ idle after_load
   pub found_it : receiver_at ((Load, Word EMPTY) ∷ (Load, Word MESSAGE) ∷ []) ≡ full at_once
   pub received : receiver_at ((Load, Word MESSAGE) ∷ (Store DISCONNECTED, Done) ∷ []) ≡ disconnected closed_itself
   pub tried_again :
@@ -72,10 +72,11 @@ pub record LogsOfReceiver : Type 0 where
   pub found_nobody_by_its_swap :
       receiver_at ((Load, Word EMPTY) ∷ (Swap RECEIVING, Word DISCONNECTED) ∷ []) ≡ unclosed storing
   pub ran_out :
-      receiver_at ((Load, Word EMPTY) ∷ (Swap RECEIVING, Word EMPTY) ∷ (Swap EMPTY, Word RECEIVING) ∷ []) ≡ here between
+      receiver_at ((Load, Word EMPTY) ∷ (Swap RECEIVING, Word EMPTY) ∷ (Swap EMPTY, Word RECEIVING) ∷ [])
+          ≡ idle after_timeout
   pub ran_out_and_tried_again :
       receiver_at ((Load, Word EMPTY) ∷ (Swap RECEIVING, Word EMPTY) ∷ (Swap EMPTY, Word RECEIVING) ∷ (Load, Word EMPTY)
-      ∷ []) ≡ here looked
+      ∷ []) ≡ idle after_load
   pub ran_out_over_a_message :
       receiver_at ((Load, Word EMPTY) ∷ (Swap RECEIVING, Word EMPTY) ∷ (Swap EMPTY, Word MESSAGE) ∷ [])
       ≡ full (swapped stopping)

@@ -18,6 +18,7 @@ use Rattle.oneshot_word.specs.declared.rule.View.{View}
 use Rattle.oneshot_word.specs.Seats.{view, any, with_waker, Carried, message_of, waker_of, message_in, waker_in, MessageSlot, WakerSlot, Part, message_first, waker_first, carried_as, SeatOf}
 use Rattle.oneshot_word.specs.Seats.{IsAt}
 use Rattle.oneshot_word.specs.Seats.{GivesOnce, HoldsTaken, SenderSeat, ReceiverSeat, gave, took}
+use Rattle.oneshot_contract_examples.specs.ExampleLogs.{claims, looked}
 
 abbrev pub keeps : ℕ → ℕ → Type 0
 keeps q m = m ≡ q
@@ -29,8 +30,8 @@ Kept = Slot ℕ ℕ ℕ
 abbrev pub each_slot : List Kept
 each_slot = Empty ∷ Message 7 ∷ Thread 1 ∷ Task 2 ∷ []
 
-abbrev pub message : ℕ → Kept
-message m = Message m
+abbrev pub message_at : ℕ → Kept
+message_at m = Message m
 
 abbrev pub half : Kept
 half = Thread 1
@@ -72,12 +73,6 @@ WakerPart = Part any 1 with_waker
 -- message
 abbrev pub sent_at_once : List Noted
 sent_at_once = (Add, Word EMPTY) ∷ []
-
-abbrev pub claims : List Noted
-claims = (Add, Word RECEIVING) ∷ []
-
-abbrev pub looked : List Noted
-looked = (Load, Word EMPTY) ∷ []
 
 abbrev pub received : List Noted
 received = (Load, Word MESSAGE) ∷ []
@@ -134,10 +129,10 @@ pub record SeatsThatAre : Type 0 where
 pub record SeatsThatAreNot : Type 0 where
   -- slots: a message that breaks its promise, a waker in the message's slot, the reverse, and a full
   -- slot seen as empty
-  pub breaks_its_promise : MessageSlot (keeps 7) (message 8) (held 8) → ⊥
+  pub breaks_its_promise : MessageSlot (keeps 7) (message_at 8) (held 8) → ⊥
   pub waker_for_message : {seen : Held ℕ} → MessageSlot (keeps 7) half seen → ⊥
-  pub message_for_waker : {seen : Held (AnyWaker ℕ ℕ)} → WakerSlot (message 7) seen → ⊥
-  pub seen_as_room : MessageSlot (keeps 7) (message 7) vacant → ⊥
+  pub message_for_waker : {seen : Held (AnyWaker ℕ ℕ)} → WakerSlot (message_at 7) seen → ⊥
+  pub seen_as_room : MessageSlot (keeps 7) (message_at 7) vacant → ⊥
   -- parts: an owned slot that is not carried, a carried slot that is not owned, and a slot of the wrong
   -- number
   pub lost_its_slot : {seen : Held ℕ} → MessagePart true [] seen → ⊥

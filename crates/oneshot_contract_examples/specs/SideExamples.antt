@@ -6,9 +6,10 @@ use Rattle.oneshot_machine.specs.Noted.{Noted}
 use Rattle.oneshot_machine.specs.Slots.{Held, away, vacant, held}
 use Rattle.oneshot_word.specs.declared.any_waker.AnyWaker.TheVariants as R
 use Rattle.oneshot_word.specs.declared.rule.Role.TheVariants.{Sender, Receiver}
-use Rattle.oneshot_contract_examples.specs.StateExamples.{waits, stopped_over}
-use Rattle.oneshot_contract_examples.specs.SeatExamples.{table, seat, with_half, with_message, claims, looked, received, sent_at_once}
+use Rattle.oneshot_contract_examples.specs.StateExamples.{stopped_over}
+use Rattle.oneshot_contract_examples.specs.SeatExamples.{table, seat, with_half, with_message, received, sent_at_once}
 use Rattle.oneshot_word.specs.Side.{Side, side_of, AreEnds, SenderCan, SenderDid, ReceiverCan, ReceiverDid}
+use Rattle.oneshot_contract_examples.specs.ExampleLogs.{claims, looked, waits}
 
 -- a side at a table, of a channel about 7, whose wakers are numbers
 abbrev pub side : List Noted → Held ℕ → Held ℕ → Option ℕ → Side ℕ ℕ ℕ

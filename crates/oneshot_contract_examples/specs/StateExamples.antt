@@ -8,12 +8,10 @@ use Rattle.oneshot_word.specs.declared.any_waker.AnyWaker.{AnyWaker}
 use Rattle.oneshot_word.specs.EndLogs.{stores_waker, is_overdue, is_gone, wrote_since}
 use Rattle.oneshot_word.specs.ReadRule.{Owned}
 use Rattle.oneshot_word.specs.Rule.{Home, out, bare, has_message, has_waker}
+use Rattle.oneshot_contract_examples.specs.ExampleLogs.{claims, polled, sent_over, waits}
 
 -- Receivers: one waits; one stopped waiting over this word (RECEIVING: in time; UNPARKING: too late; else over what the
 -- sender left); one was dropped.
-abbrev pub waits : List Noted
-waits = (Load, Word EMPTY) ∷ (Swap RECEIVING, Word EMPTY) ∷ []
-
 abbrev pub stopped_over : ℕ → List Noted
 stopped_over word = waits ++ (Swap EMPTY, Word word) ∷ []
 
@@ -22,9 +20,6 @@ went = (Swap DISCONNECTED, Word EMPTY) ∷ []
 
 -- Polls: one stored its copy; one found this word by its exchange. A later one's exchange took the copy back (over
 -- RECEIVING), or found a sender about to finish (UNPARKING).
-abbrev pub polled : List Noted
-polled = (Load, Word EMPTY) ∷ (Exchange EMPTY RECEIVING, Word EMPTY) ∷ []
-
 abbrev pub polled_over : ℕ → List Noted
 polled_over word = (Load, Word EMPTY) ∷ (Exchange EMPTY RECEIVING, Word word) ∷ []
 
@@ -37,12 +32,6 @@ left_meanwhile = polled ++ (Load, Word UNPARKING) ∷ (Swap DISCONNECTED, Word U
 
 -- Senders: one found the receiver waiting by a `send`; one finished a `send`, and one its drop, over this
 -- word.
-abbrev pub claims : List Noted
-claims = (Add, Word RECEIVING) ∷ []
-
-abbrev pub sent_over : ℕ → List Noted
-sent_over word = claims ++ (Swap MESSAGE, Word word) ∷ []
-
 abbrev pub dropped_over : ℕ → List Noted
 dropped_over word = (Xor, Word RECEIVING) ∷ (Swap DISCONNECTED, Word word) ∷ []
 

@@ -8,8 +8,8 @@ use Rattle.oneshot_machine.specs.Noted.{Noted}
 use Rattle.oneshot_machine.specs.Slots.{away}
 use Rattle.oneshot_contract_examples.specs.SeatExamples.{table}
 use Rattle.oneshot_word.specs.Side.{Side}
-use Rattle.oneshot_ends.specs.Ends.{SenderEndOf}
-use Rattle.oneshot_contract_examples.specs.EndExamples.{ran_out, received}
+use Rattle.oneshot_ends.specs.Ends.{SenderView}
+use Rattle.oneshot_contract_examples.specs.EndExamples.{ran_out, received_and_closed}
 use Rattle.oneshot_ends.specs.Moments.{AtOneMoment}
 use Rattle.oneshot_ends.specs.OwnWakers.{RealWaker}
 use Rattle.oneshot_ends.specs.Taken.{StaysTaken, TookAsFound, KeepsTaken, Takes, TakesReady}
@@ -26,23 +26,23 @@ Beside = AtOneMoment (λ about message. ⊤)
 -- a receiver that took the message that it found, one that found none, receives that returned it or not, a
 -- sender's view, which has no message, and a receiver that took what its sender gave
 pub record TakesThatAre : Type 0 where
-  pub found_it : TookAsFound {T = ℕ} (Some 7) received
+  pub found_it : TookAsFound {T = ℕ} (Some 7) received_and_closed
   pub found_none : TookAsFound {T = ℕ} None ran_out
-  pub takes_it : KeepsTaken {T = ℕ} None (Some 7) [] received
+  pub takes_it : KeepsTaken {T = ℕ} None (Some 7) [] received_and_closed
   pub returned_it : Takes {T = ℕ} {E = ℕ} (Ok 7) None (Some 7)
   pub returned_none : Takes {T = ℕ} {E = ℕ} (Err 0) (Some 7) (Some 7)
   pub is_ready : TakesReady {T = ℕ} {E = ℕ} (Ready (Ok 7)) None (Some 7)
   pub is_pending : TakesReady {T = ℕ} {E = ℕ} Pending None None
-  pub sends : (sender : SenderEndOf ℕ) → sender.log ≡ [] → TookAsFound {T = ℕ} None sender.log
+  pub sends : (sender : SenderView ℕ) → sender.log ≡ [] → TookAsFound {T = ℕ} None sender.log
   pub took_what_was_given : (m : ℕ)
       → Beside (passed_by ((Add, Word EMPTY) ∷ []) (Some m)) (passed_by ((Load, Word MESSAGE) ∷ []) (Some m))
 
 pub record TakesThatAreNot : Type 0 where
   pub took_unfound : TookAsFound {T = ℕ} (Some 7) ran_out → ⊥
-  pub found_untaken : TookAsFound {T = ℕ} None received → ⊥
+  pub found_untaken : TookAsFound {T = ℕ} None received_and_closed → ⊥
   pub took_another : StaysTaken {T = ℕ} (Some 7) (Some 8) → ⊥
-  pub lost_it : KeepsTaken {T = ℕ} (Some 7) None received received → ⊥
-  pub finds_untaken : KeepsTaken {T = ℕ} None None [] received → ⊥
+  pub lost_it : KeepsTaken {T = ℕ} (Some 7) None received_and_closed received_and_closed → ⊥
+  pub finds_untaken : KeepsTaken {T = ℕ} None None [] received_and_closed → ⊥
   pub returned_another : Takes {T = ℕ} {E = ℕ} (Ok 7) None (Some 8) → ⊥
   pub returned_untaken : Takes {T = ℕ} {E = ℕ} (Ok 7) None None → ⊥
   pub returned_again : Takes {T = ℕ} {E = ℕ} (Ok 7) (Some 7) (Some 7) → ⊥

@@ -15,7 +15,7 @@ use Rattle.oneshot_ends.specs.declared.token.WakingHalf.{WakingHalf}
 use Rattle.oneshot_ends.specs.Tokens.{TokenIs, divides, gives, takes, Life, IsGivenOnce, took}
 use Rattle.oneshot_ends.specs.Woken.{IsWoken, Sending}
 
-pub record StatesThatAreNot : Type 0 where
+pub record TokensThatAreNot : Type 0 where
   pub taken_not_given : TokenIs false (Parking true ∷ Waking false ∷ []) → ⊥
   pub lost : TokenIs false (Parking false ∷ Waking true ∷ []) → ⊥
   pub there_again : TokenIs true (Parking true ∷ Waking true ∷ []) → ⊥

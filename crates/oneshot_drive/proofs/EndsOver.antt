@@ -1,7 +1,9 @@
 -- After its last call an end is over: by the rows of its last operation.
 use Rattle.oneshot_drive.proofs.Names.{◌≡◌, ℕ, false, List, [], ◌∷◌, refl, sym, ◌∙◌, subst, TakeWaker, Wake, Swap, Xor, Event, Log, Grows, words, sender_of, receiver_of, handed, worded, By, sending}
-use Rattle.oneshot_drive.proofs.Names.{dropping, SenderAt, fresh, owes, late, no_sender, sender_moves, ReceiverAt, first, here, looked, between, waits, claimed, withdrew, full, at_once, by_future}
-use Rattle.oneshot_drive.proofs.Names.{disconnected, receiver_moves, Slots, Held, In, finds, SenderFinds, leads, sender_moved, GroundState, StandsWith, SenderMakes, ReceiverMakes, EndsAt, landings}
+use Rattle.oneshot_drive.proofs.Names.{dropping, SenderAt, fresh, owes, found_gone, no_sender, sender_moves, ReceiverAt, first, idle, after_load, after_timeout, waits, claimed}
+use Rattle.oneshot_drive.proofs.Names.{withdrew, full, at_once, by_future}
+use Rattle.oneshot_drive.proofs.Names.{disconnected, receiver_moves, Slots, Held, In, finds, SenderFinds, leads_exactly, sender_moved, GroundState, StandsWith, SenderMakes}
+use Rattle.oneshot_drive.proofs.Names.{ReceiverMakes, EndsAt, landings}
 use Rattle.oneshot_drive.proofs.Names.{landings_of, landed, Each, each, sender_apart, RECEIVING, DISCONNECTED, EMPTY}
 use Rattle.std.proofs.Common.{Bool, true, ◌==◌, not, ◌++◌, ap}
 use Rattle.std.specs.List.{list_all}
@@ -11,7 +13,7 @@ use Rattle.oneshot_machine.specs.Noted.{Noted}
 use Rattle.oneshot_machine.specs.Phases.{finished, blocked, Row, sender_next, sender_at, phase_from}
 use Rattle.oneshot_machine.proofs.GrownLogs.{words_after}
 use Rattle.oneshot_machine.proofs.RunsByRows.{next_passes}
-use Rattle.oneshot_drive.specs.Wakes.{finds_waiting, SenderWoke, wakes, wakes_none}
+use Rattle.oneshot_drive.specs.Wakes.{found_receiver_waiting, SenderWoke, wakes, wakes_none}
 use Rattle.oneshot_drive.specs.declared.found.Found.{Found}
 use Rattle.oneshot_drive.specs.declared.found.Found.TheVariants as F
 use Rattle.oneshot_machine.specs.Over.{SenderIsOver, over_finished, over_late, over_overtaken, FoundTheEnd, found_message, found_unclosed}
@@ -42,18 +44,18 @@ over_at {by} is over = subst (SenderIsOver by) (sym is) over
 module _ {T W : Type 0} where
   module _ {slots : Slots} {b a : GroundState T W} (n : ℕ) (is : StandsWith sender_of fresh slots b) where
     -- its first operation found no receiver that waits
-    pub flipped_over : n ≡ EMPTY → SenderMakes Xor n b a → Grows b.log a.log (worded Xor n ∷ [])
+    pub xored_over : n ≡ EMPTY → SenderMakes Xor n b a → Grows b.log a.log (worded Xor n ∷ [])
         → SenderIsOver dropping (sender_of a.log)
-    flipped_over e made grows =
+    xored_over e made grows =
         over_at (lone (at_word EMPTY e (sender_lands b Xor n is.phase made grows))).stands.phase over_finished
 
     -- or one that waits
-    pub flipped_owes : n ≡ RECEIVING → SenderMakes Xor n b a → Grows b.log a.log (worded Xor n ∷ [])
+    pub xored_owes : n ≡ RECEIVING → SenderMakes Xor n b a → Grows b.log a.log (worded Xor n ∷ [])
         → sender_of a.log ≡ owes dropping
-    flipped_owes e made grows = (lone (at_word RECEIVING e (sender_lands b Xor n is.phase made grows))).stands.phase
+    xored_owes e made grows = (lone (at_word RECEIVING e (sender_lands b Xor n is.phase made grows))).stands.phase
 
   -- or one that was gone
-  pub late_over : {by : By} {slots : Slots} {a : GroundState T W} → StandsWith sender_of (late by) slots a
+  pub late_over : {by : By} {slots : Slots} {a : GroundState T W} → StandsWith sender_of (found_gone by) slots a
       → SenderIsOver by (sender_of a.log)
   late_over stands = over_at stands.phase over_late
 
@@ -78,7 +80,7 @@ module _ {T W : Type 0} where
       subst (LastLeaves by (not (n == DISCONNECTED))) (sym (sender_still (handed Wake y ∷ []) refl used))
       (last_over (sender_still (handed TakeWaker y ∷ []) refl took ∙ owing)
       (λ next before after row. sender_moved (Swap word) n grows
-      ∙ leads no_sender (sender_moves (sender_of k.log)) (sender_apart (sender_of k.log)) row) made)
+      ∙ leads_exactly no_sender (sender_moves (sender_of k.log)) (sender_apart (sender_of k.log)) row) made)
 
   -- other steps leave an end as far as it is
   pub sender_stays_over : {by : By} {l k : Log T W} (steps : List (Event T W)) → words steps ≡ [] → Grows l k steps
@@ -113,11 +115,11 @@ module _ {T W : Type 0} where
   -- a call that was its first has woken the receiver that it found waiting
   pub woken_by : {woken : W → Type 0} {before after : Log T W} {call : SenderCall} {reply : Reply} {given got : List T}
       → sender_of before ≡ fresh → SenderWoke woken call before after reply given got
-      → finds_waiting (words after.list) ≡ true → (k : W) × woken k
+      → found_receiver_waiting (words after.list) ≡ true → (k : W) × woken k
   woken_by {before = before} was woke found =
       let list = words_after woke.ran.run woke.ran.grows in
       let alone = ap (λ xs. xs ++ words woke.ran.run) (fresh_log (words before.list) was) in
-      let so = sym (ap finds_waiting (list ∙ alone)) ∙ found in
+      let so = sym (ap found_receiver_waiting (list ∙ alone)) ∙ found in
       elim woke.wakes [
         | wakes k waited took used woken ↦ (k, woken)
         | wakes_none none_waited used ↦ absurd (let e = sym none_waited ∙ so in cc e)
@@ -126,8 +128,8 @@ module _ {T W : Type 0} where
 -- the swap of a receiver's drop
 drops : (at : ReceiverAt) → Each (λ n next after. HasLeft next) (landings (Swap DISCONNECTED) (receiver_moves at))
 drops first = (left_first, (left_last, (left_last, tt)))
-drops (here looked) = (left_first, (left_last, (left_last, tt)))
-drops (here between) = (left_first, (left_last, (left_last, tt)))
+drops (idle after_load) = (left_first, (left_last, (left_last, tt)))
+drops (idle after_timeout) = (left_first, (left_last, (left_last, tt)))
 drops claimed = (left_first, (left_last, (left_last, tt)))
 drops withdrew = (left_first, (left_last, (left_last, tt)))
 drops (full at_once) = (left_last, tt)
@@ -153,5 +155,5 @@ module _ {T W : Type 0} where
   pub found : (f : Found) (s : GroundState T W) → EndsAt false f s → FoundTheEnd (receiver_of s.log)
   found F.Message s ends = subst FoundTheEnd (sym ends.2.phase) (found_message ends.0)
   found F.Closed s ends = subst FoundTheEnd (sym ends.1.phase) (found_no_sender ends.0)
-  found F.Unclosed s ends = subst FoundTheEnd (sym ends.1.phase) (found_unclosed ends.0)
+  found F.Overwritten s ends = subst FoundTheEnd (sym ends.1.phase) (found_unclosed ends.0)
   found F.Nothing s ends = let timed = ends.0 in absurd (cc)

@@ -1,6 +1,7 @@
 -- What the swap that drops a receiver finds, and the runs that it ends.
-use Rattle.oneshot_drive.proofs.Names.{◌≡◌, ℕ, [], ◌∷◌, Some, refl, sym, ap, ◌∙◌, subst, ReceiverPos, AsyncDrop, AsyncSwap, Swap, Log, Grows, receiver_of, did, worded, ReceiverAt, first, here, looked}
-use Rattle.oneshot_drive.proofs.Names.{between, claimed, waits, blocked, withdrew, full, at_once, by_future, disconnected, receiver_moves, Share, none, empty, filled, Slots, receiver_step}
+use Rattle.oneshot_drive.proofs.Names.{◌≡◌, ℕ, [], ◌∷◌, Some, refl, sym, ap, ◌∙◌, subst, ReceiverPos, AsyncDrop, AsyncSwap, Swap, Log, Grows, receiver_of, did, worded, ReceiverAt}
+use Rattle.oneshot_drive.proofs.Names.{first, idle, after_load}
+use Rattle.oneshot_drive.proofs.Names.{after_timeout, claimed, waits, blocked, withdrew, full, at_once, by_future, disconnected, receiver_moves, Share, none, empty, filled, Slots, receiver_step}
 use Rattle.oneshot_drive.proofs.Names.{receiver_row, Outcome, Goes, Answers, last, more, Ran, and_then, Held, IsSlot, ReceiverFinds, is_same_op, Each, landings, FoundSo, found_so, GroundState, Rests}
 use Rattle.oneshot_drive.proofs.Names.{rests_new, rests_open, rests_closed, AtRest, UNPARKING, DISCONNECTED, EMPTY, MESSAGE}
 use Rattle.oneshot_machine.specs.declared.machine.Reply.TheVariants as R
@@ -19,8 +20,8 @@ pub data Swapped : ℕ → Slots → Type 0 where
 
 swaps : (at : ReceiverAt) → Each (λ n next after. Swapped n after) (landings (Swap DISCONNECTED) (receiver_moves at))
 swaps first = (swapped_empty, (swapped_message, (swapped_closed, tt)))
-swaps (here looked) = (swapped_empty, (swapped_message, (swapped_closed, tt)))
-swaps (here between) = (swapped_empty, (swapped_message, (swapped_closed, tt)))
+swaps (idle after_load) = (swapped_empty, (swapped_message, (swapped_closed, tt)))
+swaps (idle after_timeout) = (swapped_empty, (swapped_message, (swapped_closed, tt)))
 swaps claimed = (swapped_sender, (swapped_message, (swapped_closed, tt)))
 swaps withdrew = (swapped_empty, (swapped_message, (swapped_closed, tt)))
 swaps (full at_once) = (swapped_message, tt)
@@ -33,8 +34,8 @@ swaps _ = tt
 rests_swaps : {at : ReceiverAt} → Rests at
     → Each (λ n next after. ¬ (n ≡ UNPARKING)) (landings (Swap DISCONNECTED) (receiver_moves at))
 rests_swaps rests_new = ((λ e. cc), ((λ e. cc), ((λ e. cc), tt)))
-rests_swaps (rests_open looked) = ((λ e. cc), ((λ e. cc), ((λ e. cc), tt)))
-rests_swaps (rests_open between) = ((λ e. cc), ((λ e. cc), ((λ e. cc), tt)))
+rests_swaps (rests_open after_load) = ((λ e. cc), ((λ e. cc), ((λ e. cc), tt)))
+rests_swaps (rests_open after_timeout) = ((λ e. cc), ((λ e. cc), ((λ e. cc), tt)))
 rests_swaps (rests_closed c) = ((λ e. cc), tt)
 
 slots_full : {slots : Slots} → Swapped MESSAGE slots → slots ≡ (filled, empty)

@@ -1,7 +1,7 @@
 -- What a poll does to leave a copy of its waker: the copy in the slot, its exchange, and that of an earlier copy.
 use Rattle.oneshot_drive.proofs.Names.{◌≡◌, ℕ, true, false, [], ◌∷◌, Option, Some, None, refl, sym, ap, ◌∙◌, subst, Pending, Found, ReceiverPos, Future, PollCopy, PollWrite, PollExchange}
-use Rattle.oneshot_drive.proofs.Names.{PollBackFull, PollBackClosed, AgainCopy, AgainExchange, AgainBack, PollOwn, Exchange, Log, Grows, receiver_of, did, handed, copied, worded, ReceiverAt, here}
-use Rattle.oneshot_drive.proofs.Names.{looked, waits, polled, again, claimed, withdrew, full, by_future, by_poll, found_closed, disconnected, resolved, receiver_moves, Share, none, empty, filled}
+use Rattle.oneshot_drive.proofs.Names.{PollBackFull, PollBackClosed, AgainCopy, AgainExchange, AgainBack, PollOwn, Exchange, Log, Grows, receiver_of, did, handed, copied, worded, ReceiverAt, idle}
+use Rattle.oneshot_drive.proofs.Names.{after_load, waits, polled, again, claimed, withdrew, full, by_future, by_poll, found_closed, disconnected, resolved, receiver_moves, Share, none, empty, filled}
 use Rattle.oneshot_drive.proofs.Names.{Slots, receiver_step, receiver_row, Outcome, Goes, Answers, Held, vacant, held, IsSlot, is_held, ReceiverMay, ReceiverFinds, GroundState, StandsWith, Stands}
 use Rattle.oneshot_drive.proofs.Names.{ReceiverMakes, Path, LeavesPolled, leaves_waiting, poll_end, EndsPoll, MayLeave, is_room, has_row, Each, landings, RECEIVING, UNPARKING, DISCONNECTED, EMPTY}
 use Rattle.oneshot_drive.proofs.Names.{MESSAGE}
@@ -19,7 +19,7 @@ pub data Left : ℕ → ReceiverAt → Slots → Type 0 where
   left_over : Left DISCONNECTED (resolved found_closed) (empty, filled)
 
 leaves : (at : ReceiverAt) → Each Left (landings (Exchange EMPTY RECEIVING) (receiver_moves at))
-leaves (here looked) = (left_copy, (left_full, (left_over, tt)))
+leaves (idle after_load) = (left_copy, (left_full, (left_over, tt)))
 leaves withdrew = (left_copy, (left_full, (left_over, tt)))
 leaves (waits polled) = tt
 leaves (full by_poll) = tt
@@ -32,10 +32,10 @@ module _ {T W : Type 0} where
       → Grows k z (did Steps.WakeOwn ∷ []) → Path p (Answers R.Pending) l z
   refuses at leads s t = on (by_refusal (Goes (Future PollOwn)) s at leads) (by_own _ t refl refl)
 
-  pub refused : {p : ReceiverPos} {l k z : Log T W} (c : Option W) → c ≡ None → Steps.Copy ≡ receiver_step p
+  pub copy_refused : {p : ReceiverPos} {l k z : Log T W} (c : Option W) → c ≡ None → Steps.Copy ≡ receiver_step p
       → receiver_row p (S.Refused true) ≡ Some (Goes (Future PollOwn)) → Grows l k (copied c ∷ [])
       → Grows k z (did Steps.WakeOwn ∷ []) → Path p (Answers R.Pending) l z
-  refused {l} {k} c no_copy at leads s t = refuses at leads (subst (λ c. Grows l k (copied c ∷ [])) no_copy s) t
+  copy_refused {l} {k} c no_copy at leads s t = refuses at leads (subst (λ c. Grows l k (copied c ∷ [])) no_copy s) t
 
   pub copies : {p r : ReceiverPos} {l k : Log T W} (c : Option W) (y : W) → c ≡ Some y → Steps.Copy ≡ receiver_step p
       → receiver_row p (S.Refused false) ≡ Some (Goes r) → Grows l k (copied c ∷ []) → Path p (Goes r) l k
@@ -70,11 +70,11 @@ module _ {T W : Type 0} where
       subst (λ (z : ReceiverAt × Held T × Held W). ReceiverMay z.0 (Exchange EMPTY RECEIVING) z.1 z.2)
       (λ i. (sym (still (handed Steps.WriteWaker y ∷ []) refl s) i, sym message i, sym waker i)) (may.asks y)
 
-  pub left : {l k : Log T W} {m m' : Held T} {w w' : Held W} (n : ℕ)
+  pub copy_left : {l k : Log T W} {m m' : Held T} {w w' : Held W} (n : ℕ)
       → ReceiverFinds (receiver_of l) (Exchange EMPTY RECEIVING) n m w m' w'
       → Grows l k (worded (Exchange EMPTY RECEIVING) n ∷ [])
       → OneOf receiver_of n (record { log = k; message = m'; waker = w' }) Left
-  left {l} {m} {w} n made grows =
+  copy_left {l} {m} {w} n made grows =
       one_of Left (leaves (receiver_of l))
       (lands (record { log = l; message = m; waker = w }) (Exchange EMPTY RECEIVING) n refl made grows)
 

@@ -1,6 +1,7 @@
 -- What a future between two calls finds by its load, and the run of a poll.
 use Rattle.oneshot_drive.proofs.Names.{◌≡◌, ℕ, true, [], ◌∷◌, Some, Ok, Err, refl, sym, ap, ◌∙◌, subst, Ready, Pending, RecvError, Found, ReceiverPos, Try, Future, AsyncDrop, Close, Take, PollLoad}
-use Rattle.oneshot_drive.proofs.Names.{AsyncLoad, AsyncSwap, Load, Store, Swap, Log, Grows, receiver_of, did, took, worded, ReceiverAt, here, looked, between, waits, again, claimed, full, Got}
+use Rattle.oneshot_drive.proofs.Names.{AsyncLoad, AsyncSwap, Load, Store, Swap, Log, Grows, receiver_of, did, took, worded, ReceiverAt, idle, after_load, after_timeout, waits}
+use Rattle.oneshot_drive.proofs.Names.{again, claimed, full, Got}
 use Rattle.oneshot_drive.proofs.Names.{at_once, waited, swapped, by_future, by_poll, Closing, found_closed, closed_itself, disconnected, resolved, receiver_next, receiver_moves, empty, word_of}
 use Rattle.oneshot_drive.proofs.Names.{receiver_step, receiver_row, Outcome, Goes, Answers, last, more, ReceiverRan, and_then, GroundState, StandsWith, Stands, StandsIn, receiver_slots, ReceiverAsks}
 use Rattle.oneshot_drive.proofs.Names.{ReceiverMakes, Path, rests_new, rests_open, rests_closed, IsClosedAt, Polled, unpolled, left_copy, kept_copy, found_sender, has_resolved, IsPolled, LeavesPolled}
@@ -17,7 +18,7 @@ use Rattle.oneshot_drive.proofs.Stretches.{on, by_word, by_own, ran}
 
 -- it may load
 polled_loads : {at : ReceiverAt} → Polled at → has_row Load (receiver_slots at) (receiver_moves at) ≡ true
-polled_loads (unpolled (rests_open looked)) = refl
+polled_loads (unpolled (rests_open after_load)) = refl
 polled_loads _ = refl
 
 -- a receiver at this phase may be dropped
@@ -26,7 +27,7 @@ Drops at = has_row (Swap DISCONNECTED) (receiver_slots at) (receiver_moves at) �
 
 -- the word that its load finds, and where that leads
 pub data Met : ℕ → ReceiverAt → Type 0 where
-  met_empty : Met EMPTY (here looked)
+  met_empty : Met EMPTY (idle after_load)
   met_message : {g : Got} → word_of g ≡ MESSAGE → Drops (full g) → Met MESSAGE (full g)
   met_closed : (c : Closing) → Met DISCONNECTED (disconnected c)
   met_copy : Met RECEIVING (waits again)
@@ -35,9 +36,9 @@ pub data Met : ℕ → ReceiverAt → Type 0 where
 meets : {at : ReceiverAt} → Polled at
     → Each (λ n next after. Met n next × (after ≡ receiver_slots next)) (landings Load (receiver_moves at))
 meets (unpolled rests_new) = ((met_empty, refl), ((met_message refl refl, refl), ((met_closed found_closed, refl), tt)))
-meets (unpolled (rests_open looked)) =
+meets (unpolled (rests_open after_load)) =
     ((met_empty, refl), ((met_message refl refl, refl), ((met_closed found_closed, refl), tt)))
-meets (unpolled (rests_open between)) =
+meets (unpolled (rests_open after_timeout)) =
     ((met_empty, refl), ((met_message refl refl, refl), ((met_closed found_closed, refl), tt)))
 meets (unpolled (rests_closed c)) = ((met_closed c, refl), tt)
 meets left_copy =
@@ -79,7 +80,7 @@ pub taken_leaves : {T : Type 0} {at : ReceiverAt} (g : Got) (x : T)
 taken_leaves g x is = subst (λ at. LeavesPolled (Ready (Ok x)) at) (sym is) (leaves_taken g x)
 
 pending_polled : {T : Type 0} {at : ReceiverAt} → LeavesPolled {T = T} Pending at → Polled at
-pending_polled leaves_uncopied = unpolled (rests_open looked)
+pending_polled leaves_uncopied = unpolled (rests_open after_load)
 pending_polled leaves_waiting = left_copy
 pending_polled leaves_its_copy = kept_copy
 pending_polled leaves_claimed = found_sender
@@ -95,7 +96,7 @@ closed_leaves (resolved c) e is = leaves_gone e c
 closed_leaves _ e is = absurd (cc is)
 
 module _ {T W : Type 0} where
-  open_met : {at : ReceiverAt} {s : GroundState T W} → Met EMPTY at → Stands at s → Stands (here looked) s
+  open_met : {at : ReceiverAt} {s : GroundState T W} → Met EMPTY at → Stands at s → Stands (idle after_load) s
   open_met met_empty stands = stands
 
   copy_met : {at : ReceiverAt} {s : GroundState T W} → Met RECEIVING at → Stands at s → Stands (waits again) s
@@ -121,7 +122,7 @@ module _ {T W : Type 0} where
     met_with : (word : ℕ) → n ≡ word → Met word found.at
     met_with word e = subst (λ n. Met n found.at) e found.is_so
 
-    pub met_open : n ≡ EMPTY → Stands (here looked) s
+    pub met_open : n ≡ EMPTY → Stands (idle after_load) s
     met_open e = open_met (met_with EMPTY e) found.stands
 
     pub met_copied : n ≡ RECEIVING → Stands (waits again) s
@@ -196,9 +197,9 @@ module _ {T W : Type 0} where
   gone_leaves e is =
       subst (λ at. LeavesPolled {T = T} (Ready (Err e)) at) (sym is.stands.phase) (closed_leaves is.at e is.is_one)
 
-  pub gone : (s : GroundState T W) (f : Found) → EndsPoll f s → ¬ (f ≡ F.Message) → ¬ (f ≡ F.Nothing)
+  pub poll_gone : (s : GroundState T W) (f : Found) → EndsPoll f s → ¬ (f ≡ F.Message) → ¬ (f ≡ F.Nothing)
       → (f ≡ F.Closed) × StandsIn IsClosedAt s
-  gone s F.Message ends a b = absurd (a refl)
-  gone s F.Closed ends a b = (refl, ends)
-  gone s F.Unclosed ends a b = absurd ends
-  gone s F.Nothing ends a b = absurd (b refl)
+  poll_gone s F.Message ends a b = absurd (a refl)
+  poll_gone s F.Closed ends a b = (refl, ends)
+  poll_gone s F.Overwritten ends a b = absurd ends
+  poll_gone s F.Nothing ends a b = absurd (b refl)

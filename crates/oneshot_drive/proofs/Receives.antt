@@ -1,7 +1,8 @@
 -- The obligations of each receive that blocks after the word that decides it, and the runs that its steps make.
 use Rattle.oneshot_drive.proofs.Names.{◌≡◌, ℕ, Bool, true, false, List, [], ◌∷◌, Option, Result, Ok, Err, refl, sym, subst, RecvError, RecvTimeoutError, Found, Reply, ReceiverPos, Try, Ref, Timed}
 use Rattle.oneshot_drive.proofs.Names.{Value, Close, Take, CloseOnly, StartLoad, SumClock, RecvLoad, RecvTake, RecvFreeGot, RecvFreeGone, Recv, RecvTimeout, Store, Log, Grows, receiver_of, did, took}
-use Rattle.oneshot_drive.proofs.Names.{clocked, worded, between, ReceiverAt, here, full, Got, at_once, unclosed, Swapping, Closing, closed_itself, disconnected, receiver_moves, receiver_next, empty}
+use Rattle.oneshot_drive.proofs.Names.{clocked, worded, after_timeout, ReceiverAt, idle, full, Got, at_once, unclosed, Swapping, Closing, closed_itself, disconnected}
+use Rattle.oneshot_drive.proofs.Names.{receiver_moves, receiver_next, empty}
 use Rattle.oneshot_drive.proofs.Names.{filled, receiver_step, receiver_row, Goes, last, more, Ran, ReceiverRan, vacant, receiver_moved, and_then, GroundState, StandsWith, Stands, receiver_slots}
 use Rattle.oneshot_drive.proofs.Names.{ReceiverAsks, ReceiverMakes, Path, value_end, EndsAt, Returns, returned, taken, Refills, refilled, HandAt, AtRest, rests_open, IsClosedAt, LeavesClosed}
 use Rattle.oneshot_drive.proofs.Names.{left_received, left_closed, LeavesTimed, timed_received, timed_out, timed_closed, IsReady, Hands, as_it_was, sender_took, came_back, is_room, has_row, Each}
@@ -84,8 +85,8 @@ module _ {T W : Type 0} where
   shut_ran n path s = ran path (worded (Store DISCONNECTED) n ∷ []) (last _ refl refl) s refl refl
 
   -- or its deadline is over
-  pub out_rests : {s : GroundState T W} → Stands (here between) s → AtRest s
-  out_rests is = record { at = here between; is_one = rests_open between; stands = is }
+  pub out_rests : {s : GroundState T W} → Stands (idle after_timeout) s → AtRest s
+  out_rests is = record { at = idle after_timeout; is_one = rests_open after_timeout; stands = is }
 
   -- `recv_timeout`: its reading of the clock leaves its state unchanged
   pub clock_rests : {b a : GroundState T W} → AtRest b → (past : Bool) → Grows b.log a.log (clocked past ∷ [])
@@ -132,7 +133,7 @@ module _ {T W : Type 0} where
   pub gone : (s : GroundState T W) (f : Found) → ¬ (f ≡ F.Message) → EndsAt false f s → Gone f s
   gone s F.Message a ends = absurd (a refl)
   gone s F.Closed a ends = record { message = is_room ends.1.message; waker = is_room ends.1.waker; leads = refl }
-  gone s F.Unclosed a ends = record { message = is_room ends.1.message; waker = is_room ends.1.waker; leads = refl }
+  gone s F.Overwritten a ends = record { message = is_room ends.1.message; waker = is_room ends.1.waker; leads = refl }
   gone s F.Nothing a ends = let timed = ends.0 in absurd (cc)
 
   pub gone_freed : {l k j : Log T W} {f : Found} {s : GroundState T W} → Gone f s
@@ -146,7 +147,7 @@ module _ {T W : Type 0} where
       → Returns hand after
   hand_back s F.Message at hand = hand
   hand_back s F.Closed at hand = hand
-  hand_back s F.Unclosed at hand = hand
+  hand_back s F.Overwritten at hand = hand
   hand_back s F.Nothing at hand = let timed = at.0 in absurd (cc)
 
 -- the hand after the call
@@ -155,14 +156,14 @@ pub hands : {W : Type 0} {hand after : Option W} {q : ReceiverAt} → Returns ha
 hands {q} (returned hand) c at = as_it_was hand q
 hands (taken k) c at = rw at (sender_took k c)
 
-pub out_hands : {W : Type 0} {hand after : Option W} {q : ReceiverAt} → Refills hand after → q ≡ here between
+pub out_hands : {W : Type 0} {hand after : Option W} {q : ReceiverAt} → Refills hand after → q ≡ idle after_timeout
     → Hands hand after q
 out_hands (refilled k back) at = rw at (came_back k back)
 
 pub full_leaves : {T : Type 0} {q : ReceiverAt} (x : T) → q ≡ disconnected closed_itself → LeavesTimed (Ok x) q
 full_leaves x at = subst (λ q. LeavesTimed (Ok x) q) (sym at) (timed_received x)
 
-pub out_leaves : {T : Type 0} {q : ReceiverAt} → q ≡ here between → LeavesTimed {T = T} (Err Timed.Timeout) q
+pub out_leaves : {T : Type 0} {q : ReceiverAt} → q ≡ idle after_timeout → LeavesTimed {T = T} (Err Timed.Timeout) q
 out_leaves at = rw at timed_out
 
 -- `recv_ref`: without a deadline the receiver is closed afterwards

@@ -1,6 +1,7 @@
 -- What a receiver between two calls finds by its load, and the runs of `try_recv`.
 use Rattle.oneshot_drive.proofs.Names.{◌≡◌, ℕ, true, false, [], ◌∷◌, Ok, Err, refl, sym, ◌∙◌, subst, ◌==◌, eq-eqb, Try, Close, Take, TryRecv, Load, Store, Swap, Log, Grows, receiver_of, took, worded}
-use Rattle.oneshot_drive.proofs.Names.{ReceiverAt, here, looked, between, full, at_once, Closing, found_closed, closed_itself, disconnected, resolved, receiver_moves, empty, filled, last, more}
+use Rattle.oneshot_drive.proofs.Names.{ReceiverAt, idle, after_load, after_timeout, full, at_once, Closing, found_closed, closed_itself, disconnected, resolved, receiver_moves}
+use Rattle.oneshot_drive.proofs.Names.{empty, filled, last, more}
 use Rattle.oneshot_drive.proofs.Names.{ReceiverRan, Held, ReceiverFinds, is_same_op, and_then, GroundState, StandsWith, Stands, receiver_slots, ReceiverAsks, ReceiverMakes, Rests, rests_new}
 use Rattle.oneshot_drive.proofs.Names.{rests_open, rests_closed, AtRest, IsClosedAt, Leaves, leaves_open, leaves_closed, has_row, Each, landings, found_so, DISCONNECTED, EMPTY, MESSAGE}
 use Rattle.oneshot_errors.specs.declared.try_recv.TryRecvError.TheVariants as E
@@ -10,32 +11,32 @@ use Rattle.oneshot_drive.proofs.AfterOperations.{lone, Came, came, asks, lands}
 
 -- it may load, and may be dropped
 rests_load : {at : ReceiverAt} → Rests at → has_row Load (receiver_slots at) (receiver_moves at) ≡ true
-rests_load (rests_open looked) = refl
+rests_load (rests_open after_load) = refl
 rests_load _ = refl
 
 rests_swap : {at : ReceiverAt} → Rests at → has_row (Swap DISCONNECTED) (receiver_slots at) (receiver_moves at) ≡ true
-rests_swap (rests_open looked) = refl
+rests_swap (rests_open after_load) = refl
 rests_swap _ = refl
 
 -- the word that its load finds, and where that leads
 pub data Looked : ℕ → ReceiverAt → Type 0 where
-  looked_empty : Looked EMPTY (here looked)
+  looked_empty : Looked EMPTY (idle after_load)
   looked_message : Looked MESSAGE (full at_once)
   looked_closed : (c : Closing) → Looked DISCONNECTED (disconnected c)
 
 rests_look : {at : ReceiverAt} → Rests at
     → Each (λ n next after. Looked n next × (after ≡ receiver_slots next)) (landings Load (receiver_moves at))
 rests_look rests_new = ((looked_empty, refl), ((looked_message, refl), ((looked_closed found_closed, refl), tt)))
-rests_look (rests_open looked) =
+rests_look (rests_open after_load) =
     ((looked_empty, refl), ((looked_message, refl), ((looked_closed found_closed, refl), tt)))
-rests_look (rests_open between) =
+rests_look (rests_open after_timeout) =
     ((looked_empty, refl), ((looked_message, refl), ((looked_closed found_closed, refl), tt)))
 rests_look (rests_closed c) = ((looked_closed c, refl), tt)
 
 at_message : {at : ReceiverAt} → Looked MESSAGE at → at ≡ full at_once
 at_message looked_message = refl
 
-at_empty : {at : ReceiverAt} → Looked EMPTY at → at ≡ here looked
+at_empty : {at : ReceiverAt} → Looked EMPTY at → at ≡ idle after_load
 at_empty looked_empty = refl
 
 at_closed : {at : ReceiverAt} → Looked DISCONNECTED at → (c : Closing) × (at ≡ disconnected c)
@@ -69,7 +70,7 @@ module _ {T W : Type 0} where
     pub loaded_full : n ≡ MESSAGE → Stands (full at_once) s
     loaded_full e = subst (λ at. Stands at s) (at_message (subst (λ n. Looked n found.at) e found.is_so)) found.stands
 
-    pub loaded_open : n ≡ EMPTY → Stands (here looked) s
+    pub loaded_open : n ≡ EMPTY → Stands (idle after_load) s
     loaded_open e = subst (λ at. Stands at s) (at_empty (subst (λ n. Looked n found.at) e found.is_so)) found.stands
 
     pub loaded_closed : n ≡ DISCONNECTED → (c : Closing) × Stands (disconnected c) s
@@ -108,10 +109,11 @@ module _ {T W : Type 0} where
   took_leaves x is = subst (λ at. Leaves (Ok x) at) (sym is.phase) (leaves_received x)
 
   -- or finds none
-  pub rests_here : {s : GroundState T W} → Stands (here looked) s → AtRest s
-  rests_here here_looked = record { at = here looked; is_one = rests_open looked; stands = here_looked }
+  pub rests_here : {s : GroundState T W} → Stands (idle after_load) s → AtRest s
+  rests_here here_looked = record { at = idle after_load; is_one = rests_open after_load; stands = here_looked }
 
-  pub open_leaves : {s : GroundState T W} → Stands (here looked) s → Leaves {T = T} (Err E.Empty) (receiver_of s.log)
+  pub open_leaves : {s : GroundState T W} → Stands (idle after_load) s
+      → Leaves {T = T} (Err E.Empty) (receiver_of s.log)
   open_leaves here_looked = subst (λ at. Leaves {T = T} (Err E.Empty) at) (sym here_looked.phase) leaves_open
 
   pub closed_leaves : {c : Closing} {s : GroundState T W} → Stands (disconnected c) s

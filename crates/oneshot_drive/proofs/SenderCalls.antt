@@ -1,7 +1,9 @@
 -- The obligations of each call of the sender to its ground.
 use Rattle.oneshot_drive.proofs.Names.{◌≡◌, ℕ, Bool, true, false, not, [], ◌∷◌, refl, sym, ◌∙◌, subst, ◌==◌, TakeWaker, Wake, Op, Swap, Add, Xor, Log, Grows, sender_of, wrote, handed, worded, By}
-use Rattle.oneshot_drive.proofs.Names.{sending, dropping, SenderAt, fresh, owes, late, no_sender, sender_moves, Share, none, empty, filled, Slots, Held, away, vacant, held, IsSlot, is_away, is_vacant}
-use Rattle.oneshot_drive.proofs.Names.{is_held, Turns, stays_away, stays_vacant, stays_held, gives_room, gives_thing, gets_room, gets_thing, In, finds, SenderMay, SenderFinds, leads, and_then}
+use Rattle.oneshot_drive.proofs.Names.{sending, dropping, SenderAt, fresh, owes, found_gone, no_sender, sender_moves, Share, none, empty, filled, Slots, Held, away, vacant, held}
+use Rattle.oneshot_drive.proofs.Names.{IsSlot, is_away, is_vacant}
+use Rattle.oneshot_drive.proofs.Names.{is_held, SlotChange, stays_away, stays_vacant, stays_held, gives_room, gives_thing, gets_room, gets_thing, In, finds, SenderMay, SenderFinds}
+use Rattle.oneshot_drive.proofs.Names.{leads_exactly, and_then}
 use Rattle.oneshot_drive.proofs.Names.{sender_moved, GroundState, StandsWith, SenderMakes, IsFresh, IsError, IsLate, is_late, is_overtaken, Owes, LastFinds, finds_waiting, finds_overdue, finds_gone}
 use Rattle.oneshot_drive.proofs.Names.{Finishes, IsOvertaken, is_in, is_room, put_in, as_before, turned, has_row, landings_of, landed, Each, each, found_so, sender_apart, RECEIVING, DISCONNECTED}
 use Rattle.oneshot_drive.proofs.Names.{EMPTY, MESSAGE}
@@ -14,16 +16,16 @@ is_swap (Swap new) = true
 is_swap _ = false
 
 -- the word that it finds, and the sender's state then
-record EndsAt (n : ℕ) (next : SenderAt) (after : Slots) : Type 0 where
+record LastEndsAt (n : ℕ) (next : SenderAt) (after : Slots) : Type 0 where
   here : Bool
   finds : LastFinds n here
   late : here ≡ false → IsLate next × (after.1 ≡ empty) × ¬ (after.0 ≡ none)
   given : here ≡ true → after.0 ≡ none
 
-still_here : {n : ℕ} {next : SenderAt} → LastFinds n true → EndsAt n next (none, none)
+still_here : {n : ℕ} {next : SenderAt} → LastFinds n true → LastEndsAt n next (none, none)
 still_here it = record { here = true; finds = it; late = λ e. cc; given = λ e. refl }
 
-last_ends : (at : SenderAt) → Each EndsAt (landings_of is_swap (sender_moves at))
+last_ends : (at : SenderAt) → Each LastEndsAt (landings_of is_swap (sender_moves at))
 last_ends (owes sending) = (
   still_here finds_waiting,
   (
@@ -52,7 +54,7 @@ not_away own is_away e = own refl
 not_away own is_vacant e = cc
 not_away own (is_held x) e = cc
 
-unmoved : {X : Type 0} {s t : Share} {h h' : Held X} → Turns s t h h' → ¬ (t ≡ none) → ¬ (h ≡ away) → h' ≡ h
+unmoved : {X : Type 0} {s t : Share} {h h' : Held X} → SlotChange s t h h' → ¬ (t ≡ none) → ¬ (h ≡ away) → h' ≡ h
 unmoved stays_away own has = absurd (own refl)
 unmoved stays_vacant own has = refl
 unmoved (stays_held x) own has = refl
@@ -62,8 +64,8 @@ unmoved gets_room own has = absurd (has refl)
 unmoved (gets_thing x) own has = absurd (has refl)
 
 -- a slot that is not the end's
-pub left : {X : Type 0} {h : Held X} → IsSlot none h → h ≡ away
-left is_away = refl
+pub slot_left : {X : Type 0} {h : Held X} → IsSlot none h → h ≡ away
+slot_left is_away = refl
 
 -- whether the receiver is here, by the word that the swap found
 here_by : {n : ℕ} {here : Bool} → LastFinds n here → here ≡ not (n == DISCONNECTED)
@@ -94,12 +96,12 @@ module _ {T W : Type 0} where
     added_waiting e made grows = lone (at_word RECEIVING e (sender_lands b Add n is.phase made grows))
 
     pub added : n ≡ DISCONNECTED → SenderMakes Add n b a → Grows b.log a.log (worded Add n ∷ [])
-        → Lone sender_of n a (DISCONNECTED, late sending, (filled, empty))
+        → Lone sender_of n a (DISCONNECTED, found_gone sending, (filled, empty))
     added e made grows = lone (at_word DISCONNECTED e (sender_lands b Add n is.phase made grows))
 
-    pub flipped : n ≡ DISCONNECTED → SenderMakes Xor n b a → Grows b.log a.log (worded Xor n ∷ [])
-        → Lone sender_of n a (DISCONNECTED, late dropping, (empty, empty))
-    flipped e made grows = lone (at_word DISCONNECTED e (sender_lands b Xor n is.phase made grows))
+    pub xored : n ≡ DISCONNECTED → SenderMakes Xor n b a → Grows b.log a.log (worded Xor n ∷ [])
+        → Lone sender_of n a (DISCONNECTED, found_gone dropping, (empty, empty))
+    xored e made grows = lone (at_word DISCONNECTED e (sender_lands b Xor n is.phase made grows))
 
     -- it found no other word
     module _ {X : Type 0} (not_3 : ¬ (n ≡ EMPTY)) (not_0 : ¬ (n ≡ RECEIVING)) (not_2 : ¬ (n ≡ DISCONNECTED)) where
@@ -108,8 +110,8 @@ module _ {T W : Type 0} where
           unlisted (not_at DISCONNECTED not_2
           (not_at RECEIVING not_0 (not_at EMPTY not_3 (sender_lands b Add n is.phase made grows))))
 
-      pub flipped_none : SenderMakes Xor n b a → Grows b.log a.log (worded Xor n ∷ []) → X
-      flipped_none made grows =
+      pub xored_none : SenderMakes Xor n b a → Grows b.log a.log (worded Xor n ∷ []) → X
+      xored_none made grows =
           unlisted (not_at DISCONNECTED not_2
           (not_at RECEIVING not_0 (not_at EMPTY not_3 (sender_lands b Xor n is.phase made grows))))
 
@@ -133,20 +135,20 @@ module _ {T W : Type 0} where
         owed DISCONNECTED (λ e. cc) (lone (at_word RECEIVING e (sender_lands b Xor n is.phase made grows))).stands refl
 
     -- its slot is still empty
-    pub flipped_room : n ≡ RECEIVING → SenderMakes Xor n b a → Grows b.log a.log (worded Xor n ∷ [])
+    pub xored_room : n ≡ RECEIVING → SenderMakes Xor n b a → Grows b.log a.log (worded Xor n ∷ [])
         → a.message ≡ vacant
-    flipped_room e made grows =
+    xored_room e made grows =
         is_room (lone (at_word RECEIVING e (sender_lands b Xor n is.phase made grows))).stands.message
 
   -- a refused `send`
-  pub refused : {by : By} {a : GroundState T W} (x : T) → StandsWith sender_of (late by) (filled, empty) a
+  pub refused_error : {by : By} {a : GroundState T W} (x : T) → StandsWith sender_of (found_gone by) (filled, empty) a
       → a.message ≡ held x → IsError (held x) a
-  refused x stands message = record { keeps = message; no_waker = is_room stands.waker }
+  refused_error x stands message = record { keeps = message; no_waker = is_room stands.waker }
 
   pub overtaken_error : {b a : GroundState T W} {x : T} → IsOvertaken b a → b.message ≡ held x → IsError (held x) a
   overtaken_error over message = record { keeps = over.message ∙ message; no_waker = over.waker }
 
-  pub is_too_late : {by : By} {slots : Slots} {a : GroundState T W} → StandsWith sender_of (late by) slots a
+  pub is_too_late : {by : By} {slots : Slots} {a : GroundState T W} → StandsWith sender_of (found_gone by) slots a
       → IsLate (sender_of a.log)
   is_too_late {by} stands = subst IsLate (sym stands.phase) (is_late by)
 
@@ -162,7 +164,7 @@ module _ {T W : Type 0} where
         → SenderFinds (sender_of k) (Swap word) n m w m' w' → Grows k j (worded (Swap word) n ∷ [])
         → Grows j z (handed Wake y ∷ []) → woken y → Finishes word (not (n == DISCONNECTED)) woken b.log z
     finished_as n made t u woke =
-        let ends = (found_so is_swap EndsAt refl (last_ends (sender_of k)) made).is_so in
+        let ends = (found_so is_swap LastEndsAt refl (last_ends (sender_of k)) made).is_so in
         record {
           found = n;
           finds = subst (LastFinds n) (here_by ends.finds) ends.finds;
@@ -178,7 +180,7 @@ module _ {T W : Type 0} where
       → IsLate then × (m' ≡ m) × (w' ≡ vacant)
   late_over {at} {w'} leads_to (finds {before} {after} {next} row message waker) e has =
       let ends =
-      each EndsAt (landings_of is_swap (sender_moves at)) (last_ends at)
+      each LastEndsAt (landings_of is_swap (sender_moves at)) (last_ends at)
       (landed is_swap (sender_moves at) refl row) in
       let late = ends.late (here_by ends.finds ∙ e) in (
         subst IsLate (sym (leads_to next before after row)) late.0,
@@ -192,9 +194,9 @@ module _ {T W : Type 0} where
       → not (n == DISCONNECTED) ≡ true → m' ≡ away
   given_over {at} {m'} (finds row message waker) e =
       let ends =
-      each EndsAt (landings_of is_swap (sender_moves at)) (last_ends at)
+      each LastEndsAt (landings_of is_swap (sender_moves at)) (last_ends at)
       (landed is_swap (sender_moves at) refl row) in
-      left (subst (λ s. IsSlot s m') (ends.given (here_by ends.finds ∙ e)) (turned message))
+      slot_left (subst (λ s. IsSlot s m') (ends.given (here_by ends.finds ∙ e)) (turned message))
 
   module _ {b k j z : GroundState T W} {word : ℕ} (y : W) (is : Owes word b) (message : k.message ≡ b.message) where
     pub overtaken_as : (n : ℕ) → SenderMakes (Swap word) n k j → Grows k.log j.log (worded (Swap word) n ∷ [])
@@ -203,7 +205,7 @@ module _ {T W : Type 0} where
         → IsOvertaken b z
     overtaken_as n made t u kept waker e =
         let late =
-        late_over (λ next before after row. sender_moved (Swap word) n t ∙ leads no_sender
+        late_over (λ next before after row. sender_moved (Swap word) n t ∙ leads_exactly no_sender
         (sender_moves (sender_of k.log)) (sender_apart (sender_of k.log)) row) made e
         (λ gone. is.has_slot (sym message ∙ gone)) in
         record {

@@ -1,6 +1,6 @@
 -- What a receive that blocks does before it waits: its load, its waker in the slot, and its first swap.
 use Rattle.oneshot_drive.proofs.Names.{◌≡◌, ℕ, Bool, true, false, [], ◌∷◌, Option, Some, None, refl, sym, ap, ◌∙◌, subst, Found, ReceiverPos, Ref, Value, StartSwap, RecvSwap, Load, Swap, Log, Grows}
-use Rattle.oneshot_drive.proofs.Names.{receiver_of, handed, worded, ReceiverAt, here, looked, waits, blocked, swapped, storing, unclosed, receiver_moves, none, empty, filled, receiver_step}
+use Rattle.oneshot_drive.proofs.Names.{receiver_of, handed, worded, ReceiverAt, idle, after_load, waits, blocked, swapped, storing, unclosed, receiver_moves, none, empty, filled, receiver_step}
 use Rattle.oneshot_drive.proofs.Names.{receiver_row, Outcome, Goes, Held, vacant, held, IsSlot, ReceiverFinds, GroundState, StandsWith, Stands, ReceiverAsks, ReceiverMakes, IsReady, Path, ReceiveBy}
 use Rattle.oneshot_drive.proofs.Names.{by_ref, by_value, load_of, write_of, wait_of, end_of, EndsAt, Returns, returned, taken, refilled, HandAt, WaitedHand, landings, RECEIVING, DISCONNECTED, EMPTY}
 use Rattle.oneshot_drive.proofs.Names.{MESSAGE}
@@ -18,7 +18,7 @@ swap_of by_value = Value RecvSwap
 -- the words on which it takes its waker back, and what it has found
 pub data TakesBack : ℕ → Found → Type 0 where
   over_message : TakesBack MESSAGE F.Message
-  over_end : TakesBack DISCONNECTED F.Unclosed
+  over_end : TakesBack DISCONNECTED F.Overwritten
 
 module _ {T W : Type 0} where
   -- `find`: its load
@@ -51,10 +51,10 @@ module _ {T W : Type 0} where
   ready_waker None n ready made e = never EMPTY refl e (ready refl) made
 
   -- `store_and_wait`: it swaps, with its waker in the slot
-  module _ {b k : GroundState T W} {y : W} (is : Stands (here looked) b)
+  module _ {b k : GroundState T W} {y : W} (is : Stands (idle after_load) b)
       (write : Grows b.log k.log (handed Steps.WriteWaker y ∷ [])) (message : k.message ≡ b.message)
       (waker : k.waker ≡ held y) where
-    has_written : StandsWith receiver_of (here looked) (none, filled) k
+    has_written : StandsWith receiver_of (idle after_load) (none, filled) k
     has_written = wrote_waker is write message waker
 
     pub stored_asks : ReceiverAsks (Swap RECEIVING) k
@@ -63,11 +63,11 @@ module _ {T W : Type 0} where
     -- where the swap landed
     pub stored : {a : GroundState T W} (n : ℕ) → ReceiverMakes (Swap RECEIVING) n k a
         → Grows k.log a.log (worded (Swap RECEIVING) n ∷ [])
-        → Lands receiver_of n a (landings (Swap RECEIVING) (receiver_moves (here looked)))
+        → Lands receiver_of n a (landings (Swap RECEIVING) (receiver_moves (idle after_load)))
     stored n made grows = lands k (Swap RECEIVING) n has_written.phase made grows
 
   module _ {n : ℕ} {s : GroundState T W}
-      (found : Lands receiver_of n s (landings (Swap RECEIVING) (receiver_moves (here looked)))) where
+      (found : Lands receiver_of n s (landings (Swap RECEIVING) (receiver_moves (idle after_load)))) where
     pub stored_waits : n ≡ EMPTY → Stands (waits blocked) s
     stored_waits e = (lone (at_word EMPTY e found)).stands
 
@@ -90,7 +90,7 @@ module _ {T W : Type 0} where
       withdrew_full timed e =
           (swapped storing, refl, withdrew_waker (lone (at_word MESSAGE e found)).stands back message waker)
 
-      pub withdrew_over : (timed : Bool) → ¬ (n ≡ EMPTY) → ¬ (n ≡ MESSAGE) → EndsAt timed F.Unclosed z
+      pub withdrew_over : (timed : Bool) → ¬ (n ≡ EMPTY) → ¬ (n ≡ MESSAGE) → EndsAt timed F.Overwritten z
       withdrew_over timed no_empty no_message =
           (storing, withdrew_waker (stored_over no_empty no_message).stands back message waker)
 
@@ -146,5 +146,5 @@ pub waited_hand : {W : Type 0} {hand before : Option W} (after : Option W) (f : 
     → before ≡ None → WaitedHand f before after → HandAt f hand after
 waited_hand _ F.Message y is empty_hand hand = rw (is, hand, empty_hand) (taken y)
 waited_hand _ F.Closed y is empty_hand hand = rw (is, hand, empty_hand) (taken y)
-waited_hand _ F.Unclosed y is empty_hand hand = rw (is, hand, empty_hand) (taken y)
+waited_hand _ F.Overwritten y is empty_hand hand = rw (is, hand, empty_hand) (taken y)
 waited_hand _ F.Nothing y is empty_hand hand = rw (is, hand.1) (refilled y hand.0)

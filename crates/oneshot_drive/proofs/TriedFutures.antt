@@ -1,6 +1,7 @@
 -- What `try_recv` of a future finds by its load, how it leaves the future, and its runs.
 use Rattle.oneshot_drive.proofs.Names.{◌≡◌, ℕ, [], ◌∷◌, Some, Result, Ok, Err, refl, sym, ap, ◌∙◌, subst, TryRecvError, Try, Future, Close, AsyncTryLoad, AsyncTryRecv, Load, Store, Log, Grows}
-use Rattle.oneshot_drive.proofs.Names.{receiver_of, took, worded, ReceiverAt, looked, between, full, Got, at_once, waited, swapped, by_future, by_poll, Closing, closed_itself, disconnected, resolved}
+use Rattle.oneshot_drive.proofs.Names.{receiver_of, took, worded, ReceiverAt, after_load, after_timeout, full, Got, at_once, waited, swapped, by_future, by_poll, Closing}
+use Rattle.oneshot_drive.proofs.Names.{closed_itself, disconnected, resolved}
 use Rattle.oneshot_drive.proofs.Names.{receiver_next, receiver_moves, empty, receiver_row, Goes, Answers, ReceiverRan, and_then, GroundState, StandsWith, Stands, StandsIn, ReceiverMakes, rests_new}
 use Rattle.oneshot_drive.proofs.Names.{rests_open, rests_closed, Polled, unpolled, left_copy, kept_copy, found_sender, has_resolved, IsPolled, LeavesTried, tried_received, tried_resolved}
 use Rattle.oneshot_drive.proofs.Names.{tried_closed, tried_uncopied, tried_its_copy, tried_claimed, is_registered, HandsNoWaker, Each, landings, DISCONNECTED, MESSAGE}
@@ -17,7 +18,7 @@ tried_polled : {T : Type 0} {result : Result T TryRecvError} {at : ReceiverAt} �
 tried_polled (tried_received x) = unpolled (rests_closed closed_itself)
 tried_polled (tried_resolved x) = has_resolved closed_itself
 tried_polled (tried_closed c) = unpolled (rests_closed c)
-tried_polled tried_uncopied = unpolled (rests_open looked)
+tried_polled tried_uncopied = unpolled (rests_open after_load)
 tried_polled tried_its_copy = kept_copy
 tried_polled tried_claimed = found_sender
 
@@ -48,8 +49,8 @@ Unmoved at n next = ¬ (n ≡ MESSAGE) → ¬ (n ≡ DISCONNECTED) → is_regist
 
 unmoved : {at : ReceiverAt} → Polled at → Each (λ n next after. Unmoved at n next) (landings Load (receiver_moves at))
 unmoved (unpolled rests_new) = (λ a b. refl, (λ a b. refl, (λ a b. refl, tt)))
-unmoved (unpolled (rests_open looked)) = (λ a b. refl, (λ a b. refl, (λ a b. refl, tt)))
-unmoved (unpolled (rests_open between)) = (λ a b. refl, (λ a b. refl, (λ a b. refl, tt)))
+unmoved (unpolled (rests_open after_load)) = (λ a b. refl, (λ a b. refl, (λ a b. refl, tt)))
+unmoved (unpolled (rests_open after_timeout)) = (λ a b. refl, (λ a b. refl, (λ a b. refl, tt)))
 unmoved (unpolled (rests_closed c)) = (λ a b. refl, tt)
 unmoved left_copy = (λ a b. refl, (λ a b. refl, (λ a b. absurd (a refl), (λ a b. absurd (b refl), tt))))
 unmoved kept_copy = (λ a b. refl, (λ a b. refl, (λ a b. absurd (a refl), (λ a b. absurd (b refl), tt))))

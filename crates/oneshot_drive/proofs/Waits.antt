@@ -1,6 +1,7 @@
 -- What a receive does while its waker is stored: it reads the clock, parks and loads, until a word decides it.
 use Rattle.oneshot_drive.proofs.Names.{◌≡◌, ℕ, Bool, true, false, [], ◌∷◌, Some, refl, sym, ap, ◌∙◌, subst, Found, ReceiverPos, Ref, Timed, Value, Park, ParkLoad, Clock, TimedLoad, EndSwap, EndBack}
-use Rattle.oneshot_drive.proofs.Names.{LatePark, LateLoad, RecvPark, RecvParkLoad, Load, Swap, Log, Grows, receiver_of, handed, parked, clocked, worded, ReceiverAt, here, between, waits, blocked}
+use Rattle.oneshot_drive.proofs.Names.{LatePark, LateLoad, RecvPark, RecvParkLoad, Load, Swap, Log, Grows, receiver_of, handed, parked, clocked, worded, ReceiverAt, idle}
+use Rattle.oneshot_drive.proofs.Names.{after_timeout, waits, blocked}
 use Rattle.oneshot_drive.proofs.Names.{overdue, waited, swapped, stopping, found_closed, receiver_moves, none, filled, receiver_row, receiver_rows, receiver_step, Outcome, Goes, row_for, vacant}
 use Rattle.oneshot_drive.proofs.Names.{GroundState, StandsWith, Stands, receiver_slots, ReceiverAsks, ReceiverMakes, Path, ReceiveBy, by_ref, by_value, wait_of, asked_of, ref_end, end_of, EndsAt}
 use Rattle.oneshot_drive.proofs.Names.{Parks, parks_waiting, parks_overdue, has_row, landings, RECEIVING, UNPARKING, DISCONNECTED, EMPTY, MESSAGE}
@@ -163,13 +164,13 @@ module _ {T W : Type 0} where
 
   module _ {n : ℕ} {s : GroundState T W}
       (found : Lands receiver_of n s (landings (Swap EMPTY) (receiver_moves (waits blocked)))) where
-    pub stopped_open : n ≡ RECEIVING → StandsWith receiver_of (here between) (none, filled) s
+    pub stopped_open : n ≡ RECEIVING → StandsWith receiver_of (idle after_timeout) (none, filled) s
     stopped_open e = (lone (at_word RECEIVING e found)).stands
 
     pub stopped_full : n ≡ MESSAGE → EndsAt true F.Message s
     stopped_full e = (swapped stopping, refl, (lone (at_word MESSAGE e found)).stands)
 
-    pub stopped_over : n ≡ DISCONNECTED → EndsAt true F.Unclosed s
+    pub stopped_over : n ≡ DISCONNECTED → EndsAt true F.Overwritten s
     stopped_over e = (stopping, (lone (at_word DISCONNECTED e found)).stands)
 
     pub stopped_late : n ≡ UNPARKING → Stands overdue s

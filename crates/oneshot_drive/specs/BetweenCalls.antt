@@ -12,7 +12,8 @@ use Rattle.oneshot_machine.specs.declared.states.Op.TheVariants.{Swap}
 use Rattle.oneshot_machine.specs.declared.states.TheConstants.{UNPARKING, DISCONNECTED, EMPTY}
 use Rattle.oneshot_machine.specs.Logs.{Event, Log, Grows, sender_of, handed, worded}
 use Rattle.oneshot_machine.specs.Over.{IsLate}
-use Rattle.oneshot_machine.specs.Phases.{By, SenderAt, fresh, finished, overtaken, Closing, closed_itself, Open, looked, between, ReceiverAt, first, here, waits, claimed, disconnected, resolved}
+use Rattle.oneshot_machine.specs.Phases.{By, SenderAt, fresh, finished, overtaken, Closing, closed_itself, Open, after_load, after_timeout, ReceiverAt, first, idle, waits, claimed}
+use Rattle.oneshot_machine.specs.Phases.{disconnected, resolved}
 use Rattle.oneshot_machine.specs.Slots.{Held, away, vacant, held, SenderMay}
 use Rattle.oneshot_drive.specs.Grounds.{GroundState, SenderStands, StandsIn}
 
@@ -66,7 +67,7 @@ pub record IsOvertaken {T W : Type 0} (before after : GroundState T W) : Type 0 
 -- the phases of a receiver between two calls
 pub data Rests : ReceiverAt → Type 0 where
   rests_new : Rests first
-  rests_open : (o : Open) → Rests (here o)
+  rests_open : (o : Open) → Rests (idle o)
   rests_closed : (c : Closing) → Rests (disconnected c)
 
 -- a receiver between two calls
@@ -84,7 +85,7 @@ IsClosedAt at = IsTrue (is_closed_at at)
 
 abbrev pub is_open_at : ReceiverAt → Bool
 is_open_at first = true
-is_open_at (here o) = true
+is_open_at (idle o) = true
 -- a future, with its copy in the slot, or with the sender about to finish
 is_open_at (waits w) = true
 is_open_at claimed = true
@@ -97,7 +98,7 @@ IsOpenAt at = IsTrue (is_open_at at)
 -- How `try_recv` leaves a receiver: closed after the message or the disconnected error, open after `Empty`.
 pub data Leaves {T : Type 0} : Result T TryRecvError → ReceiverAt → Type 0 where
   leaves_received : (x : T) → Leaves (Ok x) (disconnected closed_itself)
-  leaves_open : Leaves (Err E.Empty) (here looked)
+  leaves_open : Leaves (Err E.Empty) (idle after_load)
   leaves_closed : (c : Closing) → Leaves (Err E.Disconnected) (disconnected c)
 
 -- A receive that blocks without a deadline leaves it closed.
@@ -108,7 +109,7 @@ pub data LeavesClosed {T : Type 0} : Result T RecvError → ReceiverAt → Type 
 -- One with a deadline leaves it open after `Timeout`, otherwise closed.
 pub data LeavesTimed {T : Type 0} : Result T RecvTimeoutError → ReceiverAt → Type 0 where
   timed_received : (x : T) → LeavesTimed (Ok x) (disconnected closed_itself)
-  timed_out : LeavesTimed (Err Timed.Timeout) (here between)
+  timed_out : LeavesTimed (Err Timed.Timeout) (idle after_timeout)
   timed_closed : (c : Closing) → LeavesTimed (Err Timed.Disconnected) (disconnected c)
 
 -- The hand of a receiver that may block: it has a waker, unless the receiver is closed.
@@ -120,7 +121,7 @@ IsReady hand q = hand ≡ None → IsClosedAt q
 pub data Hands {W : Type 0} : Option W → Option W → ReceiverAt → Type 0 where
   as_it_was : (hand : Option W) (q : ReceiverAt) → Hands hand hand q
   sender_took : (k : W) (c : Closing) → Hands (Some k) None (disconnected c)
-  came_back : (k back : W) → Hands (Some k) (Some back) (here between)
+  came_back : (k back : W) → Hands (Some k) (Some back) (idle after_timeout)
 
 abbrev pub send_reply : Bool → Reply
 send_reply true = Sent

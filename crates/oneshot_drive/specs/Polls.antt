@@ -13,7 +13,7 @@ use Rattle.oneshot_machine.specs.declared.machine.Reply.TheVariants as R
 use Rattle.oneshot_machine.specs.declared.machine.receiver.ReceiverPos.{ReceiverPos}
 use Rattle.oneshot_machine.specs.declared.machine.receiver.ReceiverPos.TheVariants.{Try}
 use Rattle.oneshot_machine.specs.declared.machine.try_recv.TryPos.TheVariants.{Close}
-use Rattle.oneshot_machine.specs.Phases.{Closing, closed_itself, Got, looked, polled, again, ReceiverAt, here, waits, claimed, full, disconnected, resolved, word_of}
+use Rattle.oneshot_machine.specs.Phases.{Closing, closed_itself, Got, after_load, polled, again, ReceiverAt, idle, waits, claimed, full, disconnected, resolved, word_of}
 use Rattle.oneshot_machine.specs.declared.machine.Step.{Step}
 use Rattle.oneshot_machine.specs.declared.machine.Step.TheVariants.{WriteWaker, Copy}
 use Rattle.oneshot_machine.specs.declared.states.Op.TheVariants.{Exchange}
@@ -47,7 +47,7 @@ pub data LeavesPolled {T : Type 0} : Poll (Result T RecvError) → ReceiverAt �
   leaves_resolved : (x : T) → LeavesPolled (Ready (Ok x)) (resolved closed_itself)
   leaves_over : (e : RecvError) (c : Closing) → LeavesPolled (Ready (Err e)) (disconnected c)
   leaves_gone : (e : RecvError) (c : Closing) → LeavesPolled (Ready (Err e)) (resolved c)
-  leaves_uncopied : LeavesPolled Pending (here looked)
+  leaves_uncopied : LeavesPolled Pending (idle after_load)
   leaves_waiting : LeavesPolled Pending (waits polled)
   leaves_its_copy : LeavesPolled Pending (waits again)
   leaves_claimed : LeavesPolled Pending claimed
@@ -57,7 +57,7 @@ pub data LeavesTried {T : Type 0} : Result T TryRecvError → ReceiverAt → Typ
   tried_received : (x : T) → LeavesTried (Ok x) (disconnected closed_itself)
   tried_resolved : (x : T) → LeavesTried (Ok x) (resolved closed_itself)
   tried_closed : (c : Closing) → LeavesTried (Err E.Disconnected) (disconnected c)
-  tried_uncopied : LeavesTried (Err E.Empty) (here looked)
+  tried_uncopied : LeavesTried (Err E.Empty) (idle after_load)
   tried_its_copy : LeavesTried (Err E.Empty) (waits again)
   tried_claimed : LeavesTried (Err E.Empty) claimed
 
@@ -95,7 +95,7 @@ poll_end _ = Answers R.Disconnected
 abbrev pub EndsPoll : {T W : Type 0} → Found → GroundState T W → Type 0
 EndsPoll F.Message s = (g : Got) × (word_of g ≡ MESSAGE) × Stands (full g) s
 EndsPoll F.Closed s = StandsIn IsClosedAt s
-EndsPoll F.Unclosed s = ⊥
+EndsPoll F.Overwritten s = ⊥
 EndsPoll {T} F.Nothing s = StandsIn (LeavesPolled {T = T} Pending) s
 
 -- the waker's slot is empty, and with a copy in it the receiver may exchange EMPTY for RECEIVING

@@ -13,13 +13,13 @@ use Rattle.oneshot_machine.specs.TableRows.{is_same_seen}
 use Rattle.oneshot_machine.specs.declared.states.TheConstants.{RECEIVING}
 
 -- whether one of these operations found the receiver waiting
-abbrev pub finds_waiting : List Noted → Bool
-finds_waiting [] = false
-finds_waiting (x ∷ xs) = is_same_seen x.1 (Word RECEIVING) || finds_waiting xs
+abbrev pub found_receiver_waiting : List Noted → Bool
+found_receiver_waiting [] = false
+found_receiver_waiting (x ∷ xs) = is_same_seen x.1 (Word RECEIVING) || found_receiver_waiting xs
 
-abbrev pub when_taken : {W : Type 0} → Step → Option W → Option W
-when_taken TakeWaker waker = waker
-when_taken _ waker = None
+abbrev pub when_waker_taken : {W : Type 0} → Step → Option W → Option W
+when_waker_taken TakeWaker waker = waker
+when_waker_taken _ waker = None
 
 abbrev pub when_used : {W : Type 0} → Step → Option W → Option W
 when_used Wake waker = waker
@@ -28,7 +28,7 @@ when_used _ waker = None
 module _ {T W : Type 0} where
   -- the wakers that these steps took out of their slot, and those that they used
   abbrev pub wakers_taken : List (Event T W) → List W
-  wakers_taken = filter_map (λ x. when_taken x.step x.waker)
+  wakers_taken = filter_map (λ x. when_waker_taken x.step x.waker)
 
   abbrev pub wakers_used : List (Event T W) → List W
   wakers_used = filter_map (λ x. when_used x.step x.waker)
@@ -36,9 +36,9 @@ module _ {T W : Type 0} where
   -- These steps found the receiver waiting, took its waker and used it, which has woken the receiver. Or
   -- they did not find it waiting, and used no waker.
   pub data Wakes (woken : W → Type 0) (xs : List (Event T W)) : Type 0 where
-    wakes : (k : W) → finds_waiting (words xs) ≡ true → wakers_taken xs ≡ k ∷ [] → wakers_used xs ≡ k ∷ []
+    wakes : (k : W) → found_receiver_waiting (words xs) ≡ true → wakers_taken xs ≡ k ∷ [] → wakers_used xs ≡ k ∷ []
         → woken k → Wakes woken xs
-    wakes_none : finds_waiting (words xs) ≡ false → wakers_used xs ≡ [] → Wakes woken xs
+    wakes_none : found_receiver_waiting (words xs) ≡ false → wakers_used xs ≡ [] → Wakes woken xs
 
   -- between the two logs a ground made one run of the call, and woke a waiting receiver as above
   pub record SenderWoke (woken : W → Type 0) (call : SenderCall) (before after : Log T W) (reply : Reply)

@@ -111,6 +111,7 @@ pub fn recv_timeout<T, W: Drop, G: BlockGround<T, W>>(
     ensures had { IfOk result (λ message. G.had g.new message) }
     ensures keeps { G.keeps g.old g.new }
 {
+    // Whether a deadline is over by this reading decides nothing: the timeout is added to it.
     g.over();
     receive(g, rt, hand, representable)
 }
@@ -143,7 +144,7 @@ fn receive<T, W: Drop, G: BlockGround<T, W>>(
             Ok(g.take_message())
         }
         Found::Closed => Err(RecvTimeoutError::Disconnected),
-        Found::Unclosed => {
+        Found::Overwritten => {
             g.store(DISCONNECTED);
             Err(RecvTimeoutError::Disconnected)
         }

@@ -6,8 +6,9 @@ pub(crate) enum Found {
     Message,
     // The channel is closed.
     Closed,
-    // The sender is gone, but a swap replaced the word of a closed channel.
-    Unclosed,
+    // The sender is gone, but the receiver's own swap overwrote `DISCONNECTED`. A call that keeps the receiver has to
+    // store it again.
+    Overwritten,
     // Nothing is there, and the deadline is over or a poll ends pending.
     Nothing,
 }

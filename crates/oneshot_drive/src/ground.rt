@@ -1,4 +1,12 @@
 //! The traits of grounds: what an end does to the world.
+//!
+//! A ground is the backend of a driver. The driver decides which step of its call comes next, and the ground makes the
+//! step. A driver is generic over its ground, so a call is proved once, for each backend that keeps the contracts of
+//! these traits: the ground of a real end (`oneshot_ends`, in `src/ground`), the same ground lent to a call that blocks
+//! or to a poll, and a ground in memory (`oneshot_memory`), by which tests compare each step.
+//!
+//! There is a trait for each kind of call. A driver whose calls may not block, write a waker or drop a message has a
+//! trait without that step.
 
 ghost use Rattle.std.specs.Prelude.{◌≡◌, Bool, true, ◌∷◌, [], Option, Some, None, IfSome};
 ghost use Rattle.oneshot_machine.specs.declared.machine.Step.TheVariants.{DropMessage, WriteWaker, TakeWaker, Withdraw, Wake, WakeOwn, Free};
@@ -9,7 +17,7 @@ ghost use Rattle.oneshot_machine.specs.Slots.{away, vacant, held};
 ghost use Rattle.oneshot_machine.specs.Over.{SenderIsOver};
 ghost use Rattle.oneshot_drive.specs.Blocking.{Parks};
 ghost use Rattle.oneshot_drive.specs.Grounds.{GroundState, SenderAsks, SenderMakes, ReceiverAsks, ReceiverMakes};
-ghost use Rattle.oneshot_drive.specs.Wakes.{finds_waiting};
+ghost use Rattle.oneshot_drive.specs.Wakes.{found_receiver_waiting};
 
 /// The steps of the sender in its one call, for messages `T` and wakers `W`.
 pub trait SenderGround<T, W> {
@@ -38,7 +46,7 @@ pub trait SenderGround<T, W> {
 
     // Its last operation is made, and it has woken the receiver that it found waiting.
     ghost ended_by: { (by : By) (a : Self) → SenderIsOver by (sender_of (state a).log)
-        → (finds_waiting (words (state a).log.list) ≡ true → (waker : W) × woken a waker) → ended by a };
+        → (found_receiver_waiting (words (state a).log.list) ≡ true → (waker : W) × woken a waker) → ended by a };
 
     /// Adds one to the word, and returns the word before.
     fn add(&mut self) -> u8
@@ -50,7 +58,7 @@ pub trait SenderGround<T, W> {
         ensures keeps { keeps self.old self.new };
 
     /// Flips the word's lowest bit, and returns the word before.
-    fn flip(&mut self) -> u8
+    fn xor(&mut self) -> u8
         requires { SenderAsks Xor (state self.old) }
         ensures log { Grows (state self.old).log (state self.new).log (worded Xor result ∷ []) }
         ensures finds { SenderMakes Xor result (state self.old) (state self.new) }
@@ -169,7 +177,8 @@ pub trait ReceiverGround<T, W> {
         ensures finds { ReceiverMakes Load result (state self.old) (state self.new) }
         ensures keeps { keeps self.old self.new };
 
-    /// Stores `new` in the word, and returns the word before.
+    /// Stores `new` in the word, and returns the word before. Drivers ignore it: a receiver stores only once the sender
+    /// has performed its last operation, and then its phase shows the word.
     fn store(&mut self, new: u8) -> u8
         requires { ReceiverAsks (Store new) (state self.old) }
         ensures log { Grows (state self.old).log (state self.new).log (worded (Store new) result ∷ []) }

@@ -1,4 +1,8 @@
 //! The drivers: the code of each call, over a ground that does the end's steps.
+//!
+//! A ground is the backend of a driver; the head of `ground.rt` says why a driver is generic over it. Read `ground.rt`
+//! first, then `sender.rt` and `receiver.rt`. The receives that block are in `blocking.rt`, and their wait in
+//! `waiting.rt`. The calls of a future are in `polling.rt`.
 #![tactic(auto)]
 
 mod blocking;

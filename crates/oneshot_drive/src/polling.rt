@@ -11,7 +11,7 @@ ghost use Rattle.oneshot_machine.specs.declared.machine.receiver.ReceiverStart.T
 ghost use Rattle.oneshot_machine.specs.declared.states.Op.TheVariants.{Swap};
 ghost use Rattle.oneshot_machine.specs.Counts.{receiver_bound, MakesWithin};
 ghost use Rattle.oneshot_machine.specs.Logs.{receiver_of};
-ghost use Rattle.oneshot_machine.specs.Phases.{here, looked, waits, again};
+ghost use Rattle.oneshot_machine.specs.Phases.{idle, after_load, waits, again};
 ghost use Rattle.oneshot_machine.specs.Receiver.{receiver_step, receiver_row};
 ghost use Rattle.oneshot_machine.specs.Runs.{Ran, ReceiverRan};
 ghost use Rattle.oneshot_machine.specs.TableRows.{Goes};
@@ -57,7 +57,7 @@ pub fn poll<T, W: Drop, G: TaskGround<T, W>>(g: &mut G) -> Poll<Result<T, RecvEr
             Poll::Ready(Ok(g.take_message()))
         }
         Found::Nothing => Poll::Pending,
-        Found::Closed | Found::Unclosed => Poll::Ready(Err(RecvError)),
+        Found::Closed | Found::Overwritten => Poll::Ready(Err(RecvError)),
     }
 }
 
@@ -77,7 +77,7 @@ fn meet<T, W: Drop, G: TaskGround<T, W>>(g: &mut G) -> Found
         EMPTY => leave_first(g),
         RECEIVING => leave_again(g),
         MESSAGE => Found::Message,
-        // The sender is about to wake an earlier poll's task, which may be another.
+        // The sender will wake the task of an earlier poll, perhaps not this one, so this task wakes itself.
         UNPARKING => {
             g.wake_own();
             Found::Nothing
@@ -89,7 +89,7 @@ fn meet<T, W: Drop, G: TaskGround<T, W>>(g: &mut G) -> Found
 
 // Leaves a copy where there was none.
 fn leave_first<T, W: Drop, G: TaskGround<T, W>>(g: &mut G) -> Found
-    requires { Stands (here looked) (G.state g.old) }
+    requires { Stands (idle after_load) (G.state g.old) }
     ensures path { Path (Future PollCopy) (poll_end result) (G.state g.old).log (G.state g.new).log }
     ensures ends { EndsPoll result (G.state g.new) }
     ensures heard { result ≡ F.Nothing → G.heard g.new }
@@ -154,7 +154,7 @@ fn leave_again<T, W: Drop, G: TaskGround<T, W>>(g: &mut G) -> Found
         }
         MESSAGE => Found::Message,
         DISCONNECTED => Found::Closed,
-        // As in `meet`.
+        // The sender will wake the task of an earlier poll, perhaps not this one, so this task wakes itself.
         UNPARKING => {
             g.wake_own();
             Found::Nothing

@@ -58,7 +58,7 @@ pub fn drop_sender<T, W, G: SenderGround<T, W>>(g: &mut G)
     ensures ended { G.ended dropping g.new }
     ensures bounded { MakesWithin (sender_bound Drop) (G.state g.old).log (G.state g.new).log }
 {
-    match g.flip() {
+    match g.xor() {
         EMPTY => {}
         RECEIVING => {
             if !finish(g, DISCONNECTED) {

@@ -4,7 +4,7 @@ ghost use Rattle.std.specs.Prelude.{◌≡◌, true, Some, None};
 ghost use Rattle.oneshot_machine.specs.declared.machine.receiver.ReceiverPos.TheVariants.{Timed};
 ghost use Rattle.oneshot_machine.specs.declared.machine.timed.TimedPos.TheVariants.{EndSwap, LatePark};
 ghost use Rattle.oneshot_machine.specs.Logs.{receiver_of};
-ghost use Rattle.oneshot_machine.specs.Phases.{here, looked, waits, blocked, overdue};
+ghost use Rattle.oneshot_machine.specs.Phases.{idle, after_load, waits, blocked, overdue};
 ghost use Rattle.oneshot_machine.specs.TableRows.{Goes};
 ghost use Rattle.oneshot_drive.specs.declared.found.Found.TheVariants as F;
 ghost use Rattle.oneshot_drive.specs.Blocking.{Path, ReceiveBy, load_of, write_of, wait_of, asked_of, ref_end, end_of, EndsAt, HandAt, WaitedHand};
@@ -26,7 +26,8 @@ pub(crate) fn find<T, W: Drop, G: BlockGround<T, W>>(
     requires rests { AtRest (G.state g.old) }
     requires ready { IsReady hand.old (receiver_of (G.state g.old).log) }
     requires has { G.has g.old hand.old }
-    ensures path { (way : ReceiveBy timed) → Path (load_of way) (end_of way result) (G.state g.old).log (G.state g.new).log }
+    ensures path { (way : ReceiveBy timed)
+        → Path (load_of way) (end_of way result) (G.state g.old).log (G.state g.new).log }
     ensures ends { EndsAt timed result (G.state g.new) }
     ensures stays { IsClosedAt (receiver_of (G.state g.old).log) → result ≡ F.Closed }
     ensures hand { HandAt result hand.old hand.new }
@@ -48,10 +49,11 @@ fn store_and_wait<T, W: Drop, G: BlockGround<T, W>>(
     hand: &mut Option<W>,
     timed: bool,
 ) -> Found
-    requires open { Stands (here looked) (G.state g.old) }
+    requires open { Stands (idle after_load) (G.state g.old) }
     requires ready { (k : W) × (hand.old ≡ Some k) }
     requires has { G.has g.old hand.old }
-    ensures path { (way : ReceiveBy timed) → Path (write_of way) (end_of way result) (G.state g.old).log (G.state g.new).log }
+    ensures path { (way : ReceiveBy timed)
+        → Path (write_of way) (end_of way result) (G.state g.old).log (G.state g.new).log }
     ensures ends { EndsAt timed result (G.state g.new) }
     ensures hand { HandAt result hand.old hand.new }
     ensures has { G.has g.new hand.new }
@@ -69,7 +71,7 @@ fn store_and_wait<T, W: Drop, G: BlockGround<T, W>>(
     if word == MESSAGE {
         Found::Message
     } else {
-        Found::Unclosed
+        Found::Overwritten
     }
 }
 
@@ -83,7 +85,8 @@ fn wait<T, W: Drop, G: BlockGround<T, W>>(
     requires waits { Stands (waits blocked) (G.state g.old) }
     requires empty { hand.old ≡ None }
     requires has { G.has g.old None }
-    ensures path { (way : ReceiveBy timed) → Path (wait_of way) (end_of way result) (G.state g.old).log (G.state g.new).log }
+    ensures path { (way : ReceiveBy timed)
+        → Path (wait_of way) (end_of way result) (G.state g.old).log (G.state g.new).log }
     ensures ends { EndsAt timed result (G.state g.new) }
     ensures hand { WaitedHand result hand.old hand.new }
     ensures has { G.has g.new hand.new }
@@ -133,7 +136,7 @@ fn stop<T, W: Drop, G: BlockGround<T, W>>(g: &mut G, rt: &impl Wait, hand: &mut 
             Found::Nothing
         }
         MESSAGE => Found::Message,
-        DISCONNECTED => Found::Unclosed,
+        DISCONNECTED => Found::Overwritten,
         // The sender has the waker and is about to finish. Its swap comes over this EMPTY.
         UNPARKING => wait_late(g, rt),
         _ => unreachable!(),

@@ -8,7 +8,7 @@ use Rattle.oneshot_machine.specs.declared.machine.sender.SenderCall.TheVariants.
 use Rattle.oneshot_machine.specs.Called.{Form, as_receiver, as_future, stays, ReceiverCalled, not_called, called, became_future, called_once}
 use Rattle.oneshot_machine.specs.Noted.{Noted}
 use Rattle.oneshot_word.specs.Side.{Side}
-use Rattle.oneshot_ends.specs.Ends.{Waking, SenderGrew, ReceiverGrew, HasCalls, WasRefused}
+use Rattle.oneshot_ends.specs.Ends.{UnnamedWaker, SenderGrew, ReceiverGrew, HasCalls, WasRefused}
 use Rattle.oneshot_ends.specs.Grounds.{IsNewReceiver}
 
 module _ {T : Type 0} where
@@ -16,15 +16,15 @@ module _ {T : Type 0} where
   pub none_answered : {W P : Type 0} (s now : Side T W P) → now ≡ s → IsNewReceiver s → HasCalls T as_receiver now.log
   none_answered s now is new = (
     [],
-    subst (ReceiverCalled T Waking as_receiver []) (sym (ap (λ (s : Side _ _ _). s.log) is ∙ new.log)) not_called,
+    subst (ReceiverCalled T UnnamedWaker as_receiver []) (sym (ap (λ (s : Side _ _ _). s.log) is ∙ new.log)) not_called,
   )
 
   -- Adds one more call, which leaves the receiver in place.
   pub one_more : {form : Form} {calls : List (ReceiverStart × Reply)} {before after : List Noted} {reply : Reply}
-      (call : ReceiverStart) → stays form call ≡ true → ReceiverCalled T Waking form calls before
-      → ReceiverGrew T call before after reply → ReceiverCalled T Waking form (calls ++ (call, reply) ∷ []) after
+      (call : ReceiverStart) → stays form call ≡ true → ReceiverCalled T UnnamedWaker form calls before
+      → ReceiverGrew T call before after reply → ReceiverCalled T UnnamedWaker form (calls ++ (call, reply) ∷ []) after
   one_more {form} {calls} {reply = reply} call its was grew =
-      subst (ReceiverCalled T Waking form (calls ++ (call, reply) ∷ [])) (sym grew.list)
+      subst (ReceiverCalled T UnnamedWaker form (calls ++ (call, reply) ∷ [])) (sym grew.list)
       (called call reply grew.run was its grew.is_run)
 
   pub one_answered : {form : Form} {before after : List Noted} {reply : Reply} (call : ReceiverStart)

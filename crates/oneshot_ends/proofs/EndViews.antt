@@ -5,33 +5,33 @@ use Rattle.futures.specs.declared.task.Poll.{Poll}
 use Rattle.futures.specs.declared.task.Poll.TheVariants.{Ready, Pending}
 use Rattle.futures.specs.Poll.{IfReady, OnPending}
 use Rattle.oneshot_word.specs.Side.{Side}
-use Rattle.oneshot_ends.specs.Ends.{SenderEndOf, EndOf, FutureEndOf}
+use Rattle.oneshot_ends.specs.Ends.{SenderView, ReceiverView, FutureView}
 
 module _ {T P : Type 0} where
-  pub same_steps : {a b : EndOf T P} → a ≡ b → a.log ≡ b.log
-  same_steps is = ap (λ (e : EndOf T P). e.log) is
+  pub same_steps : {a b : ReceiverView T P} → a ≡ b → a.log ≡ b.log
+  same_steps is = ap (λ (e : ReceiverView T P). e.log) is
 
-  pub same_about : {a b : EndOf T P} → a ≡ b → a.about ≡ b.about
-  same_about is = ap (λ (e : EndOf T P). e.about) is
+  pub same_about : {a b : ReceiverView T P} → a ≡ b → a.about ≡ b.about
+  same_about is = ap (λ (e : ReceiverView T P). e.about) is
 
-  pub same_took : {a b : EndOf T P} → a ≡ b → a.took ≡ b.took
-  same_took is = ap (λ (e : EndOf T P). e.took) is
+  pub same_took : {a b : ReceiverView T P} → a ≡ b → a.took ≡ b.took
+  same_took is = ap (λ (e : ReceiverView T P). e.took) is
 
-  pub future_steps : {a b : FutureEndOf T P} → a ≡ b → a.log ≡ b.log
-  future_steps is = ap (λ (e : FutureEndOf T P). e.log) is
+  pub future_steps : {a b : FutureView T P} → a ≡ b → a.log ≡ b.log
+  future_steps is = ap (λ (e : FutureView T P). e.log) is
 
-  pub future_about : {a b : FutureEndOf T P} → a ≡ b → a.about ≡ b.about
-  future_about is = ap (λ (e : FutureEndOf T P). e.about) is
+  pub future_about : {a b : FutureView T P} → a ≡ b → a.about ≡ b.about
+  future_about is = ap (λ (e : FutureView T P). e.about) is
 
-  pub future_took : {a b : FutureEndOf T P} → a ≡ b → a.took ≡ b.took
-  future_took is = ap (λ (e : FutureEndOf T P). e.took) is
+  pub future_took : {a b : FutureView T P} → a ≡ b → a.took ≡ b.took
+  future_took is = ap (λ (e : FutureView T P). e.took) is
 
-  pub future_registered : {a b : FutureEndOf T P} → a ≡ b → a.registered ≡ b.registered
-  future_registered is = ap (λ (e : FutureEndOf T P). e.registered) is
+  pub future_registered : {a b : FutureView T P} → a ≡ b → a.registered ≡ b.registered
+  future_registered is = ap (λ (e : FutureView T P). e.registered) is
 
 module _ {P : Type 0} where
-  pub sent_steps : {a b : SenderEndOf P} → a ≡ b → a.log ≡ b.log
-  sent_steps is = ap (λ (e : SenderEndOf P). e.log) is
+  pub sent_steps : {a b : SenderView P} → a ≡ b → a.log ≡ b.log
+  sent_steps is = ap (λ (e : SenderView P). e.log) is
 
   -- a side that was lent is about the same value as its end
   pub lent_about : {T W : Type 0} {own s : Side T W P} {about : P} → s ≡ own → own.about ≡ about → s.about ≡ about

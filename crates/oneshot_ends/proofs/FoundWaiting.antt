@@ -14,7 +14,7 @@ use Rattle.oneshot_machine.specs.Phases.{Share, none, filled, Slots, Row, Sender
 use Rattle.oneshot_machine.specs.Phases.{receiver_moves}
 use Rattle.oneshot_machine.specs.Slots.{In}
 use Rattle.oneshot_machine.specs.TableRows.{is_same_seen}
-use Rattle.oneshot_drive.specs.Wakes.{finds_waiting}
+use Rattle.oneshot_drive.specs.Wakes.{found_receiver_waiting}
 use Rattle.oneshot_word.proofs.Between.{between, sender_told}
 use Rattle.oneshot_word.proofs.WakerPasses.{none_made, is_put}
 use Rattle.oneshot_word.proofs.RuleImplies.{word_between, Is, is}
@@ -26,10 +26,12 @@ either_so : (b c c' : Bool) → (c ≡ true → c' ≡ true) → (b || c) ≡ tr
 either_so true c c' on e = refl
 either_so false c c' on e = on e
 
-appended : (xs : List Noted) (x : Noted) → finds_waiting xs ≡ true → finds_waiting (xs ++ x ∷ []) ≡ true
+appended : (xs : List Noted) (x : Noted) → found_receiver_waiting xs ≡ true → found_receiver_waiting (xs ++ x ∷ [])
+    ≡ true
 appended [] x e = absurd (cc e)
 appended (y ∷ xs) x e =
-    either_so (is_same_seen y.1 (Word RECEIVING)) (finds_waiting xs) (finds_waiting (xs ++ x ∷ [])) (appended xs x) e
+    either_so (is_same_seen y.1 (Word RECEIVING)) (found_receiver_waiting xs) (found_receiver_waiting (xs ++ x ∷ []))
+        (appended xs x) e
 
 -- a sender's first operation beside such a receiver finds RECEIVING
 finds_zero : (q : ReceiverAt) {word : ℕ} → is_waiting q ≡ true → Is (word_between fresh q) word → word ≡ RECEIVING
@@ -51,8 +53,8 @@ first_finds {op} {word} row zero =
 
 on_sender : (xs : List Noted) {ys : List Noted} {op : Op} {before after : Slots} {word : ℕ} {next : SenderAt}
     → Reaches xs ys word → In (op, before, word, next, after) (sender_moves (sender_at xs))
-    → (has_made xs ≡ true → finds_waiting xs ≡ true) → is_waiting (receiver_at ys) ≡ true
-    → finds_waiting (xs ++ (op, saw op word) ∷ []) ≡ true
+    → (has_made xs ≡ true → found_receiver_waiting xs ≡ true) → is_waiting (receiver_at ys) ≡ true
+    → found_receiver_waiting (xs ++ (op, saw op word) ∷ []) ≡ true
 on_sender [] {ys} order row earlier left =
     ap (λ b. b || false) (first_finds row (finds_zero (receiver_at ys) left (between order)))
 on_sender (y ∷ xs) order row earlier left = appended (y ∷ xs) _ (earlier refl)
@@ -75,14 +77,14 @@ on_receiver ys {op} {before} {after} {word} row left =
     (in_each_receiver_row left_by refl q row)
     (sym (ap is_waiting (phase_from-snoc receiver_next first ys (op, saw op word))) ∙ left))
 
-pub found_waiting : {xs ys : List Noted} {word : ℕ} → Reaches xs ys word → is_waiting (receiver_at ys) ≡ true
-    → has_made xs ≡ true → finds_waiting xs ≡ true
-found_waiting nothing_made left made = absurd (cc made)
-found_waiting (sender_makes {xs} op order (has_row row)) left made =
-    on_sender xs order row (λ earlier. found_waiting order left earlier) left
-found_waiting (receiver_makes {xs} {ys} op order (has_row row)) left made =
+pub finds_it_waiting : {xs ys : List Noted} {word : ℕ} → Reaches xs ys word → is_waiting (receiver_at ys) ≡ true
+    → has_made xs ≡ true → found_receiver_waiting xs ≡ true
+finds_it_waiting nothing_made left made = absurd (cc made)
+finds_it_waiting (sender_makes {xs} op order (has_row row)) left made =
+    on_sender xs order row (λ earlier. finds_it_waiting order left earlier) left
+finds_it_waiting (receiver_makes {xs} {ys} op order (has_row row)) left made =
     elim (on_receiver ys row left) [
       | inl puts ↦ absurd (let e = sym made ∙ none_made (sender_at xs) (receiver_at ys) (sender_told order)
           (between order) row puts.0 puts.1 in cc e)
-      | inr was ↦ found_waiting order was made
+      | inr was ↦ finds_it_waiting order was made
     ]

@@ -22,7 +22,7 @@ use Rattle.oneshot_machine.proofs.CallBounds.{try_recv_makes, async_try_recv_mak
 use Rattle.oneshot_machine.proofs.GrownLogs.{words_after}
 use Rattle.oneshot_drive.specs.BetweenCalls.{IsClosedAt, send_reply}
 use Rattle.oneshot_word.specs.Side.{Side}
-use Rattle.oneshot_ends.specs.Ends.{Waking, SenderGrew, ReceiverGrew}
+use Rattle.oneshot_ends.specs.Ends.{UnnamedWaker, SenderGrew, ReceiverGrew}
 use Rattle.oneshot_ends.specs.Grounds.{events_of, state_of}
 
 -- the operations in a ground's log are those in its end's log
@@ -37,7 +37,7 @@ began_at {T} {s = s} V is has = words_of T V s.log ∙ ap (λ s. s.log) is ∙ h
 
 module _ {T W : Type 0} where
   -- an event of a run, without the name of its waker
-  abbrev unnamed : Event T W → Event T Waking
+  abbrev unnamed : Event T W → Event T UnnamedWaker
   unnamed x = record { step = x.step; seen = x.seen; message = x.message; waker = option_map (λ k. tt) x.waker }
 
   run_unnamed : {P : Type 0} (step : P → Step) (row : P → Seen → Option (Outcome P)) (p : P) (xs : List (Event T W))

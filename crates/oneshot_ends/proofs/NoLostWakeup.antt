@@ -9,7 +9,7 @@ use Rattle.oneshot_machine.specs.Phases.{By, sender_at, ReceiverAt, receiver_at}
 use Rattle.oneshot_machine.specs.Over.{SenderIsOver}
 use Rattle.oneshot_drive.specs.Blocking.{Parks, parks_waiting, parks_overdue}
 use Rattle.oneshot_drive.specs.Polls.{is_registered}
-use Rattle.oneshot_drive.specs.Wakes.{finds_waiting}
+use Rattle.oneshot_drive.specs.Wakes.{found_receiver_waiting}
 use Rattle.oneshot_word.proofs.RuleReceives.{woken_is_put, both_reach}
 use Rattle.oneshot_word.specs.declared.any_waker.AnyWaker.TheVariants.{Thread, Task}
 use Rattle.oneshot_word.specs.Received.{both_views}
@@ -25,7 +25,7 @@ use Rattle.oneshot_ends.specs.NoLostWakeup.{SleepsOn, HasGivenTokenOf, HasTokenT
 use Rattle.oneshot_ends.specs.NoLostWakeup.{EndedSendersWokeTasks, NoTaskIsForgotten}
 use Rattle.oneshot_ends.specs.OwnWakers.{RealWaker, IsTaskOf, IsHalfOf, IsNoThread, is_waiting, Gave}
 use Rattle.oneshot_ends.specs.Woken.{Sending, IsWoken, found_waiting as shown_waiting, HasEnded}
-use Rattle.oneshot_ends.proofs.FoundWaiting.{found_waiting}
+use Rattle.oneshot_ends.proofs.FoundWaiting.{finds_it_waiting}
 use Rattle.oneshot_ends.proofs.GrewByRuns.{words_of}
 use Rattle.oneshot_ends.proofs.OwnWakers.{same_put}
 use Rattle.oneshot_ends.proofs.TaskWakers.{registered_waits}
@@ -94,7 +94,7 @@ module _ {T P : Type 0} (keeps : P → T → Type 0) where
 
   pub senders_gave_tokens : EndedSendersGaveTokens keeps
   senders_gave_tokens by sender receiver parker moment ended found gave =
-      let woken = ended.woken (ap finds_waiting (words_of T RealWaker sender.side.log) ∙ found) in
+      let woken = ended.woken (ap found_receiver_waiting (words_of T RealWaker sender.side.log) ∙ found) in
       own_given parker woken.0 sender sender.given refl
       (taken_is_given sender receiver {own = IsHalfOf parker} woken.0 moment woken.1.0 gave) woken.1.1
 
@@ -105,9 +105,9 @@ module _ {T P : Type 0} (keeps : P → T → Type 0) where
   -- a sender that has ended beside a receiver that waits found it waiting
   ended_found : (by : By) (sender : Sending T RealWaker P) (receiver : Side T RealWaker P)
       → AtOneMoment keeps sender.side receiver → HasEnded by sender → is_waiting (receiver_at receiver.log) ≡ true
-      → finds_waiting sender.side.log ≡ true
+      → found_receiver_waiting sender.side.log ≡ true
   ended_found by sender receiver moment ended waits =
-      found_waiting (both_reach moment.allowed refl).1 waits (over_made by sender.side.log
+      finds_it_waiting (both_reach moment.allowed refl).1 waits (over_made by sender.side.log
       (subst (λ xs. SenderIsOver by (sender_at xs)) (words_of T RealWaker sender.side.log) ended.over))
 
   pub no_sleeper_is_forgotten : NoSleeperIsForgotten keeps
@@ -124,7 +124,7 @@ module _ {T P : Type 0} (keeps : P → T → Type 0) where
 
   pub senders_woke_tasks : EndedSendersWokeTasks keeps
   senders_woke_tasks by sender future cx moment ended found gave =
-      let shown = ap finds_waiting (words_of T RealWaker sender.side.log) ∙ found in
+      let shown = ap found_receiver_waiting (words_of T RealWaker sender.side.log) ∙ found in
       let woken = ended.woken shown in
       is_used cx sender woken.0 shown woken.1.0
       (taken_is_given sender future {own = IsTaskOf cx} woken.0 moment woken.1.0 gave)
@@ -135,7 +135,7 @@ module _ {T P : Type 0} (keeps : P → T → Type 0) where
       let so = registered_so (is_registered at) future.handed registered in
       let waits = registered_waits at so.0 in
       let found = ended_found by sender future moment ended waits in
-      let shown = ap finds_waiting (words_of T RealWaker sender.side.log) ∙ found in
+      let shown = ap found_receiver_waiting (words_of T RealWaker sender.side.log) ∙ found in
       let woken = ended.woken shown in
       let gave : Gave (λ k. k ≡ Task waker) future.handed = (Task waker, so.1, refl) in
       let same = taken_is_given sender future {own = λ k. k ≡ Task waker} woken.0 moment woken.1.0 gave in

@@ -8,7 +8,7 @@ use Rattle.oneshot_machine.specs.declared.machine.Seen.TheVariants.{Word}
 use Rattle.oneshot_machine.specs.declared.states.Op.{Op}
 use Rattle.oneshot_machine.specs.declared.states.TheConstants.{MESSAGE}
 use Rattle.oneshot_machine.specs.Noted.{Noted, saw, is_same_op}
-use Rattle.oneshot_machine.specs.Phases.{Row, ReceiverAt, first, here, waits, claimed, withdrew, overdue, no_receiver, receiver_moves, receiver_next, next_by, phase_from, receiver_at}
+use Rattle.oneshot_machine.specs.Phases.{Row, ReceiverAt, first, idle, waits, claimed, withdrew, overdue, no_receiver, receiver_moves, receiver_next, next_by, phase_from, receiver_at}
 use Rattle.oneshot_machine.specs.TableRows.{is_same_seen}
 use Rattle.oneshot_drive.specs.BetweenCalls.{is_open_at}
 use Rattle.oneshot_ends.specs.Taken.{has_found, TookAsFound}
@@ -18,7 +18,7 @@ use Rattle.oneshot_machine.proofs.RunsByRows.{seens_are_same, next_passes}
 -- the phases of a receiver that may have found the message
 abbrev past : ReceiverAt → Bool
 past first = false
-past (here o) = false
+past (idle o) = false
 past (waits w) = false
 past claimed = false
 past withdrew = false
@@ -74,7 +74,7 @@ found_past at (x ∷ xs) e =
 
 not_past : (at : ReceiverAt) → is_open_at at ≡ true → past at ≡ false
 not_past first e = refl
-not_past (here o) e = refl
+not_past (idle o) e = refl
 not_past (waits w) e = refl
 not_past claimed e = refl
 not_past _ e = absurd (cc)

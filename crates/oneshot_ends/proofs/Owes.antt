@@ -5,7 +5,7 @@ use Rattle.oneshot_machine.proofs.EachPhase.{in_each_sender_row}
 use Rattle.oneshot_machine.specs.declared.states.Op.{Op}
 use Rattle.oneshot_machine.specs.declared.states.Op.TheVariants.{Swap}
 use Rattle.oneshot_machine.specs.Phases.{SenderAt, sender_moves, Share, Row}
-use Rattle.oneshot_machine.specs.Slots.{Held, Finds, finds, Turns, gets_thing}
+use Rattle.oneshot_machine.specs.Slots.{Held, Finds, finds, SlotChange, gets_thing}
 use Rattle.oneshot_word.proofs.WakerPasses.{is_got}
 use Rattle.oneshot_word.specs.Seats.{took}
 
@@ -17,7 +17,7 @@ abbrev keeps_waker : Row SenderAt → Bool
 keeps_waker row = if is_swap row.0 then not (is_got row.1.1 row.4.1) else true
 
 takes_none : {W : Type 0} {s s' : Share} {w w' : Held W} (woke : Option W) → not (is_got s s') ≡ true
-    → Turns s s' w w' → took w w' woke ≡ woke
+    → SlotChange s s' w w' → took w w' woke ≡ woke
 takes_none woke e (gets_thing x) = absurd (cc e)
 takes_none woke e _ = refl
 

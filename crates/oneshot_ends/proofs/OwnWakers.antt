@@ -9,8 +9,8 @@ use Rattle.oneshot_machine.proofs.GrownLogs.{phase_from-snoc}
 use Rattle.oneshot_machine.proofs.EachPhase.{in_each_receiver_row, if_so}
 use Rattle.oneshot_machine.specs.declared.states.Op.{Op}
 use Rattle.oneshot_machine.specs.Noted.{saw}
-use Rattle.oneshot_machine.specs.Phases.{Share, none, Row, ReceiverAt, first, looked, between, receiver_at, receiver_next, receiver_moves}
-use Rattle.oneshot_machine.specs.Slots.{IsSlot, is_away, is_vacant, Held, away, vacant, held, Finds, finds, Turns, stays_away, stays_held, gives_thing, gets_thing}
+use Rattle.oneshot_machine.specs.Phases.{Share, none, Row, ReceiverAt, first, after_load, after_timeout, receiver_at, receiver_next, receiver_moves}
+use Rattle.oneshot_machine.specs.Slots.{IsSlot, is_away, is_vacant, Held, away, vacant, held, Finds, finds, SlotChange, stays_away, stays_held, gives_thing, gets_thing}
 use Rattle.oneshot_drive.specs.BetweenCalls.{AtRest, Rests, rests_new, rests_open, rests_closed}
 use Rattle.oneshot_drive.specs.Grounds.{receiver_slots}
 use Rattle.oneshot_word.specs.declared.any_waker.AnyWaker.{AnyWaker}
@@ -50,7 +50,7 @@ module _ {W : Type 0} (own : W → Type 0) where
   same_put {k} was is = let e : Some was.0 ≡ Some k = sym was.1 ∙ is in subst own (cc e) was.2
 
   slot_on : {s s' : Share} {w w' : Held W} {put put' : Option W} (was_left : Bool)
-      → (if is_got s s' then was_left else true) ≡ true → Turns s s' w w'
+      → (if is_got s s' then was_left else true) ≡ true → SlotChange s s' w w'
       → ((k : W) → w ≡ held k → own k) → (was_left ≡ true → Gave own put) → put' ≡ gave w w' put
       → ((k : W) → w ≡ away → w' ≡ held k → put' ≡ Some k) → (k : W) → w' ≡ held k → own k
   slot_on was_left test (stays_held x) slot left hands gets k so = slot k so
@@ -59,7 +59,7 @@ module _ {W : Type 0} (own : W → Type 0) where
   slot_on was_left test _ slot left hands gets k so = absurd (cc so)
 
   left_on : {s s' : Share} {w w' : Held W} {put put' : Option W} (was_left : Bool)
-      → (is_put s s' || (was_left && is_out s s')) ≡ true → Turns s s' w w' → ((k : W) → w ≡ held k → own k)
+      → (is_put s s' || (was_left && is_out s s')) ≡ true → SlotChange s s' w w' → ((k : W) → w ≡ held k → own k)
       → (was_left ≡ true → Gave own put) → put' ≡ gave w w' put → Gave own put'
   left_on was_left test stays_away slot left hands =
       subst (Gave own) (sym hands) (left (and_parts was_left true test).0)
@@ -202,8 +202,8 @@ parked {patience = patience} s rests token same =
 slot_unheld : {W : Type 0} {at : ReceiverAt} {w : Held W} {k : W} → Rests at → IsSlot (receiver_slots at).1 w
     → w ≡ held k → ⊥
 slot_unheld rests_new is_away e = cc e
-slot_unheld (rests_open looked) is_vacant e = cc e
-slot_unheld (rests_open between) is_vacant e = cc e
+slot_unheld (rests_open after_load) is_vacant e = cc e
+slot_unheld (rests_open after_timeout) is_vacant e = cc e
 slot_unheld (rests_closed c) is_vacant e = cc e
 
 rests_idle : {at : ReceiverAt} → Rests at → is_waiting at ≡ true → ⊥

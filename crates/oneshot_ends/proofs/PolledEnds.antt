@@ -46,8 +46,9 @@ module _ {T : Type 0} where
   open_tried _ nothing = absurd (cc nothing)
 
   -- the same of equal logs
-  pub registered_by : (result : Result T TryRecvError) {xs ys before after : List Noted} → xs ≡ before → ys ≡ after
+  pub registered_as_tried : (result : Result T TryRecvError) {xs ys before after : List Noted} → xs ≡ before → ys
+      ≡ after
       → StaysRegistered result (receiver_at xs) (receiver_at ys)
       → StaysRegistered result (receiver_at before) (receiver_at after)
-  registered_by result was is stays nothing =
+  registered_as_tried result was is stays nothing =
       ap (λ ns. is_registered (receiver_at ns)) (sym is) ∙ stays nothing ∙ ap (λ ns. is_registered (receiver_at ns)) was

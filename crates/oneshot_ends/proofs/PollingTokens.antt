@@ -4,7 +4,8 @@ use Rattle.std.proofs.lemmas.List.{map-append}
 use Rattle.oneshot_machine.specs.declared.states.Op.{Op}
 use Rattle.oneshot_machine.specs.Logs.{Event, Grows, words, kept}
 use Rattle.oneshot_machine.specs.Phases.{ReceiverAt, receiver_at, Share}
-use Rattle.oneshot_machine.specs.Slots.{Held, away, vacant, held, IsSlot, is_away, is_vacant, is_held, Turns, stays_away, stays_vacant, stays_held, gives_room, gives_thing, gets_room, gets_thing, may}
+use Rattle.oneshot_machine.specs.Slots.{Held, away, vacant, held, IsSlot, is_away, is_vacant, is_held, SlotChange, stays_away, stays_vacant, stays_held, gives_room, gives_thing}
+use Rattle.oneshot_machine.specs.Slots.{gets_room, gets_thing, may}
 use Rattle.oneshot_machine.specs.Slots.{finds, ReceiverMay, ReceiverFinds}
 use Rattle.oneshot_drive.specs.Grounds.{StandsIn, ReceiverAsks, ReceiverMakes}
 use Rattle.oneshot_word.specs.Side.{Side}
@@ -31,15 +32,15 @@ module _ {W : Type 0} where
   token_held vacant e = absurd (cc e)
   token_held (held k) e = (k, refl)
 
-  token_turns : {share then : Share} {w w' : Held W} → Turns share then w w'
-      → Turns share then (token_of w) (token_of w')
-  token_turns stays_away = stays_away
-  token_turns stays_vacant = stays_vacant
-  token_turns (stays_held k) = stays_held (record {})
-  token_turns gives_room = gives_room
-  token_turns (gives_thing k) = gives_thing (record {})
-  token_turns gets_room = gets_room
-  token_turns (gets_thing k) = gets_thing (record {})
+  token_changes : {share then : Share} {w w' : Held W} → SlotChange share then w w'
+      → SlotChange share then (token_of w) (token_of w')
+  token_changes stays_away = stays_away
+  token_changes stays_vacant = stays_vacant
+  token_changes (stays_held k) = stays_held (record {})
+  token_changes gives_room = gives_room
+  token_changes (gives_thing k) = gives_thing (record {})
+  token_changes gets_room = gets_room
+  token_changes (gets_thing k) = gets_thing (record {})
 
 module _ {T W : Type 0} where
   token_may : {q : ReceiverAt} {op : Op} {m : Held T} (w : Held W)
@@ -49,7 +50,7 @@ module _ {T W : Type 0} where
   token_finds : {q : ReceiverAt} {op : Op} {n : ℕ} {m m' : Held T} {w w' : Held W}
       → ReceiverFinds {T = T} {W = W} q op n m w m' w'
       → ReceiverFinds {T = T} {W = Copied} q op n m (token_of w) m' (token_of w')
-  token_finds (finds there message waker) = finds there message (token_turns waker)
+  token_finds (finds there message waker) = finds there message (token_changes waker)
 
   pub token_can : {P : Type 0} (names : List ℕ) (s : Side T W P) (op : Op) → ReceiverAsks op (polled_state names s)
       → ReceiverAsks op (state_of s)

@@ -30,7 +30,7 @@ use Rattle.oneshot_machine.specs.Phases.{ReceiverAt, receiver_at, phase_from}
 use Rattle.oneshot_machine.specs.Runs.{Run}
 use Rattle.oneshot_machine.specs.TableRows.{Outcome, Goes, Answers, row_for, is_same_seen}
 use Rattle.oneshot_machine.proofs.EachPhase.{if_so}
-use Rattle.oneshot_machine.proofs.RunsByRows.{row_passes, moved, Leads, by_rows}
+use Rattle.oneshot_machine.proofs.RunsByRows.{row_passes, moved_by, Leads, by_rows}
 use Rattle.oneshot_errors.specs.declared.recv.RecvError.{RecvError}
 use Rattle.oneshot_errors.specs.declared.recv_timeout.RecvTimeoutError.{RecvTimeoutError}
 use Rattle.oneshot_errors.specs.declared.recv_timeout.RecvTimeoutError.TheVariants as Timeouts
@@ -84,7 +84,7 @@ abbrev Replies : Reply → Bool → Type 0
 Replies reply found = found ≡ is_message reply
 
 abbrev found_by : ReceiverPos → Seen → Bool
-found_by p seen = moved receiver_step receiver_rows finds_it Stands Replies (op_of (receiver_step p)) seen (has_it p)
+found_by p seen = moved_by receiver_step receiver_rows finds_it Stands Replies (op_of (receiver_step p)) seen (has_it p)
 
 abbrev row_told : ReceiverPos → Seen × Outcome ReceiverPos → Bool
 row_told p (seen, Goes next) = in_place next && is_bool (has_it next) (found_by p seen)
@@ -103,17 +103,17 @@ told_rows p = if_so (in_place p) (list_all (row_told p) (receiver_rows p)) (told
 each_row : (p : ReceiverPos) (found : Bool) (seen : Seen) (o : Outcome ReceiverPos) → Stands p found
     → row_for seen (receiver_rows p) ≡ Some o
     → Leads receiver_step receiver_rows finds_it Stands Replies o
-    (moved receiver_step receiver_rows finds_it Stands Replies (op_of (receiver_step p)) seen found)
+    (moved_by receiver_step receiver_rows finds_it Stands Replies (op_of (receiver_step p)) seen found)
 each_row p found seen (Goes next) stands leads =
     let passes =
     and_parts (in_place next) (is_bool (has_it next) (found_by p seen))
     (row_passes (row_told p) (receiver_rows p) seen (Goes next) (told_rows p stands.0) leads) in (
       passes.0,
       bools_are (has_it next) (found_by p seen) passes.1
-          ∙ ap (moved receiver_step receiver_rows finds_it Stands Replies (op_of (receiver_step p)) seen) stands.1,
+          ∙ ap (moved_by receiver_step receiver_rows finds_it Stands Replies (op_of (receiver_step p)) seen) stands.1,
     )
 each_row p found seen (Answers r) stands leads =
-    ap (moved receiver_step receiver_rows finds_it Stands Replies (op_of (receiver_step p)) seen) (sym stands.1)
+    ap (moved_by receiver_step receiver_rows finds_it Stands Replies (op_of (receiver_step p)) seen) (sym stands.1)
     ∙ bools_are (found_by p seen) (is_message r)
     (row_passes (row_told p) (receiver_rows p) seen (Answers r) (told_rows p stands.0) leads)
 
@@ -304,10 +304,10 @@ module _ {T W P : Type 0} where
   lent_found is so = subst (λ s. TookAsFound s.passed s.log) (sym is) so
 
   -- a call on the ground of a receiver, its own or lent for the call
-  pub taken_by : {own s : Side T W P} {log : List Noted} {took : Option T} → s ≡ own → own.log ≡ log
+  pub took_by : {own s : Side T W P} {log : List Noted} {took : Option T} → s ≡ own → own.log ≡ log
       → own.passed ≡ took → (next : Side T W P) → KeepsTaken s.passed next.passed s.log next.log
       → TookAsFound own.passed own.log → IsEither (receiver_at own.log) → TakenBy log next.log took next.passed
-  taken_by is logs takes next keeps so either =
+  took_by is logs takes next keeps so either =
       record {
         stays = λ x e. keeps.stays x (ap (λ s. s.passed) is ∙ takes ∙ e);
         was = ap is_some (sym takes) ∙ so ∙ ap has_found logs;

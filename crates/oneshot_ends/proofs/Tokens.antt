@@ -38,8 +38,8 @@ pub halved : (id : ℕ) (v : Half) → v ≡ Both → Forks TokenIs id v (Parkin
 halved id v is x views kept at = divides (subst (Has x views id) is (has kept id at))
 
 -- a park that finds the token, or none
-abbrev pub Takes : Half → Bool → Bool → Half → Type 0
-Takes before was now after = (was ≡ true → took before ≡ false) × (after ≡ Parking (was || took before))
+abbrev pub MayTake : Half → Bool → Bool → Half → Type 0
+MayTake before was now after = (was ≡ true → took before ≡ false) × (after ≡ Parking (was || took before))
 
 takes : {x : Bool} {vs : List Half} {id : ℕ} {t : Bool} → Has x vs id (Parking t)
     → (w : Half) × TokenIs false (set vs id w) × ((x ≡ true → t ≡ false) × (w ≡ Parking (x || t)))
@@ -47,7 +47,7 @@ takes to_come_parking = (Parking false, to_come, (λ _. refl, refl))
 takes there_parking = (Parking true, taken, (λ _. refl, refl))
 takes taken_parking = (Parking true, taken, (λ e. absurd (cc), refl))
 
-pub can_take : (id : ℕ) (v : Half) → v ≡ Parking (took v) → Turns TokenIs id v (λ _. false) Takes
+pub can_take : (id : ℕ) (v : Half) → v ≡ Parking (took v) → Turns TokenIs id v (λ _. false) MayTake
 can_take id v is x views kept at = takes (subst (Has x views id) is (has kept id at))
 
 -- the wake

@@ -29,8 +29,8 @@ use Rattle.oneshot_ends.specs.Deadlines.{HasEnd}
 use Rattle.oneshot_ends.specs.OwnWakers.{IsCopyFor}
 
 -- a waker in a run; contracts leave open which one
-abbrev pub Waking : Type 0
-Waking = Unit {0}
+abbrev pub UnnamedWaker : Type 0
+UnnamedWaker = Unit {0}
 
 -- A channel: its shared table, and the value that its promise is about. So ends of one channel are about one value.
 pub record Channel (P : Type 0) : Type 0 where
@@ -38,13 +38,13 @@ pub record Channel (P : Type 0) : Type 0 where
   pub about : P
 
 -- a sender; `about` is its channel's
-pub record SenderEndOf (P : Type 0) : Type 0 where
+pub record SenderView (P : Type 0) : Type 0 where
   pub channel : Channel P
   pub log : List Noted
   pub about : P
 
 -- a receiver: the same, with the message that it took out of the channel, if it has
-pub record EndOf (T P : Type 0) : Type 0 where
+pub record ReceiverView (T P : Type 0) : Type 0 where
   pub channel : Channel P
   pub log : List Noted
   pub about : P
@@ -52,7 +52,7 @@ pub record EndOf (T P : Type 0) : Type 0 where
 
 -- A future: the same, with the source at which its polls register, and the waker by which the sender wakes it, while
 -- one is in the channel or the sender has taken it.
-pub record FutureEndOf (T P : Type 0) : Type 0 where
+pub record FutureView (T P : Type 0) : Type 0 where
   pub channel : Channel P
   pub log : List Noted
   pub source : ℕ
@@ -61,7 +61,7 @@ pub record FutureEndOf (T P : Type 0) : Type 0 where
   pub registered : Option Waker
 
 -- an error: the message that was refused, and the sender's channel and log
-pub record Failed (T P : Type 0) : Type 0 where
+pub record RefusedView (T P : Type 0) : Type 0 where
   pub message : T
   pub channel : Channel P
   pub log : List Noted
@@ -79,17 +79,17 @@ abbrev pub registered_by : {T H K P : Type 0} → Side T (AnyWaker H K) P → Op
 registered_by side = registered_if (is_registered (receiver_at side.log)) side.handed
 
 -- A pending poll has asked for its task to be polled again, or has left a copy of its task's waker in the channel.
-abbrev pub WillBeWoken : {T P : Type 0} → Context → FutureEndOf T P → Type 0
+abbrev pub WillBeWoken : {T P : Type 0} → Context → FutureView T P → Type 0
 WillBeWoken cx future = (cx.is_woken ≡ true) ⊎ IsSomeAnd future.registered (IsCopyFor cx)
 
 -- the log grew by the operations of one run of this call, which ends in this reply
 pub record SenderGrew (T : Type 0) (call : SenderCall) (before after : List Noted) (reply : Reply) : Type 0 where
-  pub run : List (Event T Waking)
+  pub run : List (Event T UnnamedWaker)
   pub is_run : Run sender_step sender_row (sender_start call) run reply
   pub list : after ≡ before ++ words run
 
 pub record ReceiverGrew (T : Type 0) (call : ReceiverStart) (before after : List Noted) (reply : Reply) : Type 0 where
-  pub run : List (Event T Waking)
+  pub run : List (Event T UnnamedWaker)
   pub is_run : Run receiver_step receiver_row (receiver_start call) run reply
   pub list : after ≡ before ++ words run
 
@@ -110,14 +110,14 @@ pub record TimeoutGrew (T : Type 0) (timeout : Duration) (before after : List No
 
 -- The log of a receiver or a future between two calls is that of some calls that it has replied to.
 abbrev pub HasCalls : (T : Type 0) → Form → List Noted → Type 0
-HasCalls T form log = (calls : List (ReceiverStart × Reply)) × ReceiverCalled T Waking form calls log
+HasCalls T form log = (calls : List (ReceiverStart × Reply)) × ReceiverCalled T UnnamedWaker form calls log
 
 -- Adds one more call, which leaves the receiver in place, to those before it.
 abbrev pub CallsAddUp : (T : Type 0) → Type 0
 CallsAddUp T =
     (form : Form) (calls : List (ReceiverStart × Reply)) (before after : List Noted) (reply : Reply)
-    (call : ReceiverStart) → IsTrue (stays form call) → ReceiverCalled T Waking form calls before
-    → ReceiverGrew T call before after reply → ReceiverCalled T Waking form (calls ++ (call, reply) ∷ []) after
+    (call : ReceiverStart) → IsTrue (stays form call) → ReceiverCalled T UnnamedWaker form calls before
+    → ReceiverGrew T call before after reply → ReceiverCalled T UnnamedWaker form (calls ++ (call, reply) ∷ []) after
 
 -- the log is its end's part of some order of both ends' operations
 abbrev pub SenderIsOrdered : List Noted → Type 0
@@ -128,19 +128,19 @@ ReceiverIsOrdered ys = (xs : List Noted) × (word : ℕ) × Reaches xs ys word
 
 -- the log of an error is that of one call, a `send` that was refused
 abbrev pub WasRefused : (T : Type 0) → List Noted → Type 0
-WasRefused T log = SenderCalled T Waking ((Send, Refused) ∷ []) log
+WasRefused T log = SenderCalled T UnnamedWaker ((Send, Refused) ∷ []) log
 
 -- a receiver that is closed, or open
-abbrev pub IsClosed : {T P : Type 0} → EndOf T P → Type 0
+abbrev pub IsClosed : {T P : Type 0} → ReceiverView T P → Type 0
 IsClosed receiver = IsClosedAt (receiver_at receiver.log)
 
-abbrev pub IsOpen : {T P : Type 0} → EndOf T P → Type 0
+abbrev pub IsOpen : {T P : Type 0} → ReceiverView T P → Type 0
 IsOpen receiver = IsOpenAt (receiver_at receiver.log)
 
 -- the same of a future
-abbrev pub IsDone : {T P : Type 0} → FutureEndOf T P → Type 0
+abbrev pub IsDone : {T P : Type 0} → FutureView T P → Type 0
 IsDone future = IsClosedAt (receiver_at future.log)
 
 -- one that is not done: a later poll may return the message
-abbrev pub IsUnfinished : {T P : Type 0} → FutureEndOf T P → Type 0
+abbrev pub IsUnfinished : {T P : Type 0} → FutureView T P → Type 0
 IsUnfinished future = IsOpenAt (receiver_at future.log)

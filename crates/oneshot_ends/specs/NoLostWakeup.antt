@@ -10,7 +10,7 @@ use Rattle.futures.specs.declared.task.waker.Waker.{Waker}
 use Rattle.oneshot_machine.specs.Logs.{receiver_of}
 use Rattle.oneshot_machine.specs.Phases.{By, receiver_at}
 use Rattle.oneshot_drive.specs.Blocking.{Parks}
-use Rattle.oneshot_drive.specs.Wakes.{finds_waiting}
+use Rattle.oneshot_drive.specs.Wakes.{found_receiver_waiting}
 use Rattle.oneshot_word.specs.declared.any_waker.AnyWaker.TheVariants.{Task}
 use Rattle.oneshot_word.specs.Side.{Side}
 use Rattle.oneshot_ends.specs.declared.token.Given.{Given}
@@ -70,7 +70,7 @@ module _ {T P : Type 0} (keeps : P → T → Type 0) where
   abbrev pub EndedSendersGaveTokens : Type 0
   EndedSendersGaveTokens =
       (by : By) (sender : Sending T RealWaker P) (receiver : Side T RealWaker P) (parker : TableId)
-      → AtOneMoment keeps sender.side receiver → HasEnded by sender → finds_waiting sender.side.log ≡ true
+      → AtOneMoment keeps sender.side receiver → HasEnded by sender → found_receiver_waiting sender.side.log ≡ true
       → Gave (IsHalfOf parker) receiver.handed → HasGivenTokenOf parker sender
 
   -- Once the sender has ended, a receiver that sleeps has its token there.
@@ -92,7 +92,7 @@ module _ {T P : Type 0} (keeps : P → T → Type 0) where
   abbrev pub EndedSendersWokeTasks : Type 0
   EndedSendersWokeTasks =
       (by : By) (sender : Sending T RealWaker P) (future : Side T RealWaker P) (cx : Context)
-      → AtOneMoment keeps sender.side future → HasEnded by sender → finds_waiting sender.side.log ≡ true
+      → AtOneMoment keeps sender.side future → HasEnded by sender → found_receiver_waiting sender.side.log ≡ true
       → Gave (IsTaskOf cx) future.handed → HasUsedWakerOf cx sender
 
   -- Once the sender has ended, it has used the waker of a future that is registered.

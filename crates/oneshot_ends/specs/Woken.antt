@@ -6,7 +6,7 @@ use Rattle.oneshot_word.specs.declared.any_waker.AnyWaker.TheVariants.{Thread}
 use Rattle.oneshot_machine.specs.Logs.{words, sender_of}
 use Rattle.oneshot_machine.specs.Phases.{By, SenderAt}
 use Rattle.oneshot_machine.specs.Over.{SenderIsOver}
-use Rattle.oneshot_drive.specs.Wakes.{finds_waiting}
+use Rattle.oneshot_drive.specs.Wakes.{found_receiver_waiting}
 use Rattle.oneshot_word.specs.Side.{Side}
 use Rattle.oneshot_ends.specs.Grounds.{state_of}
 use Rattle.oneshot_ends.specs.declared.token.Given.{Given}
@@ -32,7 +32,7 @@ abbrev pub phase : {T W P : Type 0} → Sending T W P → SenderAt
 phase s = sender_of (state_of s.side).log
 
 abbrev pub found_waiting : {T W P : Type 0} → Sending T W P → Bool
-found_waiting s = finds_waiting (words (state_of s.side).log.list)
+found_waiting s = found_receiver_waiting (words (state_of s.side).log.list)
 
 -- A sender that found its receiver waiting has used the waker that it took: a thread's half has given its token.
 abbrev pub HasWoken : {T K P : Type 0} → Sending T (AnyWaker WakingHalf K) P → Type 0

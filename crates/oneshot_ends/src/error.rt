@@ -7,7 +7,7 @@ ghost use Rattle.oneshot_machine.specs.Over.{IsLate};
 ghost use Rattle.oneshot_ends.specs.Ends.{SenderIsOrdered, WasRefused, channel_at};
 ghost use Rattle.oneshot_ends.specs.Woken.{HasEnded};
 
-use crate::ground::{Refused, SharedSender};
+use crate::ground::{Refused, SenderBackend};
 use crate::token::WakingHalf;
 use futures::task::Waker;
 use oneshot_drive::{drop_error, into_inner};
@@ -30,9 +30,9 @@ pub struct SendError<T, P: Promise<T> = ()> {
 }
 
 impl<T, P: Promise<T>> Model for SendError<T, P> {
-    ghost use Rattle.oneshot_ends.specs.Ends.{Failed};
+    ghost use Rattle.oneshot_ends.specs.Ends.{RefusedView};
 
-    ghost Value = { Failed T P };
+    ghost Value = { RefusedView T P };
 
     ghost view = { λ e. e.refused };
 }
@@ -58,7 +58,7 @@ impl<T, P: Promise<T>> SendError<T, P> {
     }
 
     /// The error of a `send` that was refused on this ground.
-    pub(crate) fn refused(ground: SharedSender<T, P>) -> SendError<T, P>
+    pub(crate) fn refused(ground: SenderBackend<T, P>) -> SendError<T, P>
         requires ended { HasEnded sending ground }
         requires full { (message : T) × (ground.side.message ≡ held message) }
         requires late { IsLate (sender_at ground.side.log) }

@@ -4,8 +4,8 @@ ghost use Rattle.std.specs.Prelude.{◌≡◌, Bool};
 
 use std::marker::Model;
 
-// In place of a `Snapshot<bool>`: callers' proofs find no lemma that a `Snapshot` may go to another thread.
 /// Whether an end freed the block. It has no bytes, and only proofs read it.
+// In place of a `Snapshot<bool>`: callers' proofs find no lemma that a `Snapshot` may go to another thread.
 #[derive(Drop)]
 pub(crate) struct Freed {
     pub(crate) ghost value: { Bool },
@@ -25,6 +25,7 @@ impl Freed {
     pub(crate) fn of(freed: bool) -> Freed
         ensures { result.value ≡ freed }
     {
+        // Only the ghost field has it.
         let _ = freed;
         Freed {}
     }

@@ -54,10 +54,10 @@ pub struct AsyncReceiver<T, Rt, P: Promise<T> = ()> {
 }
 
 impl<T, Rt, P: Promise<T>> Model for AsyncReceiver<T, Rt, P> {
-    ghost use Rattle.oneshot_ends.specs.Ends.{FutureEndOf, channel_at, registered_by};
+    ghost use Rattle.oneshot_ends.specs.Ends.{FutureView, channel_at, registered_by};
     ghost use Rattle.oneshot_ends.specs.Invariants.{FutureInvariant};
 
-    ghost Value = { FutureEndOf T P };
+    ghost Value = { FutureView T P };
 
     ghost view = { λ r. record {
       channel = channel_at r.ground;
@@ -119,7 +119,7 @@ impl<T: Drop, Rt: Drop, P: Promise<T>> AsyncReceiver<T, Rt, P> {
         ensures same_waker { result ≡ Err Tried.Empty → self.new.registered ≡ self.old.registered }
         ensures bounded { GrewWithin (receiver_bound C.AsyncTryRecv) self.old.log self.new.log }
         ensures about { self.new.about ≡ self.old.about }
-        ensures kept { IfOk result (λ message. P.keeps self.old.about message) }
+        ensures promise { IfOk result (λ message. P.keeps self.old.about message) }
         ensures took { Takes result self.old.took self.new.took }
     {
         async_try_recv(&mut self.ground)

@@ -9,6 +9,6 @@ mod thread;
 
 pub(crate) use error::Refused;
 pub(crate) use receiver::{ChannelReceiver, SharedReceiver};
-pub(crate) use sender::{SharedSender, Unsent};
+pub(crate) use sender::{SenderBackend, Unsent};
 pub(crate) use task::Polling;
 pub(crate) use thread::Blocking;

@@ -1,4 +1,5 @@
 //! What always holds of the ends between their calls: each function's contract states a law, and its body does nothing.
+//! A body that mentions a field does so for the invariant of the field's type, which its proof uses.
 
 ghost use Rattle.atomic_table.specs.Seated.{TableId};
 ghost use Rattle.futures.specs.declared.task.context.Context.{Context};

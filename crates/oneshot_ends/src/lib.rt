@@ -1,10 +1,11 @@
 //! The ends of a channel: its sender, its receiver, and the error of a refused message.
 //!
-//! The way of a message: `Sender::send` turns its side of the shared word into a ground (`SharedSender`) and calls the
+//! The way of a message: `Sender::send` turns its side of the shared word into a ground (`SenderBackend`) and calls the
 //! driver of `oneshot_drive`. The driver writes the message into its slot and then acts on the word: each step is a
-//! method of the ground, which forwards it to the side (`SenderSide` of `oneshot_word`). A receive lends its ground
-//! (`SharedReceiver`) to its driver, in a `Blocking` with what it parks by or in a `Polling` with its task; once a load
-//! finds the message, the driver takes it out of the slot.
+//! method of the ground, which forwards it to the side (`SenderSide` of `oneshot_word`). A receive that blocks lends
+//! its ground (`SharedReceiver`) to its driver in a `Blocking`, with what it parks by, and a poll in a `Polling`, with
+//! its task. Any other call acts on the ground itself. Once a load finds the message, the driver takes it out of the
+//! slot.
 #![tactic(auto)]
 
 mod copies;

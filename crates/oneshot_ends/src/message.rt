@@ -8,14 +8,14 @@ ghost use Rattle.oneshot_machine.specs.Over.{FoundTheEnd};
 ghost use Rattle.oneshot_ends.specs.Grounds.{state_of};
 ghost use Rattle.oneshot_ends.specs.Woken.{HasEnded, phase};
 
-use crate::ground::{ChannelReceiver, SharedSender};
+use crate::ground::{ChannelReceiver, SenderBackend};
 use oneshot_word::Promise;
 
 /// What a channel carries: any value that may be dropped. A function that knows no more of its messages than this can
 /// neither drop nor forget one, or an end.
 pub trait Message: Sized {
     /// Releases a sender after a `send` to a receiver that was there.
-    fn sent<P: Promise<Self>>(ground: SharedSender<Self, P>)
+    fn sent<P: Promise<Self>>(ground: SenderBackend<Self, P>)
         requires ended { HasEnded sending ground }
         requires sent { phase ground ≡ finished sending };
 
@@ -26,7 +26,7 @@ pub trait Message: Sized {
 }
 
 impl<T: Drop> Message for T {
-    fn sent<P: Promise<T>>(ground: SharedSender<T, P>)
+    fn sent<P: Promise<T>>(ground: SenderBackend<T, P>)
         requires ended { HasEnded sending ground }
         requires sent { phase ground ≡ finished sending }
     {

@@ -17,9 +17,9 @@ pub struct RawSender<T, P: Promise<T> = ()> {
 }
 
 impl<T, P: Promise<T>> Model for RawSender<T, P> {
-    ghost use Rattle.oneshot_ends.specs.Ends.{SenderEndOf};
+    ghost use Rattle.oneshot_ends.specs.Ends.{SenderView};
 
-    ghost Value = { SenderEndOf P };
+    ghost Value = { SenderView P };
 
     ghost view = { λ r. r.sender };
 }
@@ -74,9 +74,9 @@ pub struct RawReceiver<T, Rt, P: Promise<T> = ()> {
 }
 
 impl<T, Rt, P: Promise<T>> Model for RawReceiver<T, Rt, P> {
-    ghost use Rattle.oneshot_ends.specs.Ends.{EndOf};
+    ghost use Rattle.oneshot_ends.specs.Ends.{ReceiverView};
 
-    ghost Value = { EndOf T P };
+    ghost Value = { ReceiverView T P };
 
     ghost view = { λ r. r.receiver };
 }

@@ -56,10 +56,10 @@ pub struct Receiver<T, Rt, P: Promise<T> = ()> {
 }
 
 impl<T, Rt, P: Promise<T>> Model for Receiver<T, Rt, P> {
-    ghost use Rattle.oneshot_ends.specs.Ends.{EndOf, channel_at};
+    ghost use Rattle.oneshot_ends.specs.Ends.{ReceiverView, channel_at};
     ghost use Rattle.oneshot_ends.specs.Invariants.{ReceiverInvariant};
 
-    ghost Value = { EndOf T P };
+    ghost Value = { ReceiverView T P };
 
     ghost view = { λ r. record {
       channel = channel_at r.ground;
@@ -112,7 +112,7 @@ impl<T: Drop, Rt: Drop, P: Promise<T>> Receiver<T, Rt, P> {
         ensures stays_closed { IsClosed self.old → result ≡ Err Tried.Disconnected }
         ensures bounded { GrewWithin (receiver_bound TryRecv) self.old.log self.new.log }
         ensures about { self.new.about ≡ self.old.about }
-        ensures kept { IfOk result (λ message. P.keeps self.old.about message) }
+        ensures promise { IfOk result (λ message. P.keeps self.old.about message) }
         ensures took { Takes result self.old.took self.new.took }
     {
         try_recv(&mut self.ground)
@@ -155,7 +155,7 @@ impl<T: Drop, Rt: Wait + Clock + Drop, P: Promise<T>> Receiver<T, Rt, P> {
         ensures closes { IsClosed self.new }
         ensures stays_closed { IsClosed self.old → IsErr result }
         ensures about { self.new.about ≡ self.old.about }
-        ensures kept { IfOk result (λ message. P.keeps self.old.about message) }
+        ensures promise { IfOk result (λ message. P.keeps self.old.about message) }
         ensures took { Takes result self.old.took self.new.took }
     {
         let patience = Patience::until(Deadline::Never);
@@ -183,7 +183,7 @@ impl<T: Drop, Rt: Wait + Clock + Drop, P: Promise<T>> Receiver<T, Rt, P> {
         ensures stays_open { result ≡ Err Timed.Timeout → IsOpen self.new }
         ensures stays_closed { IsClosed self.old → result ≡ Err Timed.Disconnected }
         ensures about { self.new.about ≡ self.old.about }
-        ensures kept { IfOk result (λ message. P.keeps self.old.about message) }
+        ensures promise { IfOk result (λ message. P.keeps self.old.about message) }
         ensures took { Takes result self.old.took self.new.took }
     {
         let patience = Patience::until(Deadline::At(deadline));
@@ -205,7 +205,7 @@ impl<T: Drop, Rt: Wait + Clock + Drop, P: Promise<T>> Receiver<T, Rt, P> {
         ensures stays_open { result ≡ Err Timed.Timeout → IsOpen self.new }
         ensures stays_closed { IsClosed self.old → result ≡ Err Timed.Disconnected }
         ensures about { self.new.about ≡ self.old.about }
-        ensures kept { IfOk result (λ message. P.keeps self.old.about message) }
+        ensures promise { IfOk result (λ message. P.keeps self.old.about message) }
         ensures took { Takes result self.old.took self.new.took }
     {
         let reading = read(&self.rt);
@@ -220,7 +220,7 @@ impl<T: Drop, Rt: Wait + Clock + Drop, P: Promise<T>> Receiver<T, Rt, P> {
         ensures leaves { LeavesTimed result (receiver_at self.new.log) }
         ensures stays_closed { IsClosed self.old → result ≡ Err Timed.Disconnected }
         ensures about { self.new.about ≡ self.old.about }
-        ensures kept { IfOk result (λ message. P.keeps self.old.about message) }
+        ensures promise { IfOk result (λ message. P.keeps self.old.about message) }
         ensures took { Takes result self.old.took self.new.took }
     {
         let patience = Patience::after(reading, timeout);
@@ -240,7 +240,7 @@ impl<T: Message, Rt: Wait + Clock + Drop, P: Promise<T>> Receiver<T, Rt, P> {
     /// still holds it.
     pub fn recv(self) -> Result<T, RecvError>
         ensures stays_closed { IsClosed self → IsErr result }
-        ensures kept { IfOk result (λ message. P.keeps self.about message) }
+        ensures promise { IfOk result (λ message. P.keeps self.about message) }
     {
         let Receiver {
             mut ground,

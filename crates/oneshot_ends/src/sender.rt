@@ -33,10 +33,10 @@ pub struct Sender<T, P: Promise<T> = ()> {
 }
 
 impl<T, P: Promise<T>> Model for Sender<T, P> {
-    ghost use Rattle.oneshot_ends.specs.Ends.{SenderEndOf, channel_at};
+    ghost use Rattle.oneshot_ends.specs.Ends.{SenderView, channel_at};
     ghost use Rattle.oneshot_ends.specs.Grounds.{IsNewSender};
 
-    ghost Value = { SenderEndOf P };
+    ghost Value = { SenderView P };
 
     ghost view = { λ s. record { channel = channel_at s.side; log = s.side.log; about = s.side.about } };
 
@@ -58,6 +58,7 @@ impl<T, P: Promise<T>> Sender<T, P> {
 
 impl<T: Message> Sender<T> {
     /// Sends `message`, and wakes a waiting receiver. It never blocks and does not allocate.
+    /// Waking a task takes the lock of its executor's queue (docs/TRUST.md).
     ///
     /// - `Ok`: the receiver was there. It may still be dropped before it receives the message.
     /// - `Err`: the receiver was gone, or was a future that was dropped while `send` was about to wake its
@@ -82,7 +83,7 @@ impl<T: Message, P: Promise<T>> Sender<T, P> {
     /// Sends `message` as `send` does. It requires that `message` keeps the channel's promise, which the
     /// receive then guarantees. The results are those of `send`: the error owns a refused message.
     pub fn send_kept(self, message: T) -> Result<(), SendError<T, P>>
-        requires kept { P.keeps self.about message }
+        requires promise { P.keeps self.about message }
         ensures message { IfErr result (λ error. error.message ≡ message) }
         ensures channel { IfErr result (λ error. error.channel ≡ self.channel) }
         ensures run { IfErr result (λ error. SenderGrew T Send self.log error.log Refused) }

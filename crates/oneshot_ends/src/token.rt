@@ -58,8 +58,8 @@ impl Outcome<bool, Half> for Gives {
     ghost then = { λ _ _ _ after. after ≡ Waking true };
 }
 
-// It has no `Drop`, so that none can be forgotten.
 /// The half by which a thread parks. A contract sees its parker, and whether it took the token.
+// It has no `Drop`, so that none can be forgotten.
 pub(crate) struct ParkingHalf {
     parker: RuledParker<Half, TokenRule>,
     pass: Pass<Half>,
@@ -122,6 +122,7 @@ pub(crate) fn parker(alloc: Global) -> Result<(ParkingHalf, WakingHalf), AllocEr
     ))
 }
 
+// The argument `receiver` is there for the clauses alone, which state whether it waits.
 impl ParkingHalf {
     ghost use Rattle.oneshot_machine.specs.Phases.{receiver_at};
     ghost use Rattle.oneshot_ends.specs.NoLostWakeup.{SleepsOn};

@@ -2,7 +2,7 @@
 use Rattle.std.proofs.Common.{◌≡◌, ℕ, Bool, true, false, not, ◌||◌, ◌+◌, List, [], ◌∷◌, Option, Some, refl, sym, ap, subst, ◌∙◌, map, option_map}
 use Rattle.oneshot_world.specs.Ahead.{Ahead, ahead_of}
 use Rattle.oneshot_world.specs.Scripts.{calls_of}
-use Rattle.oneshot_world.specs.World.{World, opening, turn, Tells_from, Tells}
+use Rattle.oneshot_world.specs.World.{World, opening, turn, IsRunFrom, IsRun}
 use Rattle.oneshot_world.specs.declared.script.AsyncLast.TheVariants as AL
 use Rattle.oneshot_world.specs.declared.script.ErrorLast.TheVariants as EL
 use Rattle.oneshot_world.specs.declared.script.Move.{Move}
@@ -25,9 +25,9 @@ use Rattle.oneshot_law_examples.specs.RecordExamples.{sending, sends, receiving,
 use Rattle.oneshot_law_examples.proofs.WakersComputed.{wakers_are_computed}
 
 -- each entry of the worked traces is that of its move
-thread_tells : Tells (opening sends (receiving [] RL.Recv)) (worlds_in sends (receiving [] RL.Recv) waited_for_message)
+thread_runs : IsRun (opening sends (receiving [] RL.Recv)) (worlds_in sends (receiving [] RL.Recv) waited_for_message)
     (moves_in waited_for_message) waited_for_message.entries
-thread_tells = (
+thread_runs = (
   refl,
   (
     refl,
@@ -50,10 +50,10 @@ thread_tells = (
   ),
 )
 
-task_tells : Tells (opening (sending 0 EL.Drop) (polling AL.Drop))
+task_runs : IsRun (opening (sending 0 EL.Drop) (polling AL.Drop))
     (worlds_in (sending 0 EL.Drop) (polling AL.Drop) dropped_while_pending)
     (moves_in dropped_while_pending) dropped_while_pending.entries
-task_tells = (
+task_runs = (
   refl,
   (
     refl,
@@ -82,7 +82,7 @@ right_records =
       of_a_thread = record {
         run = record {
           worlds = worlds_in sends (receiving [] RL.Recv) waited_for_message;
-          tells = thread_tells;
+          is_run = thread_runs;
           block_freed = refl;
           rest = refl;
         };
@@ -96,7 +96,7 @@ right_records =
         cell_kept = refl;
         never_unwoken = record {
           worlds = worlds_in sends (receiving [] RL.Recv) waited_for_message;
-          tells = thread_tells;
+          is_run = thread_runs;
           woken = refl;
         };
         freed_right = refl;
@@ -115,7 +115,7 @@ right_records =
       of_a_task = record {
         run = record {
           worlds = worlds_in (sending 0 EL.Drop) (polling AL.Drop) dropped_while_pending;
-          tells = task_tells;
+          is_run = task_runs;
           block_freed = refl;
           rest = refl;
         };
@@ -129,7 +129,7 @@ right_records =
         cell_kept = refl;
         never_unwoken = record {
           worlds = worlds_in (sending 0 EL.Drop) (polling AL.Drop) dropped_while_pending;
-          tells = task_tells;
+          is_run = task_runs;
           woken = refl;
         };
         freed_right = refl;
@@ -148,19 +148,19 @@ right_records =
     }
 
 -- the worlds of a run: none without a move, and the first is that of the first move
-pub stays : (k : ℕ) (w : World) (worlds : List World) → Tells_from k w worlds [] [] → last_of w worlds ≡ w
-stays k w [] tells = refl
-stays k w (next ∷ worlds) tells = elim tells [ ]
+pub stays : (k : ℕ) (w : World) (worlds : List World) → IsRunFrom k w worlds [] [] → last_of w worlds ≡ w
+stays k w [] is_run = refl
+stays k w (next ∷ worlds) is_run = elim is_run [ ]
 
-unmoved : (k : ℕ) (w : World) (worlds : List World) (entry : Entry) → Tells_from k w worlds [] (entry ∷ []) → ⊥
-unmoved k w [] entry tells = elim tells [ ]
-unmoved k w (next ∷ worlds) entry tells = elim tells [ ]
+unmoved : (k : ℕ) (w : World) (worlds : List World) (entry : Entry) → IsRunFrom k w worlds [] (entry ∷ []) → ⊥
+unmoved k w [] entry is_run = elim is_run [ ]
+unmoved k w (next ∷ worlds) entry is_run = elim is_run [ ]
 
 pub turned : (k : ℕ) (w : World) (worlds : List World) (move : Move) (entry : Entry)
-    → Tells_from k w worlds (move ∷ []) (entry ∷ []) → turn k w move ≡ Some (entry, last_of w worlds)
-turned k w [] move entry tells = elim tells [ ]
-turned k w (next ∷ worlds) move entry tells =
-    subst (λ w'. turn k w move ≡ Some (entry, w')) (sym (stays (k + 1) next worlds tells.1)) tells.0
+    → IsRunFrom k w worlds (move ∷ []) (entry ∷ []) → turn k w move ≡ Some (entry, last_of w worlds)
+turned k w [] move entry is_run = elim is_run [ ]
+turned k w (next ∷ worlds) move entry is_run =
+    subst (λ w'. turn k w move ≡ Some (entry, w')) (sym (stays (k + 1) next worlds is_run.1)) is_run.0
 
 -- unwoken at the end of these entries, whatever lies ahead
 or_true : (b : Bool) → (b || true) ≡ true
@@ -185,13 +185,13 @@ left_unwoken moves never =
 -- what this run has at its end, without a move
 not_freed : IsReplayed sends (receiving [] RL.Stop) [] (shows nothing_moved true (Some (NotSent 7))) → ⊥
 not_freed run =
-    let is : true ≡ false = run.block_freed ∙ ap (λ (w : World). w.state.freed) (stays 1 _ run.worlds run.tells) in
+    let is : true ≡ false = run.block_freed ∙ ap (λ (w : World). w.state.freed) (stays 1 _ run.worlds run.is_run) in
     cc is
 
 its_rest : (rest : Option (Rest ℕ)) → IsReplayed sends (receiving [] RL.Stop) [] (shows nothing_moved false rest)
     → rest ≡ Some (NotSent 7)
 its_rest rest run =
-    run.rest ∙ ap (λ (w : World). rest_at w.state.message (Some 7)) (stays 1 _ run.worlds run.tells)
+    run.rest ∙ ap (λ (w : World). rest_at w.state.message (Some 7)) (stays 1 _ run.worlds run.is_run)
 
 -- a damaged trace, whose computed test is false, does not satisfy the law
 no_wakers : (x : Example) → are_wakers_right x.entries (marks_in x) ≡ false → AreWakersRight x.entries (marks_in x) → ⊥
@@ -231,13 +231,13 @@ pub wrong_runs : WrongRuns
 wrong_runs =
     record {
       tells_another_entry =
-          λ freed rest run. let told =
-          ap (option_map (λ (t : Entry × World). t.0)) (turned 1 _ run.worlds _ _ run.tells) in cc told;
-      tells_unmoved = λ freed rest run. unmoved 1 _ run.worlds _ run.tells;
+          λ freed rest run. let made =
+          ap (option_map (λ (t : Entry × World). t.0)) (turned 1 _ run.worlds _ _ run.is_run) in cc made;
+      runs_unmoved = λ freed rest run. unmoved 1 _ run.worlds _ run.is_run;
       frees_nothing = not_freed;
       has_it_still =
           λ run. let is : Some (Delivered 7) ≡ Some (NotSent 7) = its_rest _ run in cc is;
       has_its_own = λ run. let is : Some (NotSent 8) ≡ Some (NotSent 7) = its_rest _ run in cc is;
-      is_no_run = λ never. unmoved 1 _ never.worlds _ never.tells;
+      is_no_run = λ never. unmoved 1 _ never.worlds _ never.is_run;
       is_unwoken = left_unwoken;
     }

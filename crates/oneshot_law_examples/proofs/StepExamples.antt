@@ -32,31 +32,31 @@ calls_that_are_left =
     }
 
 begins : HasRun sends tries [] [] before
-begins = record { worlds = []; tells = tt; ends = refl; count = refl; message = refl }
+begins = record { worlds = []; is_run = tt; ends = refl; count = refl; message = refl }
 
 pub steps_that_are : StepsThatAre
 steps_that_are =
     record {
       begins = begins;
       goes_on = goes_on before M.Sender writes after refl refl refl;
-      has_come = record { worlds = after.world ∷ []; tells = (refl, tt); ends = refl; count = refl; message = refl };
+      has_come = record { worlds = after.world ∷ []; is_run = (refl, tt); ends = refl; count = refl; message = refl };
       shows_nothing = refl;
       shows_its_rest = refl;
     }
 
 -- a run of one step
 module _ {move : Move} {entry : Entry} {now : Scene ℕ} (run : HasRun sends tries (move ∷ []) (entry ∷ []) now) where
-  tells : turn 1 before.world move ≡ Some (entry, last_of before.world run.worlds)
-  tells = turned 1 _ run.worlds move entry run.tells
+  is_run : turn 1 before.world move ≡ Some (entry, last_of before.world run.worlds)
+  is_run = turned 1 _ run.worlds move entry run.is_run
 
-tells_another : {now : Scene ℕ} → HasRun sends tries (M.Sender ∷ []) (E.Idle Sender ∷ []) now → ⊥
-tells_another run = let told = ap (option_map (λ (t : Entry × World). t.0)) (tells run) in cc told
+runs_another : {now : Scene ℕ} → HasRun sends tries (M.Sender ∷ []) (E.Idle Sender ∷ []) now → ⊥
+runs_another run = let made = ap (option_map (λ (t : Entry × World). t.0)) (is_run run) in cc made
 
 -- the sender's step puts the message into its cell
 stays : HasRun sends tries (M.Sender ∷ []) (writes ∷ []) (record before { count = 1 }) → ⊥
 stays run =
     let last : Some (Some P.InCell) ≡ Some ((last_of before.world run.worlds).state.message) =
-    ap (option_map (λ (t : Entry × World). t.1.state.message)) (tells run) in
+    ap (option_map (λ (t : Entry × World). t.1.state.message)) (is_run run) in
     let here : (last_of before.world run.worlds).state.message ≡ Some P.NotSent =
     ap (λ (w : World). w.state.message) run.ends in
     let is : Some (Some P.InCell) ≡ Some (Some P.NotSent) = last ∙ ap (λ (place : Option Place). Some place) here in
@@ -69,17 +69,17 @@ counts run = let is : 0 ≡ 1 = run.count in cc is
 by_the_other : HasRun sends tries (M.Receiver false false ∷ []) (writes ∷ []) after → ⊥
 by_the_other run =
     let is : Some (M.Receiver false false) ≡ Some M.Sender =
-    ap (option_map (λ (t : Entry × World). move_in t.0)) (tells run) in cc is
+    ap (option_map (λ (t : Entry × World). move_in t.0)) (is_run run) in cc is
 
 pub steps_that_are_not : StepsThatAreNot
 steps_that_are_not =
     record {
-      tells_another = tells_another;
+      runs_another = runs_another;
       stays_where_it_was = stays;
       counts_none = counts;
       has_another = λ run. let is : Some 8 ≡ Some 7 = run.message in cc is;
       has_none = λ run. let is : None ≡ Some 7 = run.message in cc is;
-      goes_on_idle = λ goes. tells_another (goes sends tries [] [] begins);
+      goes_on_idle = λ goes. runs_another (goes sends tries [] [] begins);
       goes_nowhere = λ goes. stays (goes sends tries [] [] begins);
       goes_uncounted = λ goes. counts (goes sends tries [] [] begins);
       goes_by_the_other = λ goes. by_the_other (goes sends tries [] [] begins);

@@ -18,7 +18,7 @@ use Rattle.oneshot_law_examples.specs.Notation.{Example, receiver, frees, withou
 use Rattle.oneshot_law_examples.specs.Notation.{carried_by}
 use Rattle.oneshot_law_examples.specs.HistoryExamples.{acting_in, is_legal_trace}
 use Rattle.oneshot_law_examples.specs.LawExamples.{are_wakers_right, marks_in, is_block_right, are_lone_replies_right, fails_at, is_right}
-use Rattle.oneshot_law_examples.specs.WaitExamples.{told_by}
+use Rattle.oneshot_law_examples.specs.WaitExamples.{entries_by}
 use Rattle.oneshot_law_examples.specs.TimedExamples.{received_by}
 use Rattle.oneshot_law_examples.specs.UnwokenExamples.{up, aheads_by}
 use Rattle.oneshot_law_examples.specs.FutureTraces.{dropped_while_finishing, dropped_once_finished, polled_while_finishing, copy_refused, polled_by_another_task, sent_before_pending}
@@ -28,21 +28,21 @@ use Rattle.oneshot_law_examples.specs.FutureTraces.{tried_beside_a_drop, sent_to
 -- THE RUNS: each trace is that of its scripts under its moves
 abbrev pub FuturesAreTold : Type 0
 FuturesAreTold =
-    (told_by (Some P.NotSent) dropped_while_finishing ≡ dropped_while_finishing.entries)
-    × (told_by (Some P.NotSent) polled_while_finishing ≡ polled_while_finishing.entries)
-    × (told_by (Some P.NotSent) copy_refused ≡ copy_refused.entries)
-    × (told_by (Some P.NotSent) polled_by_another_task ≡ polled_by_another_task.entries)
-    × (told_by (Some P.NotSent) sent_before_pending ≡ sent_before_pending.entries)
-    × (told_by (Some P.NotSent) sent_while_polling ≡ sent_while_polling.entries)
-    × (told_by (Some P.NotSent) sent_while_replacing ≡ sent_while_replacing.entries)
-    × (told_by (Some P.NotSent) dropped_while_pending ≡ dropped_while_pending.entries)
-    × (told_by (Some P.NotSent) woken_then_ready ≡ woken_then_ready.entries)
-    × (told_by None both_dropped_while_pending ≡ both_dropped_while_pending.entries)
-    × (told_by (Some P.NotSent) tried_while_pending ≡ tried_while_pending.entries)
-    × (told_by None tried_beside_a_drop ≡ tried_beside_a_drop.entries)
-    × (told_by (Some P.NotSent) sent_to_one_that_left ≡ sent_to_one_that_left.entries)
-    × (told_by None dropped_to_one_that_left ≡ dropped_to_one_that_left.entries)
-    × (told_by (Some P.NotSent) polled_over_the_sender ≡ polled_over_the_sender.entries)
+    (entries_by (Some P.NotSent) dropped_while_finishing ≡ dropped_while_finishing.entries)
+    × (entries_by (Some P.NotSent) polled_while_finishing ≡ polled_while_finishing.entries)
+    × (entries_by (Some P.NotSent) copy_refused ≡ copy_refused.entries)
+    × (entries_by (Some P.NotSent) polled_by_another_task ≡ polled_by_another_task.entries)
+    × (entries_by (Some P.NotSent) sent_before_pending ≡ sent_before_pending.entries)
+    × (entries_by (Some P.NotSent) sent_while_polling ≡ sent_while_polling.entries)
+    × (entries_by (Some P.NotSent) sent_while_replacing ≡ sent_while_replacing.entries)
+    × (entries_by (Some P.NotSent) dropped_while_pending ≡ dropped_while_pending.entries)
+    × (entries_by (Some P.NotSent) woken_then_ready ≡ woken_then_ready.entries)
+    × (entries_by None both_dropped_while_pending ≡ both_dropped_while_pending.entries)
+    × (entries_by (Some P.NotSent) tried_while_pending ≡ tried_while_pending.entries)
+    × (entries_by None tried_beside_a_drop ≡ tried_beside_a_drop.entries)
+    × (entries_by (Some P.NotSent) sent_to_one_that_left ≡ sent_to_one_that_left.entries)
+    × (entries_by None dropped_to_one_that_left ≡ dropped_to_one_that_left.entries)
+    × (entries_by (Some P.NotSent) polled_over_the_sender ≡ polled_over_the_sender.entries)
     -- a future never parks
     × (aheads_by (Some P.NotSent) polled_while_finishing ≡ replicate 19 up)
 
@@ -84,10 +84,10 @@ refused_and_silent = answered_by 3 R.Pending (up_to 3 copy_refused)
 abbrev pub NotTold : Type 0
 NotTold =
     IsTrue (is_right kept_the_old_waker && is_right refused_and_silent)
-    × (told_by (Some P.NotSent) kept_the_old_waker ≡ (up_to 6 polled_by_another_task).entries)
-    × (told_by (Some P.NotSent) refused_and_silent ≡ (up_to 3 copy_refused).entries)
+    × (entries_by (Some P.NotSent) kept_the_old_waker ≡ (up_to 6 polled_by_another_task).entries)
+    × (entries_by (Some P.NotSent) refused_and_silent ≡ (up_to 3 copy_refused).entries)
     -- no run has a drop that waits for its sender: under the same moves it leaves
-    × (told_by (Some P.NotSent) dropped_once_finished ≡ dropped_while_finishing.entries)
+    × (entries_by (Some P.NotSent) dropped_once_finished ≡ dropped_while_finishing.entries)
 
 -- THE HISTORY: the numbers of the acting entries, in their order
 abbrev pub PollsAct : Type 0

@@ -63,7 +63,7 @@ LegalTraces =
 abbrev pub IllegalTraces : Type 0
 IllegalTraces =
     IsTrue (list_all (λ x. not (is_legal_trace x))
-    -- an entry is taken out: the add, the receiver's drop, the flip
+    -- an entry is taken out: the add, the receiver's drop, the xor
     (without 2 sent_then_taken
     ∷ without 1 sent_to_nobody
     ∷ without 2 both_dropped

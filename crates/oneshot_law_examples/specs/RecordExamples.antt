@@ -65,7 +65,7 @@ moves_in x = map move_in x.entries
 abbrev pub worlds_from : ℕ → World → List Entry → List World
 worlds_from n w [] = []
 worlds_from n w (entry ∷ entries) =
-    elim (turn n w (move_in entry)) [ None ↦ [] | Some told ↦ told.1 ∷ worlds_from (n + 1) told.1 entries ]
+    elim (turn n w (move_in entry)) [ None ↦ [] | Some made ↦ made.1 ∷ worlds_from (n + 1) made.1 entries ]
 
 abbrev pub worlds_in : SenderScript ℕ → ReceiverScript → Example → List World
 worlds_in s r x = worlds_from 1 (opening s r) x.entries
@@ -125,7 +125,7 @@ pub record WrongRuns : Type 0 where
   pub tells_another_entry : (freed : Bool) (rest : Option (Rest ℕ))
       → IsReplayed sends (receiving [] RL.Stop) (M.Sender ∷ [])
       (record { entries = E.Idle Sender ∷ []; block_freed = freed; rest = rest }) → ⊥
-  pub tells_unmoved : (freed : Bool) (rest : Option (Rest ℕ))
+  pub runs_unmoved : (freed : Bool) (rest : Option (Rest ℕ))
       → IsReplayed sends (receiving [] RL.Stop) [] (shows (up_to 1 sent_then_taken) freed rest) → ⊥
   pub frees_nothing : IsReplayed sends (receiving [] RL.Stop) [] (shows nothing_moved true (Some (NotSent 7))) → ⊥
   pub has_it_still : IsReplayed sends (receiving [] RL.Stop) [] (shows nothing_moved false (Some (Delivered 7))) → ⊥

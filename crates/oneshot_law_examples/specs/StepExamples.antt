@@ -17,7 +17,7 @@ use Rattle.oneshot_world.specs.declared.script.SenderScript.{SenderScript}
 use Rattle.oneshot_world.specs.declared.trace.Entry.{Entry}
 use Rattle.oneshot_world.specs.declared.trace.Entry.TheVariants as E
 use Rattle.oneshot_world.specs.declared.trace.Place.TheVariants as P
-use Rattle.oneshot_replay.specs.Run.{HasRun, told_at, GoesOn}
+use Rattle.oneshot_replay.specs.Run.{HasRun, trace_at, GoesOn}
 use Rattle.oneshot_replay.specs.Scene.{Scene, sender_call_of, receiver_call_of}
 use Rattle.oneshot_replay.specs.TraceView.{last_of}
 use Rattle.oneshot_replay.specs.declared.rest.Rest.TheVariants.{NotSent, Delivered}
@@ -63,13 +63,13 @@ pub record StepsThatAre : Type 0 where
   pub goes_on : GoesOn before M.Sender writes after
   pub has_come : HasRun sends tries (M.Sender ∷ []) (writes ∷ []) after
   -- the traces that end at these points
-  pub shows_nothing : told_at [] before ≡ shows nothing_moved false (Some (NotSent 7))
-  pub shows_its_rest : told_at waited_for_message.entries (scene_of sends (receiving [] RL.Recv) waited_for_message 14)
+  pub shows_nothing : trace_at [] before ≡ shows nothing_moved false (Some (NotSent 7))
+  pub shows_its_rest : trace_at waited_for_message.entries (scene_of sends (receiving [] RL.Recv) waited_for_message 14)
       ≡ shows waited_for_message true (Some (Delivered 7))
 
 pub record StepsThatAreNot : Type 0 where
   -- another entry, world, count or message
-  pub tells_another : HasRun sends tries (M.Sender ∷ []) (E.Idle Sender ∷ []) after → ⊥
+  pub runs_another : HasRun sends tries (M.Sender ∷ []) (E.Idle Sender ∷ []) after → ⊥
   pub stays_where_it_was : HasRun sends tries (M.Sender ∷ []) (writes ∷ []) (record before { count = 1 }) → ⊥
   pub counts_none : HasRun sends tries (M.Sender ∷ []) (writes ∷ []) (record after { count = 0 }) → ⊥
   pub has_another : HasRun sends tries (M.Sender ∷ []) (writes ∷ []) (record after { message = Some 8 }) → ⊥

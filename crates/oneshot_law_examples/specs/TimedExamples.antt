@@ -16,19 +16,19 @@ use Rattle.oneshot_laws.specs.Replies.{is_gone_after_got, is_got_after_full, is_
 use Rattle.oneshot_law_examples.specs.Notation.{Example, receiver, replying, up_to, without, answered_by, uncarried_by}
 use Rattle.oneshot_law_examples.specs.Traces.{waited_past_its_deadline, sent_at_its_deadline, ran_out_then_taken, never_ran_out, ran_out_then_dropped, sent_before_its_deadline}
 use Rattle.oneshot_law_examples.specs.Traces.{dropped_at_its_deadline, tried_in_vain, looked_at_both_ends, closed_then_tried}
-use Rattle.oneshot_law_examples.specs.WaitExamples.{told_by}
+use Rattle.oneshot_law_examples.specs.WaitExamples.{entries_by}
 
 -- THE RUNS: each trace is that of its scripts under its moves
 abbrev pub TimedAreTold : Type 0
 TimedAreTold =
-    (told_by (Some P.NotSent) waited_past_its_deadline ≡ waited_past_its_deadline.entries)
-    × (told_by (Some P.NotSent) sent_at_its_deadline ≡ sent_at_its_deadline.entries)
-    × (told_by (Some P.NotSent) ran_out_then_taken ≡ ran_out_then_taken.entries)
-    × (told_by None never_ran_out ≡ never_ran_out.entries)
-    × (told_by None ran_out_then_dropped ≡ ran_out_then_dropped.entries)
-    × (told_by (Some P.NotSent) sent_before_its_deadline ≡ sent_before_its_deadline.entries)
-    × (told_by None dropped_at_its_deadline ≡ dropped_at_its_deadline.entries)
-    × (told_by None tried_in_vain ≡ tried_in_vain.entries)
+    (entries_by (Some P.NotSent) waited_past_its_deadline ≡ waited_past_its_deadline.entries)
+    × (entries_by (Some P.NotSent) sent_at_its_deadline ≡ sent_at_its_deadline.entries)
+    × (entries_by (Some P.NotSent) ran_out_then_taken ≡ ran_out_then_taken.entries)
+    × (entries_by None never_ran_out ≡ never_ran_out.entries)
+    × (entries_by None ran_out_then_dropped ≡ ran_out_then_dropped.entries)
+    × (entries_by (Some P.NotSent) sent_before_its_deadline ≡ sent_before_its_deadline.entries)
+    × (entries_by None dropped_at_its_deadline ≡ dropped_at_its_deadline.entries)
+    × (entries_by None tried_in_vain ≡ tried_in_vain.entries)
 
 abbrev pub TimedAreRight : Type 0
 TimedAreRight =

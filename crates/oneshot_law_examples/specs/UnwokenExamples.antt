@@ -48,7 +48,7 @@ around_no_sender = replicate 3 up ++ parks ∷ []
 abbrev pub aheads_from : ℕ → World → List Entry → List Ahead
 aheads_from n w [] = ahead_of w ∷ []
 aheads_from n w (entry ∷ entries) =
-    ahead_of w ∷ elim (turn n w (move_in entry)) [ None ↦ [] | Some told ↦ aheads_from (n + 1) told.1 entries ]
+    ahead_of w ∷ elim (turn n w (move_in entry)) [ None ↦ [] | Some made ↦ aheads_from (n + 1) made.1 entries ]
 
 abbrev pub aheads_by : Option Place → Example → List Ahead
 aheads_by message x = aheads_from 1 (opening_with message x.calls) x.entries

@@ -23,22 +23,22 @@ use Rattle.oneshot_law_examples.specs.HistoryExamples.{acting_in, is_legal_trace
 use Rattle.oneshot_law_examples.specs.LawExamples.{is_block_right, are_lone_replies_right, fails_at, is_right}
 
 -- THE RUNS: each trace is that of its scripts under its moves
-abbrev pub told_from : ℕ → World → List Entry → List Entry
-told_from n w [] = []
-told_from n w (entry ∷ entries) =
-    elim (turn n w (move_in entry)) [ None ↦ [] | Some told ↦ told.0 ∷ told_from (n + 1) told.1 entries ]
+abbrev pub entries_from : ℕ → World → List Entry → List Entry
+entries_from n w [] = []
+entries_from n w (entry ∷ entries) =
+    elim (turn n w (move_in entry)) [ None ↦ [] | Some made ↦ made.0 ∷ entries_from (n + 1) made.1 entries ]
 
-abbrev pub told_by : Option Place → Example → List Entry
-told_by message x = told_from 1 (opening_with message x.calls) x.entries
+abbrev pub entries_by : Option Place → Example → List Entry
+entries_by message x = entries_from 1 (opening_with message x.calls) x.entries
 
 abbrev pub WaitsAreTold : Type 0
 WaitsAreTold =
-    (told_by (Some P.NotSent) received_at_once ≡ received_at_once.entries)
-    × (told_by (Some P.NotSent) waited_for_message ≡ waited_for_message.entries)
-    × (told_by (Some P.NotSent) sent_before_waiting ≡ sent_before_waiting.entries)
-    × (told_by None dropped_before_waiting ≡ dropped_before_waiting.entries)
-    × (told_by None woken_by_drop ≡ woken_by_drop.entries)
-    × (told_by (Some P.NotSent) still_waiting ≡ still_waiting.entries)
+    (entries_by (Some P.NotSent) received_at_once ≡ received_at_once.entries)
+    × (entries_by (Some P.NotSent) waited_for_message ≡ waited_for_message.entries)
+    × (entries_by (Some P.NotSent) sent_before_waiting ≡ sent_before_waiting.entries)
+    × (entries_by None dropped_before_waiting ≡ dropped_before_waiting.entries)
+    × (entries_by None woken_by_drop ≡ woken_by_drop.entries)
+    × (entries_by (Some P.NotSent) still_waiting ≡ still_waiting.entries)
 
 -- THE HISTORY: the numbers of the acting entries, in their order
 abbrev pub WaitsAct : Type 0

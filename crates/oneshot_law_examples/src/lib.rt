@@ -28,12 +28,12 @@ pub fn examples()
     ensures misfreed { MisfreedBlocks }
     ensures wrong_replies { WrongReplies }
     ensures wrong_alone { WrongAlone }
-    ensures waits_told { WaitsAreTold }
+    ensures waits_are_entries { WaitsAreTold }
     ensures waits_act { WaitsAct }
     ensures illegal_waits { IllegalWaits }
     ensures misfreed_waits { MisfreedWaits }
     ensures wrong_receives { WrongReceives }
-    ensures timed_told { TimedAreTold }
+    ensures timed_are_entries { TimedAreTold }
     ensures timed_right { TimedAreRight }
     ensures timed_act { TimedAct }
     ensures illegal_timeouts { IllegalTimeouts }
@@ -47,9 +47,9 @@ pub fn examples()
     ensures within_bounds { WithinBounds }
     ensures one_operation_more { OneOperationMore }
     ensures one_move_more { OneMoveMore }
-    ensures futures_told { FuturesAreTold }
+    ensures futures_are_entries { FuturesAreTold }
     ensures futures_right { FuturesAreRight }
-    ensures not_told { NotTold }
+    ensures not_entries { NotTold }
     ensures polls_act { PollsAct }
     ensures illegal_polls { IllegalPolls }
     ensures misplaced_copies { MisplacedCopies }

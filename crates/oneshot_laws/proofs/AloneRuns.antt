@@ -2,11 +2,11 @@
 use Rattle.oneshot_laws.proofs.Names.{◌≡◌, Bool, true, false, not, ◌&&◌, ◌||◌, List, [], ◌∷◌, Option, Some, None, is_some, map, refl, if◌then◌else◌, End, and_right, both, only_if, is_same_end, Object}
 use Rattle.oneshot_laws.proofs.Names.{is_same_object, action_of, stepped, Mark, side, ends, agrees, lone_reply, is_lone_call, are_lone_calls_right}
 use Rattle.oneshot_laws.proofs.Coding.{pairs, by_parts, or_none, both_ends}
-use Rattle.oneshot_laws.proofs.Glanced.{Law, Passes, Nameless, nameless_of, LawExplored, all_glanced, passed, holds_by}
-use Rattle.oneshot_laws.proofs.Glances.{Glance, glance_of}
+use Rattle.oneshot_laws.proofs.PastLaws.{Law, Passes, Nameless, nameless_of, LawExplored, all_past, passed, holds_by}
+use Rattle.oneshot_laws.proofs.PastViews.{PastView, past_of}
 use Rattle.oneshot_laws.proofs.HistoryReader.{objects}
-use Rattle.oneshot_laws.proofs.Watched.{no_names}
-use Rattle.oneshot_laws.proofs.WatchedRuns.{EachRun}
+use Rattle.oneshot_laws.proofs.Product.{no_names}
+use Rattle.oneshot_laws.proofs.ProductRuns.{EachRun}
 
 -- the call during which the other end has made no step so far, and the object on which it began
 pub data Lone : Type 0 where
@@ -21,20 +21,20 @@ abbrev still : End → Lone → Lone
 still mover Nobody = Nobody
 still mover (Of end o) = if is_same_end mover end then Of end o else Nobody
 
-abbrev lone_at : Lone → Glance → Lone
+abbrev lone_at : Lone → PastView → Lone
 lone_at lone g = if g.begins then Of g.entry.side g.object else still g.entry.side lone
 
-abbrev answers_as : Glance → Lone → Bool
+abbrev answers_as : PastView → Lone → Bool
 answers_as g Nobody = true
 answers_as g (Of end o) =
     agrees g.entry.reply (lone_reply g.call o) && is_same_object g.next (stepped (action_of g.call) o)
 
 -- a call does not begin again, and if it ran alone it replies as the object
-abbrev answers_alone : Lone → Glance → Bool
+abbrev answers_alone : Lone → PastView → Bool
 answers_alone lone g =
     not (g.begins && is_of g.entry.side lone) && only_if (is_some g.entry.reply) (answers_as g (lone_at lone g))
 
-abbrev lone_then : Lone → Glance → Lone
+abbrev lone_then : Lone → PastView → Lone
 lone_then lone g = if is_some g.entry.reply then Nobody else lone_at lone g
 
 abbrev lone_parts : Lone → Option (End × Object)
@@ -83,28 +83,28 @@ beginning true again ended true old new right later h k = refl
 beginning true again true false old new right later h k = and_right (not again) (right new) h
 beginning true again false false old new right later h k = k
 
-lone_claim : (ms : List Mark) (lone : Lone) → Passes lone_law lone (map glance_of ms) → claim ms lone ≡ true
+lone_claim : (ms : List Mark) (lone : Lone) → Passes lone_law lone (map past_of ms) → claim ms lone ≡ true
 lone_claim ms Nobody p = refl
 lone_claim [] (Of end o) p = refl
 lone_claim (m ∷ ms) (Of end o) p =
-    going_on (is_same_end (side m) end) m.begins (ends m) (Of end o) (Of (side m) m.object) (answers_as (glance_of m))
+    going_on (is_same_end (side m) end) m.begins (ends m) (Of end o) (Of (side m) m.object) (answers_as (past_of m))
     (claim ms) p.0
-    (lone_claim ms (lone_then (Of end o) (glance_of m)) p.1)
+    (lone_claim ms (lone_then (Of end o) (past_of m)) p.1)
 
-lone_calls : (ms : List Mark) (lone : Lone) → Passes lone_law lone (map glance_of ms) → are_lone_calls_right ms ≡ true
+lone_calls : (ms : List Mark) (lone : Lone) → Passes lone_law lone (map past_of ms) → are_lone_calls_right ms ≡ true
 lone_calls [] lone p = refl
 lone_calls (m ∷ ms) lone p =
     both _ _
     (beginning m.begins (m.begins && is_of (side m) lone) (ends m) (not (is_same_end (side m) (side m)))
-    (still (side m) lone) (Of (side m) m.object) (answers_as (glance_of m)) (claim ms) p.0
-    (lone_claim ms (lone_then lone (glance_of m)) p.1))
+    (still (side m) lone) (Of (side m) m.object) (answers_as (past_of m)) (claim ms) p.0
+    (lone_claim ms (lone_then lone (past_of m)) p.1))
     (lone_calls ms _ p.1)
 
 nameless : Nameless lone_law
 nameless = nameless_of lone_law refl (λ k n g. (refl, refl)) (λ n g a b. (refl, refl))
 
 explored : LawExplored lone_law
-explored = record { found = all_glanced lone_law; all = refl }
+explored = record { found = all_past lone_law; all = refl }
 
 pub lone_calls_right : {T : Type 0} → EachRun T are_lone_calls_right
 lone_calls_right =

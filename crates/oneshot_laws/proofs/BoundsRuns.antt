@@ -2,9 +2,9 @@
 use Rattle.oneshot_laws.proofs.Names.{◌≡◌, ℕ, zero, suc, Bool, true, false, not, ◌&&◌, ◌||◌, List, [], ◌∷◌, map, Option, Some, None, refl, ◌∙◌, ap, if◌then◌else◌, End, Sender, Receiver, Call, Classes}
 use Rattle.oneshot_laws.proofs.Names.{as_call, as_made, Made, and_left, and_right, both, is_same_end, is_same_flag, Mark, side, call_marks, until_reply, at_most, operates, bound_of, is_within}
 use Rattle.oneshot_laws.proofs.Names.{is_bounded, are_calls_bounded}
-use Rattle.oneshot_laws.proofs.Glanced.{Passes, Nameless, of_call, LawExplored, all_glanced, passed, holds_by}
-use Rattle.oneshot_laws.proofs.Glances.{glance_of}
-use Rattle.oneshot_laws.proofs.WatchedRuns.{EachRun}
+use Rattle.oneshot_laws.proofs.PastLaws.{Passes, Nameless, of_call, LawExplored, all_past, passed, holds_by}
+use Rattle.oneshot_laws.proofs.PastViews.{past_of}
+use Rattle.oneshot_laws.proofs.ProductRuns.{EachRun}
 use Rattle.oneshot_laws.proofs.Budgets.{Left, Resting, Unbounded, Counted, counted, begun, under_way, is_resting, can, spend, may_make, spent, left_then, Budget, left_by, left_at, fits, budget_then}
 use Rattle.oneshot_laws.proofs.Budgets.{at_rest, budget_law}
 
@@ -82,11 +82,11 @@ nothing_left Resting = refl
 nothing_left Unbounded = refl
 nothing_left (Counted n) = refl
 
-claims : (ms : List Mark) (x : Budget) (end : End) → Passes budget_law x (map glance_of ms)
+claims : (ms : List Mark) (x : Budget) (end : End) → Passes budget_law x (map past_of ms)
     → stands (left_by end x) (call_marks end ms) ≡ true
 claims [] x Sender p = nothing_left x.sender
 claims [] x Receiver p = nothing_left x.receiver
-claims (m ∷ ms) x end p = either m.entry.side end m ms x p.0 (claims ms (budget_then x (glance_of m)) end p.1)
+claims (m ∷ ms) x end p = either m.entry.side end m ms x p.0 (claims ms (budget_then x (past_of m)) end p.1)
 
 -- the bound of the call that begins
 within : (bound : Option ℕ) (own : List Mark) → covers (counted bound) own ≡ true → is_within bound own ≡ true
@@ -112,12 +112,12 @@ first_mark Receiver m ms x h k =
     begins_at_rest m.begins m.call x.receiver (m ∷ until_reply m.entry.reply (call_marks Receiver ms) [])
     (and_left _ _ h) (here Receiver m ms x h k)
 
-each : (ms : List Mark) (x : Budget) → Passes budget_law x (map glance_of ms) → are_calls_bounded ms ≡ true
+each : (ms : List Mark) (x : Budget) → Passes budget_law x (map past_of ms) → are_calls_bounded ms ≡ true
 each [] x p = refl
 each (m ∷ ms) x p =
     both _ _
-    (first_mark (side m) m ms x p.0 (claims ms (budget_then x (glance_of m)) (side m) p.1))
-    (each ms (budget_then x (glance_of m)) p.1)
+    (first_mark (side m) m ms x p.0 (claims ms (budget_then x (past_of m)) (side m) p.1))
+    (each ms (budget_then x (past_of m)) p.1)
 
 -- the law reads no name and no number
 module _ (k : Classes) where
@@ -157,7 +157,7 @@ nameless =
     }
 
 explored : LawExplored budget_law
-explored = record { found = all_glanced budget_law; all = refl }
+explored = record { found = all_past budget_law; all = refl }
 
 pub calls_bounded : {T : Type 0} → EachRun T are_calls_bounded
 calls_bounded =

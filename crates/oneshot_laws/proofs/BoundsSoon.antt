@@ -5,10 +5,10 @@ use Rattle.oneshot_laws.proofs.Names.{is_soon_answered}
 use Rattle.oneshot_laws.proofs.Budgets.{can, spend}
 use Rattle.oneshot_laws.proofs.BoundsRuns.{pay, no_more}
 use Rattle.oneshot_laws.proofs.Coding.{pairs, by_parts, flags, numbers_below}
-use Rattle.oneshot_laws.proofs.Glanced.{Law, Passes, Nameless, LawExplored, all_glanced, passed, holds_by}
-use Rattle.oneshot_laws.proofs.Glances.{Glance, glance_of}
-use Rattle.oneshot_laws.proofs.Watched.{no_names}
-use Rattle.oneshot_laws.proofs.WatchedRuns.{EachRun}
+use Rattle.oneshot_laws.proofs.PastLaws.{Law, Passes, Nameless, LawExplored, all_past, passed, holds_by}
+use Rattle.oneshot_laws.proofs.PastViews.{PastView, past_of}
+use Rattle.oneshot_laws.proofs.Product.{no_names}
+use Rattle.oneshot_laws.proofs.ProductRuns.{EachRun}
 
 -- whether the sender is done with the word, and what the receiver's call has left since
 pub record Rest : Type 0 where
@@ -29,7 +29,7 @@ abbrev rest_at : End → Made → Rest → Rest
 rest_at Sender e x = elim x.over [ true ↦ x | false ↦ whole (finishes e) ]
 rest_at Receiver e x = elim x.over [ true ↦ spent x e | false ↦ whole false ]
 
-abbrev rest_then : Rest → Glance → Rest
+abbrev rest_then : Rest → PastView → Rest
 rest_then x g = rest_at g.entry.side g.entry x
 
 abbrev fits_at : End → Made → Rest → Bool
@@ -42,7 +42,7 @@ less zero k = true
 less (suc n) zero = false
 less (suc n) (suc k) = less n k
 
-abbrev goes_on_soon : Rest → Glance → Bool
+abbrev goes_on_soon : Rest → PastView → Bool
 goes_on_soon x g = less x.operations 2 && less x.moves 6 && fits_at g.entry.side g.entry x
 
 abbrev rest_law : Law Rest
@@ -85,10 +85,10 @@ abbrev Within : ℕ → ℕ → List Mark → Type 0
 Within n k own = (at_most n operates own ≡ true) × (at_most k each_move own ≡ true)
 
 abbrev Later : List Mark → Type 0
-Later ms = (n k : ℕ) → Passes rest_law (left n k) (map glance_of ms) → Within n k (call_marks Receiver ms)
+Later ms = (n k : ℕ) → Passes rest_law (left n k) (map past_of ms) → Within n k (call_marks Receiver ms)
 
 one_move : (end : End) (m : Mark) (ms : List Mark) (n k : ℕ) → Later ms → fits_at end m.entry (left n k) ≡ true
-    → Passes rest_law (rest_at end m.entry (left n k)) (map glance_of ms)
+    → Passes rest_law (rest_at end m.entry (left n k)) (map past_of ms)
     → Within n k (elim (is_same_end end Receiver) as (λ _. List Mark)
     [ true ↦ m ∷ until_reply m.entry.reply (call_marks Receiver ms) [] | false ↦ call_marks Receiver ms ])
 one_move Sender m ms n k later h p = later n k p
@@ -96,7 +96,7 @@ one_move Receiver m ms n k later h p =
     let operation = and_left _ _ h in
     let move = and_right (can n (operates m)) _ h in
     elim m.entry.reply as (λ a. Passes rest_law
-    (until_reply a (left (spend n (operates m)) (spend k true)) (whole true)) (map glance_of ms)
+    (until_reply a (left (spend n (operates m)) (spend k true)) (whole true)) (map past_of ms)
     → Within n k (m ∷ until_reply a (call_marks Receiver ms) [])) [
       | None ↦ λ p.
           let it = later (spend n (operates m)) (spend k true) p in (
@@ -124,7 +124,7 @@ goes_to Receiver e n k =
       | Some r ↦ ((2, 6), refl)
     ]
 
-soon : (ms : List Mark) (n k : ℕ) → Passes rest_law (left n k) (map glance_of ms) → answers_soon ms ≡ true
+soon : (ms : List Mark) (n k : ℕ) → Passes rest_law (left n k) (map past_of ms) → answers_soon ms ≡ true
 soon [] n k p = refl
 soon (m ∷ ms) n k p =
     let limits = and_left _ _ p.0 in
@@ -134,30 +134,30 @@ soon (m ∷ ms) n k p =
     (both _ _
     (more operates n 2 (call_marks Receiver (m ∷ ms)) (and_left _ _ limits) own.0)
     (more each_move k 6 (call_marks Receiver (m ∷ ms)) (and_right (less n 2) _ limits) own.1))
-    (soon ms next.0.0 next.0.1 (subst (λ x. Passes rest_law x (map glance_of ms)) next.1 p.1))
+    (soon ms next.0.0 next.0.1 (subst (λ x. Passes rest_law x (map past_of ms)) next.1 p.1))
 
 -- the sender's last operation
 last : (end : End) (e : Made) (x : Rest) (ms : List Mark) → (is_same_end end Sender && finishes e) ≡ true
-    → fits_at end e x ≡ true → Passes rest_law (rest_at end e x) (map glance_of ms) → answers_soon ms ≡ true
+    → fits_at end e x ≡ true → Passes rest_law (rest_at end e x) (map past_of ms) → answers_soon ms ≡ true
 last Receiver e x ms l h p = cc
 last Sender e x ms l h p =
     elim x.over as (λ o. not (o && finishes e) ≡ true → Passes rest_law
-    (elim o as (λ _. Rest) [ true ↦ x | false ↦ whole (finishes e) ]) (map glance_of ms) → answers_soon ms ≡ true) [
+    (elim o as (λ _. Rest) [ true ↦ x | false ↦ whole (finishes e) ]) (map past_of ms) → answers_soon ms ≡ true) [
       | true ↦ λ h p. cc (l, h)
-      | false ↦ λ h p. soon ms 2 6 (subst (λ o. Passes rest_law (whole o) (map glance_of ms)) l p)
+      | false ↦ λ h p. soon ms 2 6 (subst (λ o. Passes rest_law (whole o) (map past_of ms)) l p)
     ] h p
 
 if_last : (now soon : Bool) → (now ≡ true → soon ≡ true) → (not now || soon) ≡ true
 if_last true soon h = h refl
 if_last false soon h = refl
 
-soon_after_last : (ms : List Mark) (x : Rest) → Passes rest_law x (map glance_of ms) → is_soon_answered ms ≡ true
+soon_after_last : (ms : List Mark) (x : Rest) → Passes rest_law x (map past_of ms) → is_soon_answered ms ≡ true
 soon_after_last [] x p = refl
 soon_after_last (m ∷ ms) x p =
     both _ _
     (if_last (is_senders_last m) (answers_soon ms)
     (λ l. last m.entry.side m.entry x ms l (and_right (less x.operations 2 && less x.moves 6) _ p.0) p.1))
-    (soon_after_last ms (rest_then x (glance_of m)) p.1)
+    (soon_after_last ms (rest_then x (past_of m)) p.1)
 
 -- the law reads no name and no number
 module _ (k : Classes) where
@@ -179,7 +179,7 @@ nameless =
     }
 
 explored : LawExplored rest_law
-explored = record { found = all_glanced rest_law; all = refl }
+explored = record { found = all_past rest_law; all = refl }
 
 pub soon_answered : {T : Type 0} → EachRun T is_soon_answered
 soon_answered =

@@ -2,9 +2,9 @@
 use Rattle.oneshot_laws.proofs.Names.{◌≡◌, ℕ, zero, suc, Bool, true, false, not, ◌&&◌, Option, Some, None, refl, if◌then◌else◌, End, Sender, Receiver, Call, Made, bound_of, is_word, is_same_flag}
 use Rattle.oneshot_laws.proofs.Names.{until_reply}
 use Rattle.oneshot_laws.proofs.Coding.{Coding, pairs, by_parts, or_none, numbers_below}
-use Rattle.oneshot_laws.proofs.Glanced.{Law}
-use Rattle.oneshot_laws.proofs.Glances.{Glance}
-use Rattle.oneshot_laws.proofs.Watched.{no_names}
+use Rattle.oneshot_laws.proofs.PastLaws.{Law}
+use Rattle.oneshot_laws.proofs.PastViews.{PastView}
+use Rattle.oneshot_laws.proofs.Product.{no_names}
 
 -- what an end's call has left: no call is under way, or it has no bound, or so many operations
 pub data Left : Type 0 where
@@ -64,10 +64,10 @@ left_at Receiver left x = record { sender = x.sender; receiver = left }
 abbrev pub fits : Left → Bool → Call → Made → Bool
 fits left begins call e = is_same_flag begins (is_resting left) && may_make (under_way call left) e
 
-abbrev goes_on_within : Budget → Glance → Bool
+abbrev goes_on_within : Budget → PastView → Bool
 goes_on_within x g = fits (left_by g.entry.side x) g.begins g.call g.entry
 
-abbrev pub budget_then : Budget → Glance → Budget
+abbrev pub budget_then : Budget → PastView → Budget
 budget_then x g = left_at g.entry.side (left_then (left_by g.entry.side x) g.call g.entry) x
 
 abbrev left_parts : Left → Option (Option ℕ)

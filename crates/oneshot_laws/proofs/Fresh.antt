@@ -1,5 +1,5 @@
 -- A copy that an entry does not make is not named by that entry.
-use Rattle.oneshot_laws.proofs.Names.{◌≡◌, ℕ, ◌==◌, if◌then◌else◌, Bool, true, false, Option, Some, None, refl, eq-eqb, option_map, Step, WakerMove, waker_move, back_to, told_with, WakerName, Parker}
+use Rattle.oneshot_laws.proofs.Names.{◌≡◌, ℕ, ◌==◌, if◌then◌else◌, Bool, true, false, Option, Some, None, refl, eq-eqb, option_map, Step, WakerMove, waker_move, back_to, input_of, WakerName, Parker}
 use Rattle.oneshot_laws.proofs.Names.{Copy, Wakers}
 use Rattle.oneshot_machine.specs.declared.machine.Step.TheVariants as T
 use Rattle.oneshot_machine.specs.declared.states.Op.TheVariants as O
@@ -21,7 +21,7 @@ old_move e f h None = refl
 old_move e f h (Some name) = h name
 
 told_fresh : (e : ℕ) (answer : Bool) (number : Option ℕ)
-    → is_fresh e (if answer then None else option_map (λ name. (name, W.New, W.Hand)) (told_with answer e number).copy)
+    → is_fresh e (if answer then None else option_map (λ name. (name, W.New, W.Hand)) (input_of answer e number).copy)
     ≡ true
 told_fresh e true number = refl
 told_fresh e false None = refl
@@ -33,7 +33,7 @@ exchange_fresh e true x = refl
 exchange_fresh e false x = old_move e (λ name. (name, W.Hand, W.Dropped)) (λ name. refl) x
 
 pub move_fresh : (e : ℕ) (answer : Bool) (number : Option ℕ) (word : ℕ) (w : Wakers) (step : Step)
-    → is_fresh e (waker_move (told_with answer e number) word w step) ≡ true
+    → is_fresh e (waker_move (input_of answer e number) word w step) ≡ true
 move_fresh e answer number word w T.WriteWaker = old_move e (λ name. (name, W.Hand, W.Cell)) (λ name. refl) w.hand
 move_fresh e answer number word w T.TakeWaker = old_move e (λ name. (name, W.Cell, W.SenderHand)) (λ name. refl) w.cell
 move_fresh e answer number word w T.Withdraw = old_move e (λ name. (name, W.Cell, back_to name)) (λ name. refl) w.cell

@@ -7,10 +7,10 @@ use Rattle.oneshot_laws.proofs.Names.{has_legal_history, acts_last}
 use Rattle.oneshot_machine.specs.declared.machine.receiver.ReceiverStart.TheVariants as RC
 use Rattle.oneshot_machine.specs.declared.machine.sender.SenderCall.TheVariants as SC
 use Rattle.oneshot_world.specs.declared.trace.Entry.TheVariants.{Idle, Made as Made_entry}
-use Rattle.oneshot_laws.proofs.Glances.{Glance, glance_of, glance_at, glances}
+use Rattle.oneshot_laws.proofs.PastViews.{PastView, past_of, past_at, pasts}
 use Rattle.oneshot_laws.proofs.HistoryReader.{kind, Watch, Reader, due, hit, hits, owes_then, object_by, watch_at, has_reply, accepts_call, reads}
 use Rattle.oneshot_laws.proofs.HistoryOwed.{Accepted, Goes_on, answer_from, answer_pays, pays_in, answer_says, says_in}
-use Rattle.oneshot_laws.proofs.Watched.{left_after}
+use Rattle.oneshot_laws.proofs.Product.{left_after}
 use Rattle.oneshot_laws.proofs.HistoryEntries.{any_more, owed_is, FollowsAt, EntryRight}
 use Rattle.oneshot_laws.proofs.HistoryCalls.{local_right}
 
@@ -94,18 +94,18 @@ same_last call acting hitting same =
       | false ↦ λ h. both_false acting hitting
     ] refl
 
-glance_with : Made → Call → Bool → Bool → Object → Object → Glance
-glance_with e call begins last o next =
+past_with : Made → Call → Bool → Bool → Object → Object → PastView
+past_with e call begins last o next =
     record { entry = e; call = call; begins = begins; last = last; object = o; next = next }
 
 abbrev Claim : List Entry → Type 0
 Claim es =
     (m : Reader) (s r : Reading) (n : ℕ) → Follows m s r → Accepted m s.left r.left es
     → AllRight (marks_from s r n m.object es)
-    × (map glance_of (marks_from s r n m.object es) ≡ glances m s.left r.left es)
+    × (map past_of (marks_from s r n m.object es) ≡ pasts m s.left r.left es)
 
-abbrev pub MarksRight : List Mark → List Glance → Type 0
-MarksRight ms gs = AllRight ms × (map glance_of ms ≡ gs)
+abbrev pub MarksRight : List Mark → List PastView → Type 0
+MarksRight ms gs = AllRight ms × (map past_of ms ≡ gs)
 
 mark_right : (n : ℕ) (o : Object) (at : Reading) (x : Watch) (e : Made) (later : List Made)
     → FollowsAt (call_under_way at.left) x at.earlier
@@ -113,8 +113,8 @@ mark_right : (n : ℕ) (o : Object) (at : Reading) (x : Watch) (e : Made) (later
     (object_by (call_under_way at.left) e o x) (hits (kind (call_under_way at.left)) e x) (answer_from e later) e.reply
     at.earlier e (until_reply e.reply later []) → accepts_call (call_under_way at.left) e o x ≡ true
     → MarkRight (mark_at n o at e (until_reply e.reply later []))
-    × (glance_of (mark_at n o at e (until_reply e.reply later [])) ≡ glance_at (call_under_way at.left) e o x)
-unfolding glance_with
+    × (past_of (mark_at n o at e (until_reply e.reply later [])) ≡ past_at (call_under_way at.left) e o x)
+unfolding past_with
 mark_right n o at x e later f right ok =
     let call : Call = call_under_way at.left in
     let last = same_last call _ (hits (kind call) e x) right.acts in (
@@ -125,11 +125,11 @@ mark_right n o at x e later f right ok =
         covered =
             not_stray call e o x ok;
       },
-      ap (λ begins. glance_with e call begins (acts_last (mark_at n o at e (until_reply e.reply later []))) o
+      ap (λ begins. past_with e call begins (acts_last (mark_at n o at e (until_reply e.reply later []))) o
           (object_then (mark_at n o at e (until_reply e.reply later [])))) f.begun
-          ∙ ap (λ last. glance_with e call (not x.begun) last o
+          ∙ ap (λ last. past_with e call (not x.begun) last o
           (object_then (mark_at n o at e (until_reply e.reply later [])))) last
-          ∙ ap (λ next. glance_with e call (not x.begun)
+          ∙ ap (λ next. past_with e call (not x.begun)
           (hits (kind call) e x && (is_end_of_sender call || is_end_of_receiver call)) o next) right.object,
     )
 
@@ -138,17 +138,17 @@ same_left : (left : Unanswered) (d : End) (a : Option Reply) → a ≡ None
 same_left left d a none = rw none refl
 
 -- a mark, and the marks after it
-with_later : (m : Mark) (ms : List Mark) (g : Glance) (gs : List Glance) → MarkRight m × (glance_of m ≡ g)
+with_later : (m : Mark) (ms : List Mark) (g : PastView) (gs : List PastView) → MarkRight m × (past_of m ≡ g)
     → MarksRight ms gs → MarksRight (m ∷ ms) (g ∷ gs)
-with_later m ms g gs now later = ((now.0, later.0), ap (λ g. g ∷ map glance_of ms) now.1 ∙ ap (λ gs. g ∷ gs) later.1)
+with_later m ms g gs now later = ((now.0, later.0), ap (λ g. g ∷ map past_of ms) now.1 ∙ ap (λ gs. g ∷ gs) later.1)
 
 legal_at : (d : End) (e : Made) (es : List Entry) → Claim es → (m : Reader) (s r : Reading) (n : ℕ) → Follows m s r
     → Goes_on d e es m s.left r.left
     → MarksRight (mark_at n m.object (by_end d s r) e (until_reply e.reply (to_reply d es) []) ∷ marks_from
     (by_end d (read_by d s e) s) (by_end d r (read_by d r e)) (n + 1)
     (object_then (mark_at n m.object (by_end d s r) e (until_reply e.reply (to_reply d es) []))) es)
-    (glance_at (call_under_way (by_end d s.left r.left)) e m.object (watch_at d m)
-    ∷ glances (reads d (call_under_way (by_end d s.left r.left)) e m) (left_after d Sender e.reply s.left)
+    (past_at (call_under_way (by_end d s.left r.left)) e m.object (watch_at d m)
+    ∷ pasts (reads d (call_under_way (by_end d s.left r.left)) e m) (left_after d Sender e.reply s.left)
     (left_after d Receiver e.reply r.left) es)
 legal_at Sender e es later m s r n f go =
     let call : Call = call_under_way s.left in
@@ -158,7 +158,7 @@ legal_at Sender e es later m s r n f go =
     with_later _ _ _ _
     (mark_right n m.object s m.sender e (to_reply Sender es) f.sender right go.0)
     (subst (λ o. MarksRight (marks_from (read_by Sender s e) r (n + 1) o es)
-    (glances (reads Sender call e m) (left_by Sender e.reply s.left) r.left es)) (sym right.object)
+    (pasts (reads Sender call e m) (left_by Sender e.reply s.left) r.left es)) (sym right.object)
     (later (reads Sender call e m) (read_by Sender s e) r (n + 1)
     (record {
       sender = follows_on call (call_under_way (left_by Sender e.reply s.left)) m.sender s.earlier e m.object e.reply
@@ -174,7 +174,7 @@ legal_at Receiver e es later m s r n f go =
     with_later _ _ _ _
     (mark_right n m.object r m.receiver e (to_reply Receiver es) f.receiver right go.0)
     (subst (λ o. MarksRight (marks_from s (read_by Receiver r e) (n + 1) o es)
-    (glances (reads Receiver call e m) s.left (left_by Receiver e.reply r.left) es)) (sym right.object)
+    (pasts (reads Receiver call e m) s.left (left_by Receiver e.reply r.left) es)) (sym right.object)
     (later (reads Receiver call e m) s (read_by Receiver r e) (n + 1)
     (record {
       sender = f.sender;

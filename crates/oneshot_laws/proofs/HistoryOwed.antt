@@ -6,7 +6,7 @@ use Rattle.oneshot_world.specs.declared.trace.Entry.TheVariants.{Idle, Made as M
 use Rattle.oneshot_laws.proofs.Coding.{replies}
 use Rattle.oneshot_laws.proofs.HistoryReader.{histories, Kind, Acts_first, Receives, Answers_always, Is_none, kind, Watch, Reader, due, hit, owed, owes_then, watch_at, pays, may_say, pays_receive}
 use Rattle.oneshot_laws.proofs.HistoryReader.{may_owe, has_reply, accepts_as, accepts_call, accepts, reads, hits}
-use Rattle.oneshot_laws.proofs.Watched.{Accepts, left_after}
+use Rattle.oneshot_laws.proofs.Product.{Accepts, left_after}
 
 abbrev pub Accepted : Reader → Unanswered → Unanswered → List Entry → Type 0
 Accepted m s r entries = Accepts histories m s r entries

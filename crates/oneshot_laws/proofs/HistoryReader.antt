@@ -7,7 +7,7 @@ use Rattle.oneshot_laws.proofs.Names.{works_on_word, finds_full_or_closed, until
 use Rattle.oneshot_machine.specs.declared.machine.receiver.ReceiverStart.TheVariants as RC
 use Rattle.oneshot_machine.specs.declared.machine.sender.SenderCall.TheVariants as SC
 use Rattle.oneshot_laws.proofs.Coding.{Coding, pairs, by_parts, or_none, flags, replies, contents}
-use Rattle.oneshot_laws.proofs.Watched.{Automaton, NamelessReader, no_names}
+use Rattle.oneshot_laws.proofs.Product.{Automaton, NamelessReader, no_names}
 
 -- how a call acts: at its first entry that passes a test, as a receive does, or never, with a fixed
 -- reply

@@ -1,38 +1,38 @@
 -- Each run has a legal history: the reader accepts it, as the checker computes over world and reader together.
-use Rattle.oneshot_laws.proofs.Names.{◌≡◌, true, List, [], refl, Unanswered, calls_of, all_alike, World, Tells, opening, Move, ReceiverScript, SenderScript, Entry, marks, sender_reading}
+use Rattle.oneshot_laws.proofs.Names.{◌≡◌, true, List, [], refl, Unanswered, calls_of, all_alike, World, IsRun, opening, Move, ReceiverScript, SenderScript, Entry, marks, sender_reading}
 use Rattle.oneshot_laws.proofs.Names.{receiver_reading, call_under_way, has_legal_history}
 use Rattle.oneshot_laws.proofs.HistoryReader.{new_reader, new_watch, histories, histories_nameless}
 use Rattle.oneshot_laws.proofs.HistoryEntries.{FollowsAt}
 use Rattle.oneshot_laws.proofs.HistoryAccepted.{MarksRight, all_right, legal}
-use Rattle.oneshot_laws.proofs.Glances.{glances}
+use Rattle.oneshot_laws.proofs.PastViews.{pasts}
 use Rattle.oneshot_laws.proofs.HistoryOwed.{Accepted}
-use Rattle.oneshot_laws.proofs.Watched.{Explored, all_watched, alike}
-use Rattle.oneshot_laws.proofs.WatchedRuns.{all_classed, accepted_run}
+use Rattle.oneshot_laws.proofs.Product.{Explored, all_products, alike}
+use Rattle.oneshot_laws.proofs.ProductRuns.{all_classed, accepted_run}
 
 explored : Explored histories
-explored = record { found = all_watched histories; all = refl }
+explored = record { found = all_products histories; all = refl }
 
 new_follows : (left : Unanswered) → FollowsAt (call_under_way left) new_watch []
 new_follows left = record { begun = refl; acted = refl; worked = refl }
 
 run_accepted : {T : Type 0} (s : SenderScript T) (r : ReceiverScript) (worlds : List World) (moves : List Move)
-    (entries : List Entry) → Tells (opening s r) worlds moves entries
+    (entries : List Entry) → IsRun (opening s r) worlds moves entries
     → Accepted new_reader (opening s r).sender (opening s r).receiver entries
-run_accepted s r worlds moves entries told =
+run_accepted s r worlds moves entries is_run =
     alike histories histories_nameless all_alike entries new_reader (opening s r).sender (opening s r).receiver
-    (accepted_run histories all_alike (all_classed histories refl) explored s r worlds moves entries refl told)
+    (accepted_run histories all_alike (all_classed histories refl) explored s r worlds moves entries refl is_run)
 
--- the marks of a run are right, and their glances are those that the reader sees
+-- the marks of a run are right, and their pasts are those that the reader sees
 pub marks_run : {T : Type 0} (s : SenderScript T) (r : ReceiverScript) (worlds : List World) (moves : List Move)
-    (entries : List Entry) → Tells (opening s r) worlds moves entries
-    → MarksRight (marks (calls_of s r) entries) (glances new_reader (opening s r).sender (opening s r).receiver entries)
-marks_run s r worlds moves entries told =
+    (entries : List Entry) → IsRun (opening s r) worlds moves entries
+    → MarksRight (marks (calls_of s r) entries) (pasts new_reader (opening s r).sender (opening s r).receiver entries)
+marks_run s r worlds moves entries is_run =
     all_right entries new_reader (sender_reading (calls_of s r)) (receiver_reading (calls_of s r)) 1
     (record { sender = new_follows (opening s r).sender; receiver = new_follows (opening s r).receiver })
-    (run_accepted s r worlds moves entries told)
+    (run_accepted s r worlds moves entries is_run)
 
 pub legal_run : {T : Type 0} (s : SenderScript T) (r : ReceiverScript) (worlds : List World) (moves : List Move)
-    (entries : List Entry) → Tells (opening s r) worlds moves entries
+    (entries : List Entry) → IsRun (opening s r) worlds moves entries
     → has_legal_history (marks (calls_of s r) entries) ≡ true
-legal_run s r worlds moves entries told =
-    legal (marks (calls_of s r) entries) (marks_run s r worlds moves entries told).0
+legal_run s r worlds moves entries is_run =
+    legal (marks (calls_of s r) entries) (marks_run s r worlds moves entries is_run).0

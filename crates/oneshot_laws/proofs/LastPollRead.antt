@@ -4,7 +4,7 @@ use Rattle.oneshot_laws.proofs.Names.{and_left, and_right, both, is_reply, is_dr
 use Rattle.oneshot_laws.proofs.Names.{waits_in_task}
 use Rattle.oneshot_machine.specs.declared.machine.Reply.TheVariants as R
 use Rattle.oneshot_laws.proofs.EndedRuns.{own_after}
-use Rattle.oneshot_laws.proofs.Glances.{Glance, glance_of}
+use Rattle.oneshot_laws.proofs.PastViews.{PastView, past_of}
 
 -- the last poll: none of the number waits, one is under way, or one left its task; nothing woke the number
 -- since the poll began
@@ -24,14 +24,14 @@ answered pending Calm = Calm
 answered pending Polling = if pending then Left else Polling
 answered pending Left = Left
 
-abbrev pub nap_then : ℕ → Nap → Glance → Nap
+abbrev pub nap_then : ℕ → Nap → PastView → Nap
 nap_then number nap g =
     answered (is_poll g.call && is_reply R.Pending g.entry.reply)
     (roused (uses_copy_of number g.entry.waker || is_own number g.entry.own)
     (begun (g.begins && (is_poll g.call || is_drop_of_receiver g.call)) (is_own number (number_of g.call)) nap))
 
 abbrev pub nap_after : ℕ → Nap → List Mark → Nap
-nap_after number nap ms = own_after (nap_then number) nap (map glance_of ms)
+nap_after number nap ms = own_after (nap_then number) nap (map past_of ms)
 
 -- a task that was left and not woken stays so
 left_stays : (begins this woken pending : Bool) → begins ≡ false → woken ≡ false
@@ -108,9 +108,9 @@ left_here : (number : ℕ) (m : Mark) (ms : List Mark) (nap : Nap) → m.begins 
     → is_own number (number_of m.call) ≡ true → is_left_by (Some number) m ms ≡ true
     → nap_after number nap (m ∷ ms) ≡ Left
 left_here number m ms nap begins this left =
-    let told = and_left _ _ left in
-    let pending = and_left _ _ told in
-    let calm = is_not _ (and_right (list_any answers_pending (m ∷ ms)) _ told) in
+    let answered = and_left _ _ left in
+    let pending = and_left _ _ answered in
+    let calm = is_not _ (and_right (list_any answers_pending (m ∷ ms)) _ answered) in
     let silent =
     is_not _ (and_right (list_any answers_pending (m ∷ ms) && not (list_any begins_poll_or_drop ms)) _ left) in
     ap (λ nap. nap_after number nap ms)
@@ -124,9 +124,10 @@ left_here number m ms nap begins this left =
     ] pending
 
 -- if a poll of the number left its task by the definition, the reader ends in `Left`
-pub left_after : (number : ℕ) (ms : List Mark) (nap : Nap) → waits_by number ms ≡ true → nap_after number nap ms ≡ Left
-left_after number [] nap w = cc
-left_after number (m ∷ ms) nap w =
+pub left_after_nap : (number : ℕ) (ms : List Mark) (nap : Nap) → waits_by number ms ≡ true → nap_after number nap ms
+    ≡ Left
+left_after_nap number [] nap w = cc
+left_after_nap number (m ∷ ms) nap w =
     elim (m.begins && (is_own number (number_of m.call) && is_left_by (Some number) m ms)) as
     (λ b. (m.begins && (is_own number (number_of m.call) && is_left_by (Some number) m ms)) ≡ b
     → (b || waits_by number ms) ≡ true → nap_after number nap (m ∷ ms) ≡ Left) [
@@ -134,7 +135,7 @@ left_after number (m ∷ ms) nap w =
           let it = and_right m.begins _ e in
           left_here number m ms nap (and_left _ _ e) (and_left _ _ it)
           (and_right (is_own number (number_of m.call)) _ it)
-      | false ↦ λ e w. left_after number ms (nap_then number nap (glance_of m)) w
+      | false ↦ λ e w. left_after_nap number ms (nap_then number nap (past_of m)) w
     ] refl w
 
 -- the number of the poll that left its task

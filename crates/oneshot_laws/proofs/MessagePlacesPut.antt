@@ -1,22 +1,22 @@
 -- Each move of the message belongs to a call that may make it.
 use Rattle.oneshot_laws.proofs.Names.{◌≡◌, Bool, true, false, List, [], ◌∷◌, Some, None, map, refl, both, Mark, may_put, is_message_put}
 use Rattle.oneshot_laws.proofs.Coding.{flags}
-use Rattle.oneshot_laws.proofs.Glanced.{Law, Passes, Nameless, nameless_of, Passed, holds_by}
-use Rattle.oneshot_laws.proofs.Glances.{Glance, glance_of}
-use Rattle.oneshot_laws.proofs.Watched.{no_names}
-use Rattle.oneshot_laws.proofs.WatchedRuns.{EachRun}
+use Rattle.oneshot_laws.proofs.PastLaws.{Law, Passes, Nameless, nameless_of, Passed, holds_by}
+use Rattle.oneshot_laws.proofs.PastViews.{PastView, past_of}
+use Rattle.oneshot_laws.proofs.Product.{no_names}
+use Rattle.oneshot_laws.proofs.ProductRuns.{EachRun}
 
 -- a law of each mark alone: its state means nothing
-abbrev puts : Bool → Glance → Bool
+abbrev puts : Bool → PastView → Bool
 puts state g = elim g.entry.message [ None ↦ true | Some move ↦ may_put g.call g.entry.reply move.1 ]
 
-abbrev stays : Bool → Glance → Bool
+abbrev stays : Bool → PastView → Bool
 stays state g = false
 
 abbrev pub put_law : Law Bool
 put_law = record { coding = flags; passes = puts; sees = stays; names = no_names; first = λ place. false }
 
-put : (ms : List Mark) (state : Bool) → Passes put_law state (map glance_of ms) → is_message_put ms ≡ true
+put : (ms : List Mark) (state : Bool) → Passes put_law state (map past_of ms) → is_message_put ms ≡ true
 put [] state p = refl
 put (m ∷ ms) state p = both _ _ p.0 (put ms false p.1)
 

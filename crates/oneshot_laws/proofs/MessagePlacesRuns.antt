@@ -1,7 +1,7 @@
 -- The message is always in one place: it begins as not sent, makes only allowed moves, and ends with somebody
 -- once all have ended.
 use Rattle.oneshot_laws.proofs.Names.{◌≡◌, ℕ, zero, suc, ◌+◌, Bool, true, false, ◌&&◌, ◌||◌, List, [], ◌∷◌, ◌++◌, Option, Some, None, is_some, map, replicate, refl, sym, ◌∙◌, ap, subst, list_any}
-use Rattle.oneshot_laws.proofs.Names.{filter_map, cons_option, Call, Of_sender, calls_of, sender_last, Classes, World, Tells, opening, opening_place, Move, ReceiverScript, SenderLast, SenderScript}
+use Rattle.oneshot_laws.proofs.Names.{filter_map, cons_option, Call, Of_sender, calls_of, sender_last, Classes, World, IsRun, opening, opening_place, Move, ReceiverScript, SenderLast, SenderScript}
 use Rattle.oneshot_laws.proofs.Names.{Entry, Place, NotSent, both, only_if, Object, is_send, Reading, Mark, marks, marks_from, all_ended, is_path, last_place, is_same_place, is_message_move}
 use Rattle.oneshot_laws.proofs.Names.{message_moves, is_message_followed, last_message_place, is_message_end, is_message_ended}
 use Rattle.oneshot_machine.specs.declared.machine.sender.SenderCall.TheVariants as SC
@@ -9,9 +9,9 @@ use Rattle.oneshot_world.specs.declared.script.SenderLast.TheVariants as SL
 use Rattle.oneshot_world.specs.declared.trace.Entry.TheVariants.{Idle, Made as Made_entry}
 use Rattle.oneshot_laws.proofs.Coding.{pairs, by_parts, or_none, flags, places}
 use Rattle.oneshot_laws.proofs.EndedRuns.{Ending, EndingNameless, kept, own_after, nothing_asked, at_the_end, or_more, or_false}
-use Rattle.oneshot_laws.proofs.Glanced.{Law, Passes, Nameless, as_glance, of_call, Passed, passes_run}
-use Rattle.oneshot_laws.proofs.Glances.{Glance, glance_of}
-use Rattle.oneshot_laws.proofs.Watched.{no_names}
+use Rattle.oneshot_laws.proofs.PastLaws.{Law, Passes, Nameless, as_past, of_call, Passed, passes_run}
+use Rattle.oneshot_laws.proofs.PastViews.{PastView, past_of}
+use Rattle.oneshot_laws.proofs.Product.{no_names}
 
 -- the moves that marks show
 abbrev moves_of : List Mark → List (Place × Place)
@@ -32,10 +32,10 @@ abbrev goes_to : Place → Option (Place × Place) → Place
 goes_to place None = place
 goes_to place (Some move) = move.1
 
-abbrev moves_rightly : Option Place → Glance → Bool
+abbrev moves_rightly : Option Place → PastView → Bool
 moves_rightly place g = may_move place g.entry.message
 
-abbrev place_then : Option Place → Glance → Option Place
+abbrev place_then : Option Place → PastView → Option Place
 place_then None g = None
 place_then (Some place) g = Some (goes_to place g.entry.message)
 
@@ -67,7 +67,7 @@ one_move : (x : Option (Place × Place)) (place : Place) (later : List (Place ×
 one_move None place later h k = k
 one_move (Some move) place later h k = both _ _ h k
 
-path : (ms : List Mark) (place : Option Place) → Passes path_law place (map glance_of ms)
+path : (ms : List Mark) (place : Option Place) → Passes path_law place (map past_of ms)
     → IsPath (is_some place) (or_not_sent place) (moves_of ms)
 path [] place p = refl
 path (m ∷ ms) None p = no_move m.entry.message (moves_of ms) p.0 (path ms None p.1)
@@ -89,7 +89,7 @@ begins_there (SL.Send message error) = refl
 begins_there SL.Drop = refl
 begins_there SL.Stop = refl
 
-place_as : (k : Classes) (place : Option Place) (g : Glance) → place_then place (as_glance k g) ≡ place_then place g
+place_as : (k : Classes) (place : Option Place) (g : PastView) → place_then place (as_past k g) ≡ place_then place g
 place_as k None g = refl
 place_as k (Some place) g = refl
 
@@ -98,10 +98,10 @@ path_nameless = record { none = refl; passes_same = λ k place g. refl; sees_sam
 
 pub message_followed : {T : Type 0} → Passed path_law T
     → (s : SenderScript T) (r : ReceiverScript) (worlds : List World) (moves : List Move) (entries : List Entry)
-    → Tells (opening s r) worlds moves entries → is_message_followed (calls_of s r) entries ≡ true
-message_followed each s r worlds moves entries tells =
+    → IsRun (opening s r) worlds moves entries → is_message_followed (calls_of s r) entries ≡ true
+message_followed each s r worlds moves entries is_run =
     let at_marks = path (marks (calls_of s r) entries) (opening_place s.last)
-    (passes_run path_law path_nameless each s r worlds moves entries tells) in
+    (passes_run path_law path_nameless each s r worlds moves entries is_run) in
     let at_entries : IsPath (is_some (opening_place s.last)) (or_not_sent (opening_place s.last))
     (message_moves entries) =
     subst (IsPath _ _) (sym (shown entries _ _ 1 _)) at_marks in
@@ -116,7 +116,7 @@ pub record Sending : Type 0 where
   pub begun : Bool
   pub place : Place
 
-abbrev sending_then : Sending → Glance → Sending
+abbrev sending_then : Sending → PastView → Sending
 sending_then x g = record { begun = x.begun || is_send g.call; place = goes_to x.place g.entry.message }
 
 abbrev not_sent_yet : Sending
@@ -136,10 +136,10 @@ sending_ending =
     }
 
 begun_after : (ms : List Mark) (x : Sending)
-    → (own_after sending_then x (map glance_of ms)).begun ≡ (x.begun || list_any (λ m. is_send m.call) ms)
+    → (own_after sending_then x (map past_of ms)).begun ≡ (x.begun || list_any (λ m. is_send m.call) ms)
 begun_after [] x = sym (or_false x.begun)
 begun_after (m ∷ ms) x =
-    begun_after ms (sending_then x (glance_of m))
+    begun_after ms (sending_then x (past_of m))
     ∙ sym (or_more x.begun (is_send m.call) (list_any (λ m. is_send m.call) ms))
 
 last_after : (x : Option (Place × Place)) (place : Place) (later : List (Place × Place))
@@ -148,10 +148,10 @@ last_after None place later = refl
 last_after (Some move) place later = refl
 
 place_after : (ms : List Mark) (x : Sending)
-    → (own_after sending_then x (map glance_of ms)).place ≡ last_place x.place (moves_of ms)
+    → (own_after sending_then x (map past_of ms)).place ≡ last_place x.place (moves_of ms)
 place_after [] x = refl
 place_after (m ∷ ms) x =
-    place_after ms (sending_then x (glance_of m)) ∙ last_after m.entry.message x.place (moves_of ms)
+    place_after ms (sending_then x (past_of m)) ∙ last_after m.entry.message x.place (moves_of ms)
 
 sending_nameless : EndingNameless sending_ending
 sending_nameless =
@@ -166,8 +166,8 @@ if_both false b c h = refl
 
 pub message_ended : {T : Type 0} → Passed (kept sending_ending) T
     → (s : SenderScript T) (r : ReceiverScript) (worlds : List World) (moves : List Move) (entries : List Entry)
-    → Tells (opening s r) worlds moves entries → is_message_ended entries (marks (calls_of s r) entries) ≡ true
-message_ended each s r worlds moves entries tells =
+    → IsRun (opening s r) worlds moves entries → is_message_ended entries (marks (calls_of s r) entries) ≡ true
+message_ended each s r worlds moves entries is_run =
     let last =
     place_after (marks (calls_of s r) entries) not_sent_yet
     ∙ sym (ap (last_place NotSent) (shown entries _ _ 1 _)) in
@@ -177,6 +177,6 @@ message_ended each s r worlds moves entries tells =
     (only_if begun (is_message_end (last_message_place entries))) ≡ true)
     (begun_after (marks (calls_of s r) entries) not_sent_yet)
     (subst (λ place. only_if (all_ended (marks (calls_of s r) entries))
-    (only_if (own_after sending_then not_sent_yet (map glance_of (marks (calls_of s r) entries))).begun
+    (only_if (own_after sending_then not_sent_yet (map past_of (marks (calls_of s r) entries))).begun
     (is_message_end place)) ≡ true) last
-    (at_the_end sending_ending sending_nameless each s r worlds moves entries tells)))
+    (at_the_end sending_ending sending_nameless each s r worlds moves entries is_run)))

@@ -49,7 +49,7 @@ pub use Rattle.oneshot_world.specs.Scripts.{calls_of, sender_last}
 pub use Rattle.oneshot_world.specs.ScriptsLeft.{sender_has, receiver_has}
 pub use Rattle.oneshot_world.specs.State.{sender_stepped, receiver_stepped, sender_position, receiver_position}
 pub use Rattle.oneshot_world.specs.Wakers.{WakerMove, waker_move, back_to, is_same_waker}
-pub use Rattle.oneshot_world.specs.World.{by_end, World, Tells_from, Tells, opening, side_of, nothing_told, receiver_told, told_with, opening_place}
+pub use Rattle.oneshot_world.specs.World.{by_end, World, IsRunFrom, IsRun, opening, side_of, no_input, receiver_input, input_of, opening_place}
 pub use Rattle.oneshot_world.specs.declared.script.Move.{Move}
 pub use Rattle.oneshot_world.specs.declared.script.ReceiverScript.{ReceiverScript}
 pub use Rattle.oneshot_world.specs.declared.script.SenderLast.{SenderLast}

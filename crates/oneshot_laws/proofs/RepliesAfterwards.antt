@@ -2,24 +2,24 @@
 use Rattle.oneshot_laws.proofs.Names.{Bool, ◌&&◌, Some, refl, Reply, Call, only_if, is_reply, is_receive, is_send, is_sender_look, is_closed_look, agrees, is_gone_after_got, is_gone_after_closed}
 use Rattle.oneshot_laws.proofs.Names.{is_refused_after_closed}
 use Rattle.oneshot_machine.specs.declared.machine.Reply.TheVariants as R
-use Rattle.oneshot_laws.proofs.Glanced.{Law, Nameless, nameless_of, Passed}
-use Rattle.oneshot_laws.proofs.Glances.{Glance}
+use Rattle.oneshot_laws.proofs.PastLaws.{Law, Nameless, nameless_of, Passed}
+use Rattle.oneshot_laws.proofs.PastViews.{PastView}
 use Rattle.oneshot_laws.proofs.MarksAfterEach.{ever_law, ever_after}
-use Rattle.oneshot_laws.proofs.WatchedRuns.{EachRun}
+use Rattle.oneshot_laws.proofs.ProductRuns.{EachRun}
 
 -- a call with this reply, and a call that has this reply if it replies
-abbrev pub told : (Call → Bool) → Reply → Glance → Bool
-told test reply g = test g.call && is_reply reply g.entry.reply
+abbrev pub replied : (Call → Bool) → Reply → PastView → Bool
+replied test reply g = test g.call && is_reply reply g.entry.reply
 
-abbrev pub tells_only : (Call → Bool) → Reply → Glance → Bool
-tells_only test reply g = only_if (test g.call) (agrees g.entry.reply (Some reply))
+abbrev pub replies_only : (Call → Bool) → Reply → PastView → Bool
+replies_only test reply g = only_if (test g.call) (agrees g.entry.reply (Some reply))
 
 -- gone once the message was received
-abbrev got : Glance → Bool
-got = told is_receive R.Message
+abbrev got : PastView → Bool
+got = replied is_receive R.Message
 
-abbrev gone : Glance → Bool
-gone = tells_only is_receive R.Disconnected
+abbrev gone : PastView → Bool
+gone = replies_only is_receive R.Disconnected
 
 abbrev pub got_law : Law Bool
 got_law = ever_law got gone
@@ -31,11 +31,11 @@ pub gone_after_got : {T : Type 0} → Passed got_law T → EachRun T is_gone_aft
 gone_after_got = ever_after got gone got_nameless
 
 -- gone, and closed, once closed
-abbrev closed : Glance → Bool
-closed = told is_closed_look R.Yes
+abbrev closed : PastView → Bool
+closed = replied is_closed_look R.Yes
 
-abbrev stays_closed : Glance → Bool
-stays_closed g = gone g && tells_only is_closed_look R.Yes g
+abbrev stays_closed : PastView → Bool
+stays_closed g = gone g && replies_only is_closed_look R.Yes g
 
 abbrev pub closed_law : Law Bool
 closed_law = ever_law closed stays_closed
@@ -47,11 +47,11 @@ pub gone_after_closed : {T : Type 0} → Passed closed_law T → EachRun T is_go
 gone_after_closed = ever_after closed stays_closed closed_nameless
 
 -- refused once the receiver was gone
-abbrev receiver_gone : Glance → Bool
-receiver_gone = told is_sender_look R.Yes
+abbrev receiver_gone : PastView → Bool
+receiver_gone = replied is_sender_look R.Yes
 
-abbrev refused : Glance → Bool
-refused = tells_only is_send R.Refused
+abbrev refused : PastView → Bool
+refused = replies_only is_send R.Refused
 
 abbrev pub refused_law : Law Bool
 refused_law = ever_law receiver_gone refused

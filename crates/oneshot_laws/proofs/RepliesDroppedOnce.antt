@@ -2,12 +2,12 @@
 use Rattle.oneshot_laws.proofs.Names.{◌≡◌, ℕ, Bool, true, false, not, ◌&&◌, ◌||◌, List, [], ◌∷◌, Some, None, map, filter, get_or, is_some, refl, subst, if◌then◌else◌, list_any, only_if, is_receive}
 use Rattle.oneshot_laws.proofs.Names.{is_send, is_drop_of_receiver, Mark, has_answered, answers, is_dropped, is_dropping, is_one_by_receiver, is_dropped_once}
 use Rattle.oneshot_machine.specs.declared.machine.Reply.TheVariants as R
-use Rattle.oneshot_laws.proofs.RepliesAfterwards.{told}
+use Rattle.oneshot_laws.proofs.RepliesAfterwards.{replied}
 use Rattle.oneshot_laws.proofs.Coding.{Coding, listed, pairs, by_parts, flags}
-use Rattle.oneshot_laws.proofs.Glanced.{Law, Passes, Nameless, nameless_of, Passed, holds_by}
-use Rattle.oneshot_laws.proofs.Glances.{Glance, glance_of}
-use Rattle.oneshot_laws.proofs.Watched.{no_names}
-use Rattle.oneshot_laws.proofs.WatchedRuns.{EachRun}
+use Rattle.oneshot_laws.proofs.PastLaws.{Law, Passes, Nameless, nameless_of, Passed, holds_by}
+use Rattle.oneshot_laws.proofs.PastViews.{PastView, past_of}
+use Rattle.oneshot_laws.proofs.Product.{no_names}
+use Rattle.oneshot_laws.proofs.ProductRuns.{EachRun}
 
 -- how the message was dropped so far
 pub data Drops : Type 0 where
@@ -36,14 +36,14 @@ pub record Story : Type 0 where
   pub done : Bool
   pub drops : Drops
 
-abbrev drops_here : Glance → Bool
+abbrev drops_here : PastView → Bool
 drops_here g = elim g.entry.message [ None ↦ false | Some move ↦ is_dropped move.1 ]
 
-abbrev story_then : Story → Glance → Story
+abbrev story_then : Story → PastView → Story
 story_then story g =
     record {
-      sent = story.sent || told is_send R.Sent g;
-      got = story.got || told is_receive R.Message g;
+      sent = story.sent || replied is_send R.Sent g;
+      got = story.got || replied is_receive R.Message g;
       done = story.done || (is_some g.entry.reply && is_drop_of_receiver g.call);
       drops = drops_then (drops_here g) (is_drop_of_receiver g.call) story.drops;
     }
@@ -51,7 +51,7 @@ story_then story g =
 abbrev is_well : Story → Bool
 is_well story = only_if (story.sent && not story.got && story.done) (is_by_receiver story.drops)
 
-abbrev goes_well : Story → Glance → Bool
+abbrev goes_well : Story → PastView → Bool
 goes_well story g = is_well (story_then story g)
 
 abbrev drops_code : Drops → ℕ
@@ -71,12 +71,12 @@ stories =
     (pairs flags (pairs flags
     (pairs flags (listed 3 drops_code (Never ∷ By_receiver ∷ Wrongly ∷ []) Never drops_back))))
 
-abbrev nothing_told : Story
-nothing_told = record { sent = false; got = false; done = false; drops = Never }
+abbrev no_input : Story
+no_input = record { sent = false; got = false; done = false; drops = Never }
 
 abbrev pub story_law : Law Story
 story_law =
-    record { coding = stories; passes = goes_well; sees = story_then; names = no_names; first = λ place. nothing_told }
+    record { coding = stories; passes = goes_well; sees = story_then; names = no_names; first = λ place. no_input }
 
 -- the drops of marks after these
 abbrev drops_of : Drops → List Mark → Drops
@@ -131,7 +131,7 @@ dropped_here : (here : Bool) (m : Mark) (drops : Drops) (later : List Mark)
 dropped_here true m drops later = refl
 dropped_here false m drops later = refl
 
-ends_well : (ms : List Mark) (story : Story) → is_well story ≡ true → Passes story_law story (map glance_of ms)
+ends_well : (ms : List Mark) (story : Story) → is_well story ≡ true → Passes story_law story (map past_of ms)
     → IsWell story ms
 ends_well [] story well p = nothing_more story.sent story.got story.done _ well
 ends_well (m ∷ ms) story well p =
@@ -141,17 +141,17 @@ ends_well (m ∷ ms) story well p =
     (dropped_here (is_dropping m) m story.drops (filter is_dropping ms))
     (more_told story.sent _ (list_any (answers is_send R.Sent) ms) story.got _
     (list_any (answers is_receive R.Message) ms) story.done _ (has_answered is_drop_of_receiver ms) _
-    (ends_well ms (story_then story (glance_of m)) p.0 p.1))
+    (ends_well ms (story_then story (past_of m)) p.0 p.1))
 
 nameless : Nameless story_law
 nameless = nameless_of story_law refl (λ k n g. (refl, refl)) (λ n g a b. (refl, refl))
 
-with_drops : (told : Bool) (ms : List Mark) → only_if told (is_by_receiver (drops_of Never ms)) ≡ true
-    → only_if told (is_one_by_receiver ms) ≡ true
+with_drops : (dropped : Bool) (ms : List Mark) → only_if dropped (is_by_receiver (drops_of Never ms)) ≡ true
+    → only_if dropped (is_one_by_receiver ms) ≡ true
 with_drops true ms h = one_by_receiver ms h
 with_drops false ms h = refl
 
 pub dropped_once : {T : Type 0} → Passed story_law T → EachRun T is_dropped_once
 dropped_once each =
     holds_by story_law nameless each is_dropped_once
-    (λ place ms p. with_drops _ (filter is_dropping ms) (ends_well ms nothing_told refl p))
+    (λ place ms p. with_drops _ (filter is_dropping ms) (ends_well ms no_input refl p))

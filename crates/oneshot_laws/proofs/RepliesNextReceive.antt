@@ -2,24 +2,24 @@
 use Rattle.oneshot_laws.proofs.Names.{◌≡◌, Bool, true, false, ◌&&◌, ◌||◌, List, [], ◌∷◌, is_some, map, refl, both, only_if, is_reply, is_receive, is_full_look, Mark, next_receive_gets}
 use Rattle.oneshot_laws.proofs.Names.{is_got_after_full}
 use Rattle.oneshot_machine.specs.declared.machine.Reply.TheVariants as R
-use Rattle.oneshot_laws.proofs.RepliesAfterwards.{told}
+use Rattle.oneshot_laws.proofs.RepliesAfterwards.{replied}
 use Rattle.oneshot_laws.proofs.Coding.{flags}
-use Rattle.oneshot_laws.proofs.Glanced.{Law, Passes, Nameless, nameless_of, Passed, holds_by}
-use Rattle.oneshot_laws.proofs.Glances.{Glance, glance_of}
-use Rattle.oneshot_laws.proofs.Watched.{no_names}
-use Rattle.oneshot_laws.proofs.WatchedRuns.{EachRun}
+use Rattle.oneshot_laws.proofs.PastLaws.{Law, Passes, Nameless, nameless_of, Passed, holds_by}
+use Rattle.oneshot_laws.proofs.PastViews.{PastView, past_of}
+use Rattle.oneshot_laws.proofs.Product.{no_names}
+use Rattle.oneshot_laws.proofs.ProductRuns.{EachRun}
 
-abbrev full : Glance → Bool
-full = told is_full_look R.Yes
+abbrev full : PastView → Bool
+full = replied is_full_look R.Yes
 
-abbrev answers_receive : Glance → Bool
+abbrev answers_receive : PastView → Bool
 answers_receive g = is_receive g.call && is_some g.entry.reply
 
 -- The flag is whether the message was seen, and no receive has replied since.
-abbrev gets : Bool → Glance → Bool
+abbrev gets : Bool → PastView → Bool
 gets seen g = only_if (seen && answers_receive g) (is_reply R.Message g.entry.reply)
 
-abbrev seen_then : Bool → Glance → Bool
+abbrev seen_then : Bool → PastView → Bool
 seen_then seen g = elim (answers_receive g) [ true ↦ full g | false ↦ seen || full g ]
 
 abbrev pub next_law : Law Bool
@@ -45,16 +45,16 @@ never_asked : (seen : Bool) → only_if seen true ≡ true
 never_asked true = refl
 never_asked false = refl
 
-next_gets : (ms : List Mark) (seen : Bool) → Passes next_law seen (map glance_of ms)
+next_gets : (ms : List Mark) (seen : Bool) → Passes next_law seen (map past_of ms)
     → only_if seen (next_receive_gets ms) ≡ true
 next_gets [] seen p = never_asked seen
 next_gets (m ∷ ms) seen p =
-    next_at seen (answers_receive (glance_of m)) (full (glance_of m)) _ _ p.0 (next_gets ms _ p.1)
+    next_at seen (answers_receive (past_of m)) (full (past_of m)) _ _ p.0 (next_gets ms _ p.1)
 
-got : (ms : List Mark) (seen : Bool) → Passes next_law seen (map glance_of ms) → is_got_after_full ms ≡ true
+got : (ms : List Mark) (seen : Bool) → Passes next_law seen (map past_of ms) → is_got_after_full ms ≡ true
 got [] seen p = refl
 got (m ∷ ms) seen p =
-    both _ _ (full_now seen (answers_receive (glance_of m)) (full (glance_of m)) _ (next_gets ms _ p.1)) (got ms _ p.1)
+    both _ _ (full_now seen (answers_receive (past_of m)) (full (past_of m)) _ (next_gets ms _ p.1)) (got ms _ p.1)
 
 nameless : Nameless next_law
 nameless = nameless_of next_law refl (λ k n g. (refl, refl)) (λ n g a b. (refl, refl))

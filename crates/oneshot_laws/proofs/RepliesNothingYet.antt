@@ -2,10 +2,10 @@
 use Rattle.oneshot_laws.proofs.Names.{◌≡◌, Bool, true, false, not, ◌&&◌, ◌||◌, List, [], ◌∷◌, Some, None, map, refl, list_any, End, Sender, Receiver, Reply, both, only_if, is_nothing_yet, is_same_end}
 use Rattle.oneshot_laws.proofs.Names.{is_open_content, Mark, side, call_marks, until_reply, is_nothing_only_if_open}
 use Rattle.oneshot_laws.proofs.Coding.{Coding, pairs, by_parts, flags}
-use Rattle.oneshot_laws.proofs.Glanced.{Law, Passes, Nameless, nameless_of, Passed, holds_by}
-use Rattle.oneshot_laws.proofs.Glances.{Glance, glance_of}
-use Rattle.oneshot_laws.proofs.Watched.{no_names}
-use Rattle.oneshot_laws.proofs.WatchedRuns.{EachRun}
+use Rattle.oneshot_laws.proofs.PastLaws.{Law, Passes, Nameless, nameless_of, Passed, holds_by}
+use Rattle.oneshot_laws.proofs.PastViews.{PastView, past_of}
+use Rattle.oneshot_laws.proofs.Product.{no_names}
+use Rattle.oneshot_laws.proofs.ProductRuns.{EachRun}
 
 -- whether each end's call under way has met an open object
 pub record Met : Type 0 where
@@ -20,17 +20,17 @@ met_by Receiver met = met.receiver
 abbrev before : Bool → Bool → Bool
 before begins met = not begins && met
 
-abbrev met_here : Met → Glance → Bool
+abbrev met_here : Met → PastView → Bool
 met_here met g = before g.begins (met_by g.entry.side met) || is_open_content g.object.content
 
-abbrev says_nothing_rightly : Met → Glance → Bool
+abbrev says_nothing_rightly : Met → PastView → Bool
 says_nothing_rightly met g = only_if (is_nothing_yet g.entry.reply) (met_here met g)
 
 abbrev met_at : End → Bool → Met → Met
 met_at Sender here met = record { sender = here; receiver = met.receiver }
 met_at Receiver here met = record { sender = met.sender; receiver = here }
 
-abbrev met_then : Met → Glance → Met
+abbrev met_then : Met → PastView → Met
 met_then met g = met_at g.entry.side (met_here met g) met
 
 abbrev mets : Coding Met
@@ -121,10 +121,10 @@ either Receiver Receiver m ms met h k =
     met_more m.begins met.receiver (m ∷ until_reply m.entry.reply (call_marks Receiver ms) [])
     (here Receiver m ms met h k)
 
-claims : (ms : List Mark) (met : Met) (end : End) → Passes met_law met (map glance_of ms)
+claims : (ms : List Mark) (met : Met) (end : End) → Passes met_law met (map past_of ms)
     → Claim (met_by end met) (call_marks end ms)
 claims [] met end p = refl
-claims (m ∷ ms) met end p = either m.entry.side end m ms met p.0 (claims ms (met_then met (glance_of m)) end p.1)
+claims (m ∷ ms) met end p = either m.entry.side end m ms met p.0 (claims ms (met_then met (past_of m)) end p.1)
 
 -- a call that begins has met nothing
 begins_with : (begins met : Bool) (own : List Mark) → Claim (before begins met) own
@@ -133,12 +133,12 @@ begins_with : (begins met : Bool) (own : List Mark) → Claim (before begins met
 begins_with true met own h = h
 begins_with false met own h = refl
 
-each : (ms : List Mark) (met : Met) → Passes met_law met (map glance_of ms) → is_nothing_only_if_open ms ≡ true
+each : (ms : List Mark) (met : Met) → Passes met_law met (map past_of ms) → is_nothing_only_if_open ms ≡ true
 each [] met p = refl
 each (m ∷ ms) met p =
     both _ _
     (begins_with m.begins (met_by (side m) met) (call_marks (side m) (m ∷ ms))
-    (here (side m) m ms met p.0 (claims ms (met_then met (glance_of m)) (side m) p.1)))
+    (here (side m) m ms met p.0 (claims ms (met_then met (past_of m)) (side m) p.1)))
     (each ms _ p.1)
 
 nameless : Nameless met_law

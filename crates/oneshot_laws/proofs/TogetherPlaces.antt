@@ -1,7 +1,7 @@
 -- The laws on places and on the block, explored together: each run passes each; a new law is one more line.
 use Rattle.oneshot_laws.proofs.Names.{refl}
 use Rattle.oneshot_laws.proofs.EndedRuns.{kept}
-use Rattle.oneshot_laws.proofs.Glanced.{Laws, no_laws, also, all_of, Each, each_passed, LawExplored, all_glanced, Passed, passed}
+use Rattle.oneshot_laws.proofs.PastLaws.{Laws, no_laws, also, all_of, Each, each_passed, LawExplored, all_past, Passed, passed}
 use Rattle.oneshot_laws.proofs.HoldersRuns.{held_law, free_law, freed_ending}
 use Rattle.oneshot_laws.proofs.MessagePlacesPut.{put_law}
 use Rattle.oneshot_laws.proofs.MessagePlacesRuns.{path_law, sending_ending}
@@ -21,7 +21,7 @@ place_laws =
     no_laws)))))))
 
 place_explored : LawExplored (all_of place_laws)
-place_explored = record { found = all_glanced (all_of place_laws); all = refl }
+place_explored = record { found = all_past (all_of place_laws); all = refl }
 
 module _ {T : Type 0} where
   each : Each place_laws T

@@ -1,6 +1,6 @@
 -- The laws on replies, explored together: each run passes each; a new law is one more line.
 use Rattle.oneshot_laws.proofs.Names.{refl}
-use Rattle.oneshot_laws.proofs.Glanced.{Laws, no_laws, also, all_of, Each, each_passed, LawExplored, all_glanced, Passed, passed}
+use Rattle.oneshot_laws.proofs.PastLaws.{Laws, no_laws, also, all_of, Each, each_passed, LawExplored, all_past, Passed, passed}
 use Rattle.oneshot_laws.proofs.RepliesAfterwards.{got_law, closed_law, refused_law}
 use Rattle.oneshot_laws.proofs.RepliesDroppedOnce.{story_law}
 use Rattle.oneshot_laws.proofs.RepliesNextReceive.{next_law}
@@ -17,7 +17,7 @@ reply_laws =
     no_laws)))))
 
 reply_explored : LawExplored (all_of reply_laws)
-reply_explored = record { found = all_glanced (all_of reply_laws); all = refl }
+reply_explored = record { found = all_past (all_of reply_laws); all = refl }
 
 module _ {T : Type 0} where
   each : Each reply_laws T

@@ -5,8 +5,8 @@ use Rattle.oneshot_laws.proofs.Names.{is_some_park, ahead_of, waits_in_park}
 use Rattle.oneshot_machine.specs.declared.machine.receiver.ReceiverStart.TheVariants as RC
 use Rattle.oneshot_world.specs.declared.state.ReceiverState.TheVariants as RS
 use Rattle.oneshot_laws.proofs.Coding.{flags}
-use Rattle.oneshot_laws.proofs.Watched.{Watched, Automaton, Explored, no_names, all_watched, watched_coding}
-use Rattle.oneshot_laws.proofs.WatchedRuns.{Classed, all_classed, IsFound}
+use Rattle.oneshot_laws.proofs.Product.{Product, Automaton, Explored, no_names, all_products, product_coding}
+use Rattle.oneshot_laws.proofs.ProductRuns.{Classed, all_classed, IsFound}
 
 -- the reader keeps whether the sender's last call has replied
 abbrev all_are_fine : End → Call → Made → Bool → Bool
@@ -57,12 +57,12 @@ waits_as w =
     ap (λ parks. parks && not w.state.wakers.token)
     (parks_as w.state.receiver (option_and_then as_receiver_call (first w.receiver.calls)))
 
-abbrev is_awake : Watched Bool → Bool
+abbrev is_awake : Product Bool → Bool
 is_awake x = not (x.reader && waits_in_park (ahead_at x.control))
 
 -- all that a run can reach; nobody in it waits unwoken in a park
 pub explored : Explored ended_reader
-explored = record { found = all_watched ended_reader; all = refl }
+explored = record { found = all_products ended_reader; all = refl }
 
 all_awake : all_in is_awake explored.found ≡ true
 unfolding explored
@@ -77,6 +77,6 @@ Found w ended = IsFound ended_reader all_alike ended_classed explored w ended
 pub awake : (w : World) (ended : Bool) → Found w ended → not (ended && waits_in_park (ahead_of w)) ≡ true
 awake w ended f =
     rw (waits_as w)
-    (passes_where_found (watched_coding ended_reader).code (watched_coding ended_reader).is_same
-    (watched_coding ended_reader).sound is_awake explored.found
+    (passes_where_found (product_coding ended_reader).code (product_coding ended_reader).is_same
+    (product_coding ended_reader).sound is_awake explored.found
     (record { control = as_control all_alike (control_of w); reader = ended }) all_awake f)

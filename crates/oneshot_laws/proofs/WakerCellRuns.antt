@@ -1,10 +1,10 @@
 -- A waker is written into its cell only while none is there.
 use Rattle.oneshot_laws.proofs.Names.{◌≡◌, Bool, true, false, not, List, [], ◌∷◌, Option, Some, None, map, refl, sym, subst, cons_option, option_map, calls_of, Classes, as_move, WakerMove, World}
-use Rattle.oneshot_laws.proofs.Names.{Tells, opening, Move, ReceiverScript, SenderScript, Entry, both, only_if, Mark, marks, is_cell, cell_then, is_cell_right, is_cell_kept}
+use Rattle.oneshot_laws.proofs.Names.{IsRun, opening, Move, ReceiverScript, SenderScript, Entry, both, only_if, Mark, marks, is_cell, cell_then, is_cell_right, is_cell_kept}
 use Rattle.oneshot_laws.proofs.Coding.{flags}
-use Rattle.oneshot_laws.proofs.Glanced.{Law, Passes, Nameless, Passed, passes_run}
-use Rattle.oneshot_laws.proofs.Glances.{Glance, glance_of}
-use Rattle.oneshot_laws.proofs.Watched.{no_names}
+use Rattle.oneshot_laws.proofs.PastLaws.{Law, Passes, Nameless, Passed, passes_run}
+use Rattle.oneshot_laws.proofs.PastViews.{PastView, past_of}
+use Rattle.oneshot_laws.proofs.Product.{no_names}
 use Rattle.oneshot_laws.proofs.WakerPaths.{shown_by, shown}
 use Rattle.oneshot_laws.proofs.WakerPlacesRuns.{later}
 
@@ -17,10 +17,10 @@ abbrev may_write : Bool → Option WakerMove → Bool
 may_write full None = true
 may_write full (Some move) = only_if (is_cell move.2) (not full)
 
-abbrev writes_rightly : Bool → Glance → Bool
+abbrev writes_rightly : Bool → PastView → Bool
 writes_rightly full g = may_write full g.entry.waker
 
-abbrev full_then : Bool → Glance → Bool
+abbrev full_then : Bool → PastView → Bool
 full_then full g = cell_by full g.entry.waker
 
 abbrev pub write_law : Law Bool
@@ -32,10 +32,10 @@ one_write : (x : Option WakerMove) (full : Bool) (later : List WakerMove) → ma
 one_write None full later h k = k
 one_write (Some move) full later h k = both (only_if (is_cell move.2) (not full)) _ h k
 
-written : (ms : List Mark) (full : Bool) → Passes write_law full (map glance_of ms)
+written : (ms : List Mark) (full : Bool) → Passes write_law full (map past_of ms)
     → is_cell_right full (shown_by ms) ≡ true
 written [] full p = refl
-written (m ∷ ms) full p = one_write m.entry.waker full (shown_by ms) p.0 (written ms (full_then full (glance_of m)) p.1)
+written (m ∷ ms) full p = one_write m.entry.waker full (shown_by ms) p.0 (written ms (full_then full (past_of m)) p.1)
 
 write_as : (k : Classes) (full : Bool) (x : Option WakerMove)
     → may_write full (option_map (as_move k) x) ≡ may_write full x
@@ -56,8 +56,8 @@ write_nameless =
 
 pub cell_kept : {T : Type 0} → Passed write_law T
     → (s : SenderScript T) (r : ReceiverScript) (worlds : List World) (moves : List Move) (entries : List Entry)
-    → Tells (opening s r) worlds moves entries → is_cell_kept entries ≡ true
-cell_kept each s r worlds moves entries tells =
+    → IsRun (opening s r) worlds moves entries → is_cell_kept entries ≡ true
+cell_kept each s r worlds moves entries is_run =
     subst (λ ms. is_cell_right false ms ≡ true) (sym (shown entries _ _ 1 _))
     (written (marks (calls_of s r) entries) false
-    (passes_run write_law write_nameless each s r worlds moves entries tells))
+    (passes_run write_law write_nameless each s r worlds moves entries is_run))

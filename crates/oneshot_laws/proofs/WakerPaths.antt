@@ -7,9 +7,9 @@ use Rattle.oneshot_world.specs.declared.trace.Entry.TheVariants.{Idle, Made as M
 use Rattle.oneshot_world.specs.declared.trace.WakerPlace.TheVariants.{Dropped}
 use Rattle.oneshot_laws.proofs.Coding.{listed}
 use Rattle.oneshot_laws.proofs.EndedRuns.{Ending, Asked, own_after}
-use Rattle.oneshot_laws.proofs.Glanced.{as_glance}
-use Rattle.oneshot_laws.proofs.Glances.{Glance, glance_of}
-use Rattle.oneshot_laws.proofs.Watched.{Names}
+use Rattle.oneshot_laws.proofs.PastLaws.{as_past}
+use Rattle.oneshot_laws.proofs.PastViews.{PastView, past_of}
+use Rattle.oneshot_laws.proofs.Product.{Names}
 
 -- the moves that marks show
 abbrev pub shown_by : List Mark → List WakerMove
@@ -30,25 +30,25 @@ abbrev pub goes_to : WakerName → WakerPlace → Option WakerMove → WakerPlac
 goes_to this place None = place
 goes_to this place (Some move) = if is_same_waker move.0 this then move.2 else place
 
-abbrev place_then : WakerName → WakerPlace → Glance → WakerPlace
+abbrev place_then : WakerName → WakerPlace → PastView → WakerPlace
 place_then this place g = goes_to this place g.entry.waker
 
 abbrev waker_places : List WakerPlace
 waker_places = New ∷ Hand ∷ Cell ∷ SenderHand ∷ Used ∷ Dropped ∷ []
 
-pub place_back : (x : WakerPlace) → get_or waker_places (waker_place_code x) New ≡ x
-place_back New = refl
-place_back Hand = refl
-place_back Cell = refl
-place_back SenderHand = refl
-place_back Used = refl
-place_back Dropped = refl
+pub waker_place_back : (x : WakerPlace) → get_or waker_places (waker_place_code x) New ≡ x
+waker_place_back New = refl
+waker_place_back Hand = refl
+waker_place_back Cell = refl
+waker_place_back SenderHand = refl
+waker_place_back Used = refl
+waker_place_back Dropped = refl
 
 -- a waker that begins there makes only allowed moves, and is at an end once all have ended
 abbrev pub moves_of_one : WakerName → Names WakerPlace → Ending WakerPlace
 moves_of_one this names =
     record {
-      coding = listed 6 waker_place_code waker_places New place_back;
+      coding = listed 6 waker_place_code waker_places New waker_place_back;
       own_then = place_then this;
       asks = λ place g. may_move this place g.entry.waker;
       good = is_waker_end this;
@@ -86,10 +86,10 @@ module _ (k : Classes) (name this : WakerName) (names : Names WakerPlace) (follo
       (subst (λ same. IsPath name (if same then to else place) later) (followed.same_name other) p)
 
   path : (ms : List Mark) (place : WakerPlace)
-      → Asked (moves_of_one this names) place (map (as_glance k) (map glance_of ms)) → IsPath name place (shown_by ms)
+      → Asked (moves_of_one this names) place (map (as_past k) (map past_of ms)) → IsPath name place (shown_by ms)
   path [] place p = refl
   path (m ∷ ms) place p =
-      one_move m.entry.waker place (shown_by ms) p.0 (path ms (place_then this place (as_glance k (glance_of m))) p.1)
+      one_move m.entry.waker place (shown_by ms) p.0 (path ms (place_then this place (as_past k (past_of m))) p.1)
 
   -- its place at the end
   last_if : (same : Bool) (from to place : WakerPlace) (later : List WakerMove)
@@ -107,11 +107,11 @@ module _ (k : Classes) (name this : WakerName) (names : Names WakerPlace) (follo
       ∙ last_if (is_same_waker other name) from to place later
 
   place_after : (ms : List Mark) (place : WakerPlace)
-      → own_after (place_then this) place (map (as_glance k) (map glance_of ms))
+      → own_after (place_then this) place (map (as_past k) (map past_of ms))
       ≡ last_place place (moves_of_waker name (shown_by ms))
   place_after [] place = refl
   place_after (m ∷ ms) place =
-      place_after ms (place_then this place (as_glance k (glance_of m))) ∙ last_after m.entry.waker place (shown_by ms)
+      place_after ms (place_then this place (as_past k (past_of m))) ∙ last_after m.entry.waker place (shown_by ms)
 
 -- of a run
 module _ {T : Type 0} (s : SenderScript T) (r : ReceiverScript) (entries : List Entry) where
@@ -123,14 +123,14 @@ module _ {T : Type 0} (s : SenderScript T) (r : ReceiverScript) (entries : List 
 
   module _ (k : Classes) (name this : WakerName) (names : Names WakerPlace) (followed : IsFollowed k name this) where
     pub name_followed : Asked (moves_of_one this names) (first_waker_place name)
-        (map (as_glance k) (map glance_of MarksOfRun)) → is_waker_followed entries name ≡ true
+        (map (as_past k) (map past_of MarksOfRun)) → is_waker_followed entries name ≡ true
     name_followed p =
         subst (λ ms. IsPath name (first_waker_place name) ms) (sym same_moves)
         (path k name this names followed MarksOfRun (first_waker_place name) p)
 
     pub name_ended : only_if (all_ended MarksOfRun)
         (is_waker_end this (own_after (place_then this) (first_waker_place name)
-        (map (as_glance k) (map glance_of MarksOfRun)))) ≡ true → is_waker_ended entries MarksOfRun name ≡ true
+        (map (as_past k) (map past_of MarksOfRun)))) ≡ true → is_waker_ended entries MarksOfRun name ≡ true
     name_ended h =
         subst (λ good. only_if (all_ended MarksOfRun) good ≡ true)
         (followed.same_end _

@@ -1,13 +1,13 @@
 -- Each waker, by its name, is always in one place, and has ended once all have.
 use Rattle.oneshot_laws.proofs.Names.{arith, ◌≡◌, ℕ, ◌+◌, ◌==◌, Bool, true, false, ◌&&◌, ◌||◌, List, [], ◌∷◌, Option, Some, None, nat_lt, refl, if◌then◌else◌, eqb-true, ne_eqb, ltb-true, lt-ltb}
-use Rattle.oneshot_laws.proofs.Names.{option_map, calls_of, Classes, all_alike, as_name, as_move, bool_code, one_poll, WakerMove, is_same_waker, World, Tells, opening, Move, ReceiverScript}
+use Rattle.oneshot_laws.proofs.Names.{option_map, calls_of, Classes, all_alike, as_name, as_move, bool_code, one_poll, WakerMove, is_same_waker, World, IsRun, opening, Move, ReceiverScript}
 use Rattle.oneshot_laws.proofs.Names.{SenderScript, Entry, WakerName, Parker, Copy, WakerPlace, New, Hand, Cell, SenderHand, Used, and_left, and_right, or_right, is_listed, marks, is_same_waker_place}
 use Rattle.oneshot_laws.proofs.Names.{is_waker_move, is_waker_end, AreWakersRight}
 use Rattle.oneshot_world.specs.declared.trace.WakerPlace.TheVariants.{Dropped}
 use Rattle.oneshot_laws.proofs.EndedRuns.{Ending, PassesEnding, kept, asked_run, ended_run}
-use Rattle.oneshot_laws.proofs.Glanced.{with_history, LawExplored, all_glanced, passes_by, Passed}
-use Rattle.oneshot_laws.proofs.Watched.{Names, no_names}
-use Rattle.oneshot_laws.proofs.WatchedRuns.{Classed}
+use Rattle.oneshot_laws.proofs.PastLaws.{with_history, LawExplored, all_past, passes_by, Passed}
+use Rattle.oneshot_laws.proofs.Product.{Names, no_names}
+use Rattle.oneshot_laws.proofs.ProductRuns.{Classed}
 use Rattle.oneshot_laws.proofs.Fresh.{is_fresh}
 use Rattle.oneshot_laws.proofs.WakerPaths.{name_followed, name_ended, may_move, goes_to, moves_of_one, IsFollowed}
 
@@ -38,7 +38,7 @@ abbrev copy_moves : Ending WakerPlace
 copy_moves = moves_of_one this_copy of_one_copy
 
 copy_explored : LawExplored (kept copy_moves)
-copy_explored = record { found = all_glanced (kept copy_moves); all = refl }
+copy_explored = record { found = all_past (kept copy_moves); all = refl }
 
 copy_move : (a i b j : ℕ) (from to : WakerPlace) → is_waker_move (Copy a i) from to ≡ is_waker_move (Copy b j) from to
 copy_move a i b j New to = refl
@@ -153,18 +153,18 @@ module _ (number entry : ℕ) where
 
 module _ {T : Type 0} (each : Passed (kept parker_moves) T) (s : SenderScript T) (r : ReceiverScript)
     (worlds : List World) (moves : List Move) (entries : List Entry)
-    (tells : Tells (opening s r) worlds moves entries) where
+    (is_run : IsRun (opening s r) worlds moves entries) where
   copy_passes : (number entry : ℕ) → PassesEnding copy_moves (following number entry) s r entries
   copy_passes number entry =
       passes_by (kept copy_moves) (following number entry) (copy_classed number entry) copy_explored s r worlds moves
-      entries refl tells
+      entries refl is_run
 
   pub wakers_right : AreWakersRight entries (marks (calls_of s r) entries)
   wakers_right Parker = (
     name_followed s r entries all_alike Parker Parker no_names parker_is_followed
-        (asked_run parker_moves all_alike s r entries (each s r worlds moves entries tells)),
+        (asked_run parker_moves all_alike s r entries (each s r worlds moves entries is_run)),
     name_ended s r entries all_alike Parker Parker no_names parker_is_followed
-        (ended_run parker_moves all_alike s r entries (each s r worlds moves entries tells)),
+        (ended_run parker_moves all_alike s r entries (each s r worlds moves entries is_run)),
   )
   wakers_right (Copy number entry) = (
     name_followed s r entries (following number entry) (Copy number entry) this_copy of_one_copy

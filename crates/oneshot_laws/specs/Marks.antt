@@ -23,7 +23,7 @@ pub data Rule : Type 0 where
 abbrev pub loads : Made → Bool
 loads e = is_load e.step
 
--- an add or a flip that found EMPTY or DISCONNECTED, or else the final swap: a call has only one
+-- an add or an xor that found EMPTY or DISCONNECTED, or else the final swap: a call has only one
 abbrev pub finishes : Made → Bool
 finishes e = is_add_or_xor e.step && (found EMPTY e.before || found DISCONNECTED e.before) || is_swap e.step
 

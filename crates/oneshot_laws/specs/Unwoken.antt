@@ -6,7 +6,7 @@ use Rattle.oneshot_world.specs.Ahead.{Ahead, ahead_of}
 use Rattle.oneshot_world.specs.Calls.{Call, number_of}
 use Rattle.oneshot_world.specs.Scripts.{calls_of}
 use Rattle.oneshot_world.specs.Wakers.{WakerMove}
-use Rattle.oneshot_world.specs.World.{World, opening, Tells}
+use Rattle.oneshot_world.specs.World.{World, opening, IsRun}
 use Rattle.oneshot_world.specs.declared.script.Move.{Move}
 use Rattle.oneshot_world.specs.declared.script.ReceiverScript.{ReceiverScript}
 use Rattle.oneshot_world.specs.declared.script.SenderScript.{SenderScript}
@@ -73,5 +73,5 @@ is_never_unwoken so_far [] entries = false
 pub record NeverUnwoken {T : Type 0} (s : SenderScript T) (r : ReceiverScript) (moves : List Move)
     (entries : List Entry) : Type 0 where
   pub worlds : List World
-  pub tells : Tells (opening s r) worlds moves entries
+  pub is_run : IsRun (opening s r) worlds moves entries
   pub woken : IsTrue (is_never_unwoken (marks (calls_of s r)) (map ahead_of (opening s r ∷ worlds)) entries)

@@ -20,8 +20,8 @@ use std::time::Clock;
 /// A message of 8 bytes.
 const SMALL: u64 = 7;
 
-// A function: each use of a constant array would be read as its 4,096 elements.
 /// A message of 4,096 bytes.
+// A function: each use of a constant array would be read as its 4,096 elements.
 fn large() -> [u8; 4096] {
     [7; 4096]
 }

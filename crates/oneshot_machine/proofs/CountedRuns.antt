@@ -13,7 +13,7 @@ use Rattle.oneshot_machine.specs.Noted.{Noted, op_of}
 use Rattle.oneshot_machine.specs.Phases.{phase_from}
 use Rattle.oneshot_machine.specs.Runs.{Run}
 use Rattle.oneshot_machine.specs.TableRows.{Outcome, Goes, Answers, Rows, row_for}
-use Rattle.oneshot_machine.proofs.RunsByRows.{row_passes, moved, Leads, by_rows}
+use Rattle.oneshot_machine.proofs.RunsByRows.{row_passes, moved_by, Leads, by_rows}
 
 -- what a step costs
 abbrev cost : Option Op → ℕ
@@ -59,14 +59,14 @@ module _ {P : Type 0} (step : P → Step) (rows : P → Rows P) (most : P → Op
     Afforded reply made = made ≤ total
 
     after_step : (op : Option Op) (seen : Seen) (made : ℕ)
-        → moved step rows one_more Affords Afforded op seen made ≡ made + cost op
+        → moved_by step rows one_more Affords Afforded op seen made ≡ made + cost op
     after_step None seen made = omega arith
     after_step (Some op) seen made = refl
 
     paid : (all_pay : (p : P) → pays p ≡ true) (p : P) (made : ℕ) (seen : Seen) (o : Outcome P) → Affords p made
         → row_for seen (rows p) ≡ Some o
         → Leads step rows one_more Affords Afforded o
-        (moved step rows one_more Affords Afforded (op_of (step p)) seen made)
+        (moved_by step rows one_more Affords Afforded (op_of (step p)) seen made)
     paid all_pay p made seen (Goes next) affords row =
         let pays =
         row_passes (row_pays p affords.0) (rows p) seen (Goes next)

@@ -2,7 +2,8 @@
 use Rattle.std.proofs.Common.{◌≡◌, ℕ, zero, suc, Bool, true, false, List, [], ◌∷◌, drop}
 use Rattle.std.specs.Prelude.{if◌then◌else◌}
 use Rattle.std.specs.List.{list_all}
-use Rattle.oneshot_machine.specs.Phases.{sending, dropping, SenderAt, fresh, owes, finished, late, overtaken, no_sender, ReceiverAt, first, here, looked, between, waits, blocked, polled, again}
+use Rattle.oneshot_machine.specs.Phases.{sending, dropping, SenderAt, fresh, owes, finished, found_gone, overtaken, no_sender, ReceiverAt, first, idle, after_load, after_timeout}
+use Rattle.oneshot_machine.specs.Phases.{waits, blocked, polled, again}
 use Rattle.oneshot_machine.specs.Phases.{claimed, withdrew, overdue, full, at_once, waited, swapped, storing, stopping, by_future, by_poll, unclosed, disconnected, found_closed, closed_itself}
 use Rattle.oneshot_machine.specs.Phases.{resolved, gone, ended, no_receiver, Row, sender_moves, receiver_moves}
 use Rattle.oneshot_machine.specs.Slots.{In, head, tail}
@@ -10,12 +11,14 @@ use Rattle.oneshot_machine.proofs.Sameness.{each_passes}
 
 abbrev pub senders : List SenderAt
 senders =
-    fresh ∷ owes sending ∷ owes dropping ∷ finished sending ∷ finished dropping ∷ late sending ∷ late dropping
+    fresh ∷ owes sending ∷ owes dropping ∷ finished sending ∷ finished dropping ∷ found_gone sending
+        ∷ found_gone dropping
     ∷ overtaken sending ∷ overtaken dropping ∷ no_sender ∷ []
 
 abbrev pub receivers : List ReceiverAt
 receivers =
-    first ∷ here looked ∷ here between ∷ waits blocked ∷ waits polled ∷ waits again ∷ claimed ∷ withdrew ∷ overdue
+    first ∷ idle after_load ∷ idle after_timeout ∷ waits blocked ∷ waits polled ∷ waits again ∷ claimed ∷ withdrew
+        ∷ overdue
     ∷ full at_once ∷ full waited ∷ full (swapped storing) ∷ full (swapped stopping) ∷ full by_future ∷ full by_poll
     ∷ unclosed storing ∷ unclosed stopping ∷ disconnected found_closed ∷ disconnected closed_itself
     ∷ resolved found_closed ∷ resolved closed_itself ∷ gone ∷ ended ∷ no_receiver ∷ []
@@ -31,16 +34,16 @@ is_sender (owes sending) = behind 1 head
 is_sender (owes dropping) = behind 2 head
 is_sender (finished sending) = behind 3 head
 is_sender (finished dropping) = behind 4 head
-is_sender (late sending) = behind 5 head
-is_sender (late dropping) = behind 6 head
+is_sender (found_gone sending) = behind 5 head
+is_sender (found_gone dropping) = behind 6 head
 is_sender (overtaken sending) = behind 7 head
 is_sender (overtaken dropping) = behind 8 head
 is_sender no_sender = behind 9 head
 
 is_receiver : (q : ReceiverAt) → In q receivers
 is_receiver first = head
-is_receiver (here looked) = behind 1 head
-is_receiver (here between) = behind 2 head
+is_receiver (idle after_load) = behind 1 head
+is_receiver (idle after_timeout) = behind 2 head
 is_receiver (waits blocked) = behind 3 head
 is_receiver (waits polled) = behind 4 head
 is_receiver (waits again) = behind 5 head

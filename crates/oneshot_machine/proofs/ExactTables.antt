@@ -11,7 +11,8 @@ use Rattle.oneshot_machine.specs.declared.machine.future.FuturePos.TheVariants a
 use Rattle.oneshot_machine.specs.declared.machine.sender.SenderPos.{SenderPos}
 use Rattle.oneshot_machine.specs.declared.machine.sender.SenderPos.TheVariants.{SendAdd, SendFinal, DropXor, DropFinal}
 use Rattle.std.specs.Prelude.{true, false}
-use Rattle.oneshot_machine.specs.Phases.{sending, dropping, SenderAt, fresh, owes, finished, late, overtaken, no_sender, sender_moves, ReceiverAt, first, here, looked, between, blocked, polled, again}
+use Rattle.oneshot_machine.specs.Phases.{sending, dropping, SenderAt, fresh, owes, finished, found_gone, overtaken, no_sender, sender_moves, ReceiverAt, first, idle, after_load}
+use Rattle.oneshot_machine.specs.Phases.{after_timeout, blocked, polled, again}
 use Rattle.oneshot_machine.specs.Phases.{waits, claimed, withdrew, overdue, at_once, waited, swapped, by_future, by_poll, full, unclosed, disconnected, resolved, gone, ended, no_receiver}
 use Rattle.oneshot_machine.specs.Phases.{receiver_moves}
 use Rattle.oneshot_machine.specs.Standing.{Standpoint, plainly, as_future, sender_table, receiver_table}
@@ -25,7 +26,7 @@ sender_stands fresh = (SendAdd ∷ DropXor ∷ []) ∷ []
 sender_stands (owes sending) = (SendFinal ∷ []) ∷ []
 sender_stands (owes dropping) = (DropFinal ∷ []) ∷ []
 sender_stands (finished by) = [] ∷ []
-sender_stands (late by) = [] ∷ []
+sender_stands (found_gone by) = [] ∷ []
 sender_stands (overtaken by) = [] ∷ []
 sender_stands no_sender = []
 
@@ -50,8 +51,8 @@ stores =
 -- Those of a receiver at each phase: one list for each way there that leads to other positions.
 abbrev receiver_stands : ReceiverAt → List (List Standpoint)
 receiver_stands first = (calls ++ polls) ∷ []
-receiver_stands (here looked) = (calls ++ polls ++ stores) ∷ []
-receiver_stands (here between) = (calls ++ polls) ∷ []
+receiver_stands (idle after_load) = (calls ++ polls ++ stores) ∷ []
+receiver_stands (idle after_timeout) = (calls ++ polls) ∷ []
 receiver_stands (waits blocked) =
     (plainly (Ref ParkLoad) ∷ plainly (Timed TimedLoad) ∷ plainly (Timed EndSwap) ∷ plainly (Value RecvParkLoad) ∷ [])
     ∷ []

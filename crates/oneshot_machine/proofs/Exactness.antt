@@ -9,10 +9,10 @@ use Rattle.oneshot_machine.specs.declared.machine.Seen.{Seen}
 use Rattle.oneshot_machine.specs.declared.states.Op.{Op}
 use Rattle.oneshot_machine.specs.Noted.{Noted, saw, op_of, is_same_op}
 use Rattle.oneshot_machine.specs.Phases.{Slots, Row, is_row_for, next_by, phase_from}
-use Rattle.oneshot_machine.specs.Slots.{Held, IsSlot, Turns, In, head, tail, May, may, Finds, finds}
+use Rattle.oneshot_machine.specs.Slots.{Held, IsSlot, SlotChange, In, head, tail, May, may, Finds, finds}
 use Rattle.oneshot_machine.specs.Standing.{Table, is_op, onward, onward_all, in_order, moved, standing, made_at, operations}
 use Rattle.oneshot_machine.proofs.GrownLogs.{phase_from-snoc, standing-snoc}
-use Rattle.oneshot_machine.proofs.Sameness.{each_passes, thrice, five, some_passes, same_op, ops_are_same, same_sight, is_same_share, shares_are_same, fill, fills, is_plain, turns_plainly}
+use Rattle.oneshot_machine.proofs.Sameness.{each_passes, thrice, five, some_passes, same_op, ops_are_same, same_sight, is_same_share, shares_are_same, fill, fills, is_plain, changes_plainly}
 use Rattle.oneshot_machine.specs.Exact.{IsFound, none_yet, one_more, IsAllowed, Accepts, IsExact}
 
 module _ {At : Type 0} (nowhere : At) where
@@ -27,20 +27,21 @@ module _ {At : Type 0} (nowhere : At) where
   not_so {b = false} e = refl
 
   -- so each row leads to its own next phase
-  pub leads : (rows : List (Row At)) {op : Op} {before after : Slots} {word : ℕ} {next : At} → differ rows ≡ true
+  pub leads_exactly : (rows : List (Row At)) {op : Op} {before after : Slots} {word : ℕ} {next : At} → differ rows
+      ≡ true
       → In (op, before, word, next, after) rows → next_by nowhere rows op (saw op word) ≡ next
-  leads [] apart there = elim there [ ]
-  leads (row ∷ rows) {op} {word} {next} apart head =
+  leads_exactly [] apart there = elim there [ ]
+  leads_exactly (row ∷ rows) {op} {word} {next} apart head =
       let same : is_row_for op (saw op word) row ≡ true = rw (same_op op, same_sight op word) refl in
       ap (λ b. if b then next else next_by nowhere rows op (saw op word)) same
-  leads (row ∷ rows) {op} {word} apart (tail there) =
+  leads_exactly (row ∷ rows) {op} {word} apart (tail there) =
       let parts =
       and_parts (list_all (λ (other : Row At). not (is_row_for other.0 (saw other.0 other.2) row)) rows)
       (differ rows) apart in
       let other : is_row_for op (saw op word) row ≡ false =
       not_so (each_passes (λ (other : Row At). not (is_row_for other.0 (saw other.0 other.2) row)) rows parts.0
       there) in
-      ap (λ b. if b then row.3 else next_by nowhere rows op (saw op word)) other ∙ leads rows parts.1 there
+      ap (λ b. if b then row.3 else next_by nowhere rows op (saw op word)) other ∙ leads_exactly rows parts.1 there
 
 module _ {P At : Type 0} (t : Table P) (nowhere : At) (rows : At → List (Row At)) (stands : At → List (List P)) where
   abbrev next_at : At → Op → Seen → At
@@ -162,7 +163,8 @@ module _ {P At : Type 0} (t : Table P) (nowhere : At) (rows : At → List (Row A
       goes_on : (at : At) {ps : List P} {op : Op} {m m' : Held T} {w w' : Held W} (word : ℕ) → StandsAt at ps
           → Finds rows at op word m w m' w' → StandsAt (next_at at op (saw op word)) (moved t ps (op, saw op word))
       goes_on at {ps} {op} word there (finds {next} row _ _) =
-          subst (λ at. StandsAt at (moved t ps (op, saw op word))) (sym (leads nowhere (rows at) (distinct at) row))
+          subst (λ at. StandsAt at (moved t ps (op, saw op word)))
+              (sym (leads_exactly nowhere (rows at) (distinct at) row))
           (lands next (reached ps op word) (made at there row).2)
 
       -- the operations at these positions are allowed
@@ -194,17 +196,17 @@ module _ {P At : Type 0} (t : Table P) (nowhere : At) (rows : At → List (Row A
       finds_such at {row} {op} {before} {m} {w} among such message waker =
           let is = five (is_same_op op row.0) (is_same_share before.0 row.1.0) (is_same_share before.1 row.1.1)
           (is_plain before.0 row.4.0) (is_plain before.1 row.4.1) such in
-          let to = turns_plainly is.3 message in
-          let also = turns_plainly is.4 waker in
-          let message_turns : Turns row.1.0 row.4.0 m to.0 =
-          subst (λ s. Turns s row.4.0 m to.0) (shares_are_same before.0 row.1.0 is.1) to.1 in
-          let waker_turns : Turns row.1.1 row.4.1 w also.0 =
-          subst (λ s. Turns s row.4.1 w also.0) (shares_are_same before.1 row.1.1 is.2) also.1 in (
+          let to = changes_plainly is.3 message in
+          let also = changes_plainly is.4 waker in
+          let message_changes : SlotChange row.1.0 row.4.0 m to.0 =
+          subst (λ s. SlotChange s row.4.0 m to.0) (shares_are_same before.0 row.1.0 is.1) to.1 in
+          let waker_changes : SlotChange row.1.1 row.4.1 w also.0 =
+          subst (λ s. SlotChange s row.4.1 w also.0) (shares_are_same before.1 row.1.1 is.2) also.1 in (
             row.2,
             to.0,
             also.0,
             subst (λ op. Finds rows at op row.2 m w to.0 also.0) (sym (ops_are_same op row.0 is.0))
-                (finds among message_turns waker_turns),
+                (finds among message_changes waker_changes),
           )
 
       some_word : (at : At) {op : Op} {m : Held T} {w : Held W} → May rows at op m w

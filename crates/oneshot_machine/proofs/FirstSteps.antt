@@ -43,7 +43,7 @@ module _ {T W : Type 0} where
   tries_once (last x is leads) none = let begins = begins_with x [] is in cc
   tries_once (more next x xs is leads rest) none = let begins = begins_with x xs is in cc
 
-  -- a `try_recv` that only loaded 3 receives no message
+  -- a `try_recv` that only loaded EMPTY receives no message
   pub tries_in_vain : {run : List (Event T W)} → Run receiver_step receiver_row (Try TryLoad) run R.Message
       → (Load, Word EMPTY) ∷ [] ≡ words run → ⊥
   tries_in_vain (last x is leads) same =

@@ -4,7 +4,8 @@ use Rattle.std.specs.Prelude.{⊤, ◌==◌, ◌&&◌, if◌then◌else◌}
 use Rattle.std.proofs.lemmas.Bool.{and_parts, eqb-true}
 use Rattle.oneshot_machine.specs.declared.states.Op.{Op}
 use Rattle.oneshot_machine.specs.Phases.{SenderAt, no_sender, sender_moves, ReceiverAt, no_receiver, receiver_moves, Share, empty, filled, Slots, Row}
-use Rattle.oneshot_machine.specs.Slots.{Held, vacant, held, IsSlot, is_away, is_vacant, is_held, Turns, stays_away, stays_vacant, stays_held, gives_room, gives_thing, gets_room, gets_thing, In, head}
+use Rattle.oneshot_machine.specs.Slots.{Held, vacant, held, IsSlot, is_away, is_vacant, is_held, SlotChange, stays_away, stays_vacant, stays_held, gives_room, gives_thing}
+use Rattle.oneshot_machine.specs.Slots.{gets_room, gets_thing, In, head}
 use Rattle.oneshot_machine.specs.Slots.{tail, Finds, finds}
 use Rattle.oneshot_machine.specs.Noted.{is_same_op}
 use Rattle.oneshot_machine.proofs.Sameness.{ops_are_same, is_same_share, shares_are_same}
@@ -27,7 +28,7 @@ emptied is = subst (IsSlot empty) (sym is) is_vacant
 pub as_before : {X : Type 0} {s : Share} {h h' : Held X} → IsSlot s h → h' ≡ h → IsSlot s h'
 as_before {s} slot is = subst (IsSlot s) (sym is) slot
 
-pub turned : {X : Type 0} {s t : Share} {h h' : Held X} → Turns s t h h' → IsSlot t h'
+pub turned : {X : Type 0} {s t : Share} {h h' : Held X} → SlotChange s t h h' → IsSlot t h'
 turned stays_away = is_away
 turned stays_vacant = is_vacant
 turned (stays_held x) = is_held x
@@ -133,7 +134,8 @@ found_so {moves} {at} such fact is all (finds {after} {next} row message waker) 
     }
 
 -- an operation keeps what is in a slot
-kept : {X : Type 0} {s t : Share} {h h' : Held X} {x : X} → Turns s t h h' → h ≡ held x → IsSlot filled h' → h' ≡ held x
+kept : {X : Type 0} {s t : Share} {h h' : Held X} {x : X} → SlotChange s t h h' → h ≡ held x → IsSlot filled h' → h'
+    ≡ held x
 kept (stays_held y) is there = is
 kept (gives_thing y) is there = elim there [ ]
 kept _ is there = absurd (cc)

@@ -49,36 +49,36 @@ module _ {P : Type 0} where
 module _ {P S : Type 0} (step : P → Step) (rows : P → Rows P) (next : S → Op → Seen → S)
     (Stands : P → S → Type 0) (Ends : Reply → S → Type 0) where
   -- its value after a step
-  abbrev pub moved : Option Op → Seen → S → S
-  moved None seen s = s
-  moved (Some op) seen s = next s op seen
+  abbrev pub moved_by : Option Op → Seen → S → S
+  moved_by None seen s = s
+  moved_by (Some op) seen s = next s op seen
 
   abbrev pub Leads : Outcome P → S → Type 0
   Leads (Goes p) s = Stands p s
   Leads (Answers r) s = Ends r s
 
   by_op : (op : Option Op) (seen : Seen) (s : S) (ns : List Noted)
-      → phase_from next s (cons_option (option_map (λ op. (op, seen)) op) ns) ≡ phase_from next (moved op seen s) ns
+      → phase_from next s (cons_option (option_map (λ op. (op, seen)) op) ns) ≡ phase_from next (moved_by op seen s) ns
   by_op None seen s ns = refl
   by_op (Some op) seen s ns = refl
 
   module _ {T W : Type 0} where
     by_step : (p : P) (s : S) (x : Event T W) (xs : List (Event T W)) → x.step ≡ step p
-        → phase_from next s (words (x ∷ xs)) ≡ phase_from next (moved (op_of (step p)) x.seen s) (words xs)
+        → phase_from next s (words (x ∷ xs)) ≡ phase_from next (moved_by (op_of (step p)) x.seen s) (words xs)
     by_step p s x xs is =
         by_op (op_of x.step) x.seen s (words xs)
-        ∙ ap (λ step. phase_from next (moved (op_of step) x.seen s) (words xs)) is
+        ∙ ap (λ step. phase_from next (moved_by (op_of step) x.seen s) (words xs)) is
 
     -- if each row carries it on, so does a run
     pub by_rows : ((p : P) (s : S) (seen : Seen) (o : Outcome P) → Stands p s → row_for seen (rows p) ≡ Some o
-        → Leads o (moved (op_of (step p)) seen s))
+        → Leads o (moved_by (op_of (step p)) seen s))
         → (p : P) (s : S) (xs : List (Event T W)) (r : Reply) → Stands p s
         → Run step (λ p seen. row_for seen (rows p)) p xs r → Ends r (phase_from next s (words xs))
     by_rows each p s _ r stands (last x is leads) =
         subst (Ends r) (sym (by_step p s x [] is)) (each p s x.seen (Answers r) stands leads)
     by_rows each p s _ r stands (more after x xs is leads rest) =
         subst (Ends r) (sym (by_step p s x xs is))
-        (by_rows each after (moved (op_of (step p)) x.seen s) xs r (each p s x.seen (Goes after) stands leads) rest)
+        (by_rows each after (moved_by (op_of (step p)) x.seen s) xs r (each p s x.seen (Goes after) stands leads) rest)
 
 -- a test that all rows' next phases pass, and the phase without a row, the phase after an operation passes
 pub next_passes : {At : Type 0} (test : At → Bool) (nowhere : At) (rows : List (Row At)) (op : Op) (seen : Seen)

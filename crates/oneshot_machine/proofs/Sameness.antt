@@ -8,7 +8,8 @@ use Rattle.oneshot_machine.specs.declared.states.Op.TheVariants.{Load, Store, Sw
 use Rattle.oneshot_machine.specs.TableRows.{is_same_seen}
 use Rattle.oneshot_machine.specs.Noted.{saw, is_same_op}
 use Rattle.oneshot_machine.specs.Phases.{Share, none, empty, filled}
-use Rattle.oneshot_machine.specs.Slots.{Held, away, vacant, held, IsSlot, is_away, is_vacant, is_held, Turns, stays_away, stays_vacant, stays_held, gives_room, gives_thing, gets_room, In, head, tail}
+use Rattle.oneshot_machine.specs.Slots.{Held, away, vacant, held, IsSlot, is_away, is_vacant, is_held, SlotChange, stays_away, stays_vacant, stays_held, gives_room, gives_thing}
+use Rattle.oneshot_machine.specs.Slots.{gets_room, In, head, tail}
 
 -- what a test of all elements shows of one, and the element that a test of some found
 pub each_passes : {X : Type 0} (p : X → Bool) (xs : List X) {x : X} → list_all p xs ≡ true → In x xs → p x ≡ true
@@ -108,12 +109,12 @@ is_plain filled none = true
 is_plain none empty = true
 is_plain _ _ = false
 
-pub turns_plainly : {X : Type 0} {s t : Share} {h : Held X} → is_plain s t ≡ true → IsSlot s h
-    → (h' : Held X) × Turns s t h h'
-turns_plainly {s = none} {t = none} e is_away = (away, stays_away)
-turns_plainly {s = empty} {t = empty} e is_vacant = (vacant, stays_vacant)
-turns_plainly {s = filled} {t = filled} e (is_held x) = (held x, stays_held x)
-turns_plainly {s = empty} {t = none} e is_vacant = (away, gives_room)
-turns_plainly {s = filled} {t = none} e (is_held x) = (away, gives_thing x)
-turns_plainly {s = none} {t = empty} e is_away = (vacant, gets_room)
-turns_plainly e _ = absurd (cc)
+pub changes_plainly : {X : Type 0} {s t : Share} {h : Held X} → is_plain s t ≡ true → IsSlot s h
+    → (h' : Held X) × SlotChange s t h h'
+changes_plainly {s = none} {t = none} e is_away = (away, stays_away)
+changes_plainly {s = empty} {t = empty} e is_vacant = (vacant, stays_vacant)
+changes_plainly {s = filled} {t = filled} e (is_held x) = (held x, stays_held x)
+changes_plainly {s = empty} {t = none} e is_vacant = (away, gives_room)
+changes_plainly {s = filled} {t = none} e (is_held x) = (away, gives_thing x)
+changes_plainly {s = none} {t = empty} e is_away = (vacant, gets_room)
+changes_plainly e _ = absurd (cc)

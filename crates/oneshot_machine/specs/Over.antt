@@ -1,16 +1,16 @@
 -- When an end is over, and may be let go: by its phase.
 use Rattle.std.specs.Prelude.{◌⊎◌}
-use Rattle.oneshot_machine.specs.Phases.{By, SenderAt, finished, late, overtaken, Closing, Swapping, Got, ReceiverAt, full, unclosed, disconnected, gone, ended}
+use Rattle.oneshot_machine.specs.Phases.{By, SenderAt, finished, found_gone, overtaken, Closing, Swapping, Got, ReceiverAt, full, unclosed, disconnected, gone, ended}
 
 -- a sender whose last operation found the receiver gone
 pub data IsLate : SenderAt → Type 0 where
-  is_late : (by : By) → IsLate (late by)
+  is_late : (by : By) → IsLate (found_gone by)
   is_overtaken : (by : By) → IsLate (overtaken by)
 
 -- a sender that has performed its last operation, in its `send` or in its drop
 pub data SenderIsOver (by : By) : SenderAt → Type 0 where
   over_finished : SenderIsOver by (finished by)
-  over_late : SenderIsOver by (late by)
+  over_late : SenderIsOver by (found_gone by)
   over_overtaken : SenderIsOver by (overtaken by)
 
 -- a receiver that found the message, or that none will come

@@ -19,8 +19,8 @@ pub data SenderAt : Type 0 where
   owes : By → SenderAt
   -- its last operation found the receiver there
   finished : By → SenderAt
-  -- its last operation, an add or a flip, found DISCONNECTED: the receiver was gone, and the word is now EMPTY
-  late : By → SenderAt
+  -- its last operation, an add or an xor, found DISCONNECTED: the receiver was gone, and the word is now EMPTY
+  found_gone : By → SenderAt
   -- its last operation, the final swap, found DISCONNECTED: the receiver was dropped before it
   overtaken : By → SenderAt
   -- no sender has such a log
@@ -29,9 +29,9 @@ pub data SenderAt : Type 0 where
 -- a receiver that is open
 pub data Open : Type 0 where
   -- its last operation is a load that found EMPTY
-  looked : Open
+  after_load : Open
   -- its last operation is the swap that ended its wait: its deadline was over, and it found RECEIVING
-  between : Open
+  after_timeout : Open
 
 -- a receiver whose waker is stored
 pub data Waiting : Type 0 where
@@ -70,7 +70,7 @@ pub data Closing : Type 0 where
 pub data ReceiverAt : Type 0 where
   -- it has performed no operation
   first : ReceiverAt
-  here : Open → ReceiverAt
+  idle : Open → ReceiverAt
   -- its waker is stored, unless the sender took it since
   waits : Waiting → ReceiverAt
   -- a future that found that the sender is about to finish
@@ -124,10 +124,10 @@ abbrev pub sender_moves : SenderAt → List (Row SenderAt)
 sender_moves fresh =
     (Add, (filled, none), EMPTY, finished sending, (none, none))
     ∷ (Add, (filled, none), RECEIVING, owes sending, (filled, filled))
-    ∷ (Add, (filled, none), DISCONNECTED, late sending, (filled, empty))
+    ∷ (Add, (filled, none), DISCONNECTED, found_gone sending, (filled, empty))
     ∷ (Xor, (empty, none), EMPTY, finished dropping, (none, none))
     ∷ (Xor, (empty, none), RECEIVING, owes dropping, (empty, filled))
-    ∷ (Xor, (empty, none), DISCONNECTED, late dropping, (empty, empty))
+    ∷ (Xor, (empty, none), DISCONNECTED, found_gone dropping, (empty, empty))
     ∷ []
 sender_moves (owes sending) =
     (Swap MESSAGE, (filled, empty), UNPARKING, finished sending, (none, none))
@@ -140,22 +140,22 @@ sender_moves (owes dropping) =
     ∷ (Swap DISCONNECTED, (empty, empty), DISCONNECTED, overtaken dropping, (empty, empty))
     ∷ []
 sender_moves (finished by) = []
-sender_moves (late by) = []
+sender_moves (found_gone by) = []
 sender_moves (overtaken by) = []
 sender_moves no_sender = []
 
 -- the receiver's table
 abbrev pub receiver_moves : ReceiverAt → List (Row ReceiverAt)
 receiver_moves first =
-    (Load, (none, none), EMPTY, here looked, (none, empty))
+    (Load, (none, none), EMPTY, idle after_load, (none, empty))
     ∷ (Load, (none, none), MESSAGE, full at_once, (filled, empty))
     ∷ (Load, (none, none), DISCONNECTED, disconnected found_closed, (empty, empty))
     ∷ (Swap DISCONNECTED, (none, none), EMPTY, gone, (none, none))
     ∷ (Swap DISCONNECTED, (none, none), MESSAGE, ended, (filled, empty))
     ∷ (Swap DISCONNECTED, (none, none), DISCONNECTED, ended, (empty, empty))
     ∷ []
-receiver_moves (here looked) =
-    (Load, (none, empty), EMPTY, here looked, (none, empty))
+receiver_moves (idle after_load) =
+    (Load, (none, empty), EMPTY, idle after_load, (none, empty))
     ∷ (Load, (none, empty), MESSAGE, full at_once, (filled, empty))
     ∷ (Load, (none, empty), DISCONNECTED, disconnected found_closed, (empty, empty))
     ∷ (Swap RECEIVING, (none, filled), EMPTY, waits blocked, (none, none))
@@ -168,8 +168,8 @@ receiver_moves (here looked) =
     ∷ (Swap DISCONNECTED, (none, empty), MESSAGE, ended, (filled, empty))
     ∷ (Swap DISCONNECTED, (none, empty), DISCONNECTED, ended, (empty, empty))
     ∷ []
-receiver_moves (here between) =
-    (Load, (none, empty), EMPTY, here looked, (none, empty))
+receiver_moves (idle after_timeout) =
+    (Load, (none, empty), EMPTY, idle after_load, (none, empty))
     ∷ (Load, (none, empty), MESSAGE, full at_once, (filled, empty))
     ∷ (Load, (none, empty), DISCONNECTED, disconnected found_closed, (empty, empty))
     ∷ (Swap DISCONNECTED, (none, empty), EMPTY, gone, (none, none))
@@ -181,7 +181,7 @@ receiver_moves (waits blocked) =
     ∷ (Load, (none, none), UNPARKING, waits blocked, (none, none))
     ∷ (Load, (none, none), MESSAGE, full waited, (filled, empty))
     ∷ (Load, (none, none), DISCONNECTED, disconnected found_closed, (empty, empty))
-    ∷ (Swap EMPTY, (none, none), RECEIVING, here between, (none, filled))
+    ∷ (Swap EMPTY, (none, none), RECEIVING, idle after_timeout, (none, filled))
     ∷ (Swap EMPTY, (none, none), UNPARKING, overdue, (none, none))
     ∷ (Swap EMPTY, (none, none), MESSAGE, full (swapped stopping), (filled, empty))
     ∷ (Swap EMPTY, (none, none), DISCONNECTED, unclosed stopping, (empty, empty))
@@ -254,13 +254,13 @@ abbrev pub sender_owns : SenderAt → Option (Bool × Bool)
 sender_owns fresh = Some (true, false)
 sender_owns (owes by) = Some (true, true)
 sender_owns (finished by) = Some (false, false)
-sender_owns (late by) = Some (true, true)
+sender_owns (found_gone by) = Some (true, true)
 sender_owns (overtaken by) = Some (true, true)
 sender_owns no_sender = None
 
 abbrev pub receiver_owns : ReceiverAt → Option (Bool × Bool)
 receiver_owns first = Some (false, false)
-receiver_owns (here open_at) = Some (false, true)
+receiver_owns (idle open_at) = Some (false, true)
 receiver_owns (waits waiting) = Some (false, false)
 receiver_owns claimed = Some (false, false)
 receiver_owns withdrew = Some (false, true)

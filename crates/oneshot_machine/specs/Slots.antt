@@ -18,14 +18,14 @@ pub data IsSlot {X : Type 0} : Share → Held X → Type 0 where
   is_held : (x : X) → IsSlot filled (held x)
 
 -- a slot before and after an operation: it stays as it is, or the end gives it up, or gets it
-pub data Turns {X : Type 0} : Share → Share → Held X → Held X → Type 0 where
-  stays_away : Turns none none away away
-  stays_vacant : Turns empty empty vacant vacant
-  stays_held : (x : X) → Turns filled filled (held x) (held x)
-  gives_room : Turns empty none vacant away
-  gives_thing : (x : X) → Turns filled none (held x) away
-  gets_room : Turns none empty away vacant
-  gets_thing : (x : X) → Turns none filled away (held x)
+pub data SlotChange {X : Type 0} : Share → Share → Held X → Held X → Type 0 where
+  stays_away : SlotChange none none away away
+  stays_vacant : SlotChange empty empty vacant vacant
+  stays_held : (x : X) → SlotChange filled filled (held x) (held x)
+  gives_room : SlotChange empty none vacant away
+  gives_thing : (x : X) → SlotChange filled none (held x) away
+  gets_room : SlotChange none empty away vacant
+  gets_thing : (x : X) → SlotChange none filled away (held x)
 
 -- a row is in a table
 pub data In {X : Type 0} : X → List X → Type 0 where
@@ -43,7 +43,7 @@ module _ {At T W : Type 0} (rows : At → List (Row At)) where
   pub data Finds : At → Op → ℕ → Held T → Held W → Held T → Held W → Type 0 where
     finds : {at : At} {op : Op} {before after : Slots} {word : ℕ} {next : At} {m m' : Held T} {w w' : Held W}
         → In (op, before, word, next, after) (rows at)
-        → Turns before.0 after.0 m m' → Turns before.1 after.1 w w' → Finds at op word m w m' w'
+        → SlotChange before.0 after.0 m m' → SlotChange before.1 after.1 w w' → Finds at op word m w m' w'
 
 module _ {T W : Type 0} where
   abbrev pub SenderMay : SenderAt → Op → Held T → Held W → Type 0

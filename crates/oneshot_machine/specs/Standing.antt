@@ -1,4 +1,6 @@
 -- The positions at which an end may be after a log, computed from its table.
+-- In the field's terms: the table is a nondeterministic automaton, whose labels are the operations and whose other
+-- steps are silent. `standing` is its subset construction.
 use Rattle.std.specs.Option.{option_map}
 use Rattle.std.specs.Prelude.{ℕ, ◌+◌, ◌++◌, Bool, true, false, ◌==◌, if◌then◌else◌, List, [], ◌∷◌, filter, map, Option, Some, None, is_some}
 use Rattle.std.specs.List.{list_any, filter_map, flat_map}
@@ -96,7 +98,8 @@ sender_table =
       follows = sender_follows;
     }
 
--- a receiver's position, before its `into_future` and from it on: some positions have both
+-- A standpoint is a receiver's position, before its `into_future` or from it on: a receiver and a future may be at the
+-- same position, and other calls follow there.
 pub data Standpoint : Type 0 where
   plainly : ReceiverPos → Standpoint
   as_future : ReceiverPos → Standpoint

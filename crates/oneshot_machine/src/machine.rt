@@ -1,4 +1,15 @@
 //! The types that both transition tables use: ends, steps, what a step sees, and replies.
+//!
+//! Each table stands twice. The files of this folder have its rows as code, which the model runs. The files of `specs/`
+//! have the same rows as definitions, by which contracts and laws are stated. A `row` here has one arm for each row of
+//! the definition, in the order in which the rows are written there, and its contract proves that it is the definition.
+//!
+//! A row that is wrong in both places meets this contract. Other proofs may refuse it: `tables_are_exact` compares the
+//! operations of both tables, each driver of `oneshot_drive` is proved to follow the rows, and every run has to keep
+//! the laws of `oneshot_laws`. Beside the proofs, `scripts/traces` runs an input for each row
+//! (`scripts/parts/leads.txt`), and compares the text with that of `scripts/parts/reference.py`, which has tables of
+//! its own. `oneshot_trace_audit` has the digests of such texts under 10,000 schedules a pair of scripts, and
+//! `scripts/traces drawn` computes them by the reference.
 
 mod async_drop;
 mod by_ref;
@@ -39,15 +50,15 @@ pub enum Step {
     Word(Op),
     /// The sender stores its message.
     WriteMessage,
-    /// The message is taken from its cell.
+    /// The message is taken from its slot.
     TakeMessage,
-    /// The message is dropped in its cell.
+    /// The message is dropped in its slot.
     DropMessage,
-    /// The receiver moves its waker from its hand into the cell.
+    /// The receiver moves its waker from its hand into the slot.
     WriteWaker,
-    /// The sender takes the waker from its cell.
+    /// The sender takes the waker from its slot.
     TakeWaker,
-    /// The receiver takes its waker back from the cell into its hand.
+    /// The receiver takes its waker back from the slot into its hand.
     Withdraw,
     /// The receiver parks. The park may end without a wake.
     Park,

@@ -1,12 +1,15 @@
 //! The codes of the shared word, and the operations on it.
+//!
+//! A code means something else where an end writes after the other has finished, or is about to. docs/PROTOCOL.md lists
+//! these words.
 
 ghost use Rattle.std.specs.Prelude.{◌≡◌, ◌≤◌};
 ghost use Rattle.oneshot_machine.specs.States.{word_after};
 
-/// A waker is in its cell, and the receiver waits.
+/// A waker is in its slot, and the receiver waits.
 pub const RECEIVING: u8 = 0;
 
-/// The sender owns the waker's cell and is about to finish.
+/// The sender owns the waker's slot and is about to finish.
 pub const UNPARKING: u8 = 1;
 
 /// An end is gone, or the message was received.
@@ -15,7 +18,7 @@ pub const DISCONNECTED: u8 = 2;
 /// Both ends are alive, nothing was sent, no waker is stored. A new channel has this word.
 pub const EMPTY: u8 = 3;
 
-/// The message is in its cell, ready to be taken.
+/// The message is in its slot, ready to be taken.
 pub const MESSAGE: u8 = 4;
 
 /// One atomic operation on the word, of six kinds.

@@ -8,7 +8,8 @@ use Rattle.oneshot_machine.specs.declared.machine.Seen.{Seen}
 use Rattle.oneshot_machine.specs.declared.states.Op.{Op}
 use Rattle.oneshot_machine.specs.Noted.{saw, is_same_op}
 use Rattle.oneshot_machine.specs.Phases.{Share, none, empty, filled, Slots, Row}
-use Rattle.oneshot_machine.specs.Slots.{vacant, held, IsSlot, is_away, is_vacant, is_held, Turns, stays_away, stays_vacant, stays_held, gives_room, gives_thing, gets_room, gets_thing, In, May, may}
+use Rattle.oneshot_machine.specs.Slots.{vacant, held, IsSlot, is_away, is_vacant, is_held, SlotChange, stays_away, stays_vacant, stays_held, gives_room, gives_thing, gets_room}
+use Rattle.oneshot_machine.specs.Slots.{gets_thing, In, May, may}
 use Rattle.oneshot_machine.specs.Slots.{Finds, finds}
 use Rattle.oneshot_machine.specs.States.{word_after}
 use Rattle.oneshot_machine.proofs.Sameness.{each_passes, Passing, some_passes, ops_are_same, is_same_share, shares_are_same}
@@ -86,7 +87,7 @@ module _ {X : Type 0} where
 
   -- a slot turns with its owner, and keeps its content
   turns : (own owns : Bool) (content : Option X)
-      → Turns (share_of own (is_some content)) (share_of owns (is_some content))
+      → SlotChange (share_of own (is_some content)) (share_of owns (is_some content))
       (slot_if_own own content) (slot_if_own owns content)
   turns false false content = stays_away
   turns false true None = gets_room
@@ -203,12 +204,12 @@ module _ {At : Type 0} (next : At → Op → Seen → At) (rows : At → List (R
             let same = and_parts (is_same_op row.0 op) (row.2 == word) such.0 in
             let slots : (shares_of c ≡ row.1) × (shares_of (after op c) ≡ row.4) =
             (slots_are_same _ _ such.1, slots_are_same _ _ turned.1) in
-            let message : Turns row.1.0 row.4.0 (slot_if_own own content) (slot_if_own (keeps op c).0 content) =
-            subst (λ (z : Slots × Slots). Turns z.0.0 z.1.0 (slot_if_own own content)
+            let message : SlotChange row.1.0 row.4.0 (slot_if_own own content) (slot_if_own (keeps op c).0 content) =
+            subst (λ (z : Slots × Slots). SlotChange z.0.0 z.1.0 (slot_if_own own content)
             (slot_if_own (keeps op c).0 content))
             (λ i. (slots.0 i, slots.1 i)) (turns own (keeps op c).0 content) in
-            let also : Turns row.1.1 row.4.1 (slot_if_own own_waker waker) (slot_if_own (keeps op c).1 waker) =
-            subst (λ (z : Slots × Slots). Turns z.0.1 z.1.1 (slot_if_own own_waker waker)
+            let also : SlotChange row.1.1 row.4.1 (slot_if_own own_waker waker) (slot_if_own (keeps op c).1 waker) =
+            subst (λ (z : Slots × Slots). SlotChange z.0.1 z.1.1 (slot_if_own own_waker waker)
             (slot_if_own (keeps op c).1 waker)) (λ i. (slots.0 i, slots.1 i)) (turns own_waker (keeps op c).1 waker) in
             subst (λ (z : Op × ℕ). Finds rows at z.0 z.1 (slot_if_own own content) (slot_if_own own_waker waker)
             (slot_if_own (keeps op c).0 content) (slot_if_own (keeps op c).1 waker))

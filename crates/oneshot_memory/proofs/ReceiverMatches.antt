@@ -6,7 +6,8 @@ use Rattle.oneshot_machine.specs.declared.states.Op.TheVariants.{Load, Store, Sw
 use Rattle.oneshot_machine.specs.declared.states.TheConstants.{RECEIVING, UNPARKING, DISCONNECTED, EMPTY}
 use Rattle.oneshot_machine.specs.Logs.{Grows, words, receiver_of, worded}
 use Rattle.oneshot_machine.specs.Noted.{saw}
-use Rattle.oneshot_machine.specs.Phases.{looked, between, blocked, polled, again, storing, stopping, at_once, waited, swapped, by_future, by_poll, ReceiverAt, first, here, waits, claimed, withdrew}
+use Rattle.oneshot_machine.specs.Phases.{after_load, after_timeout, blocked, polled, again, storing, stopping, at_once, waited, swapped, by_future, by_poll, ReceiverAt, first}
+use Rattle.oneshot_machine.specs.Phases.{idle, waits, claimed, withdrew}
 use Rattle.oneshot_machine.specs.Phases.{overdue, full, unclosed, disconnected, resolved, gone, ended, no_receiver, receiver_moves, receiver_owns, receiver_next, receiver_at}
 use Rattle.oneshot_machine.specs.Slots.{vacant, held, In, head, tail, ReceiverMay, ReceiverFinds}
 use Rattle.oneshot_machine.specs.States.{word_after}
@@ -23,11 +24,11 @@ use Rattle.oneshot_memory.proofs.Memory.{IsSteady, comes_about, Operated, operat
 use Rattle.oneshot_memory.proofs.Events.{words_same}
 
 -- which memory a receiver has, and what an operation leaves it
-abbrev pub has : ReceiverAt → Memory → Bool
-has q = receiver_has (receiver_owns q) (receiver_moves q)
+abbrev pub is_receivers : ReceiverAt → Memory → Bool
+is_receivers q = receiver_has (receiver_owns q) (receiver_moves q)
 
-abbrev pub keeps : Op → Memory → Bool × Bool × Bool
-keeps op c = (keeps_message op c.word, keeps_waker op c.word (lies_in c), not (overtakes op c.word))
+abbrev pub receiver_keeps : Op → Memory → Bool × Bool × Bool
+receiver_keeps op c = (keeps_message op c.word, keeps_waker op c.word (lies_in c), not (overtakes op c.word))
 
 abbrev word_by_act : Bool → ℕ
 word_by_act true = 4
@@ -36,8 +37,8 @@ word_by_act false = 2
 -- The changes between its operations, in this order: the message is taken or dropped; a waker is put into
 -- its slot or taken out; both slots are freed; the sender sends or is dropped while no waker waits in the
 -- slot, or while one does, which it uses up; the sender lingers.
-abbrev pub changes : List (Bool → Memory → Bool × Memory)
-changes =
+abbrev pub receiver_changes : List (Bool → Memory → Bool × Memory)
+receiver_changes =
     (λ b c. (c.owns_message, record c { has_message = false }))
     ∷ (λ there c. (c.owns_waker, record c { has_waker = there }))
     ∷ (λ b c. (
@@ -53,34 +54,35 @@ changes =
     ∷ []
 
 -- the law, computed for each phase
-pub steady : IsSteady receiver_next receiver_moves has keeps changes
-steady first = refl
-steady (here looked) = refl
-steady (here between) = refl
-steady (waits blocked) = refl
-steady (waits polled) = refl
-steady (waits again) = refl
-steady claimed = refl
-steady withdrew = refl
-steady overdue = refl
-steady (full at_once) = refl
-steady (full waited) = refl
-steady (full (swapped storing)) = refl
-steady (full (swapped stopping)) = refl
-steady (full by_future) = refl
-steady (full by_poll) = refl
-steady (unclosed storing) = refl
-steady (unclosed stopping) = refl
-steady (disconnected closing) = refl
-steady (resolved closing) = refl
-steady gone = refl
-steady ended = refl
-steady no_receiver = refl
+pub receiver_steady : IsSteady receiver_next receiver_moves is_receivers receiver_keeps receiver_changes
+receiver_steady first = refl
+receiver_steady (idle after_load) = refl
+receiver_steady (idle after_timeout) = refl
+receiver_steady (waits blocked) = refl
+receiver_steady (waits polled) = refl
+receiver_steady (waits again) = refl
+receiver_steady claimed = refl
+receiver_steady withdrew = refl
+receiver_steady overdue = refl
+receiver_steady (full at_once) = refl
+receiver_steady (full waited) = refl
+receiver_steady (full (swapped storing)) = refl
+receiver_steady (full (swapped stopping)) = refl
+receiver_steady (full by_future) = refl
+receiver_steady (full by_poll) = refl
+receiver_steady (unclosed storing) = refl
+receiver_steady (unclosed stopping) = refl
+receiver_steady (disconnected closing) = refl
+receiver_steady (resolved closing) = refl
+receiver_steady gone = refl
+receiver_steady ended = refl
+receiver_steady no_receiver = refl
 
 -- so after each change the ground still matches
-changes_to : (q : ReceiverAt) (c : Memory) {change : Bool → Memory → Bool × Memory} (b : Bool) → In change changes
+changes_to : (q : ReceiverAt) (c : Memory) {change : Bool → Memory → Bool × Memory} (b : Bool)
+    → In change receiver_changes
     → receiver_matches q c ≡ true → (change b c).0 ≡ true → receiver_matches q (change b c).1 ≡ true
-changes_to = comes_about receiver_next receiver_moves has keeps changes steady
+changes_to = comes_about receiver_next receiver_moves is_receivers receiver_keeps receiver_changes receiver_steady
 
 -- a waker that is not used up stays in its slot
 stays_there : {W : Type 0} (used : Bool) (waker : Option W)
@@ -119,14 +121,15 @@ module _ {T W : Type 0} where
 
   -- an operation
   abbrev pub ReceiverOperated : ReceiverAt → Op → ℕ → Bool → Bool → Option T → Option W → Type 0
-  ReceiverOperated = Operated receiver_next receiver_moves has keeps changes steady
+  ReceiverOperated = Operated receiver_next receiver_moves is_receivers receiver_keeps receiver_changes receiver_steady
 
   pub receiver_operates : {q : ReceiverAt} {op : Op} (word : ℕ) (own own_waker : Bool) (content : Option T)
       (waker : Option W) → ReceiverMatches q word own own_waker content waker
       → ReceiverMay q op (slot_if_own own content) (slot_if_own own_waker waker)
       → ReceiverOperated q op word own own_waker content waker
   receiver_operates {q} word own own_waker content waker stands =
-      operates receiver_next receiver_moves has keeps changes steady q word own own_waker content waker stands.is_so
+      operates receiver_next receiver_moves is_receivers receiver_keeps receiver_changes receiver_steady q word own
+          own_waker content waker stands.is_so
 
   -- an operation that meets its `requires`, on the ground as a caller sees it
   pub receiver_asked : (events : List (Event T W)) {op : Op} {word : ℕ} {own own_waker : Bool} {content : Option T}

@@ -3,7 +3,7 @@ use Rattle.std.proofs.Common.{◌≡◌, ℕ, Bool, true, false, List, [], ◌�
 use Rattle.std.specs.Prelude.{is_some}
 use Rattle.oneshot_machine.specs.declared.states.Op.{Op}
 use Rattle.oneshot_machine.specs.Logs.{Grows, words, sender_of, worded}
-use Rattle.oneshot_machine.specs.Phases.{sending, dropping, SenderAt, fresh, owes, finished, late, overtaken, no_sender, sender_moves, sender_owns, sender_next, sender_at}
+use Rattle.oneshot_machine.specs.Phases.{sending, dropping, SenderAt, fresh, owes, finished, found_gone, overtaken, no_sender, sender_moves, sender_owns, sender_next, sender_at}
 use Rattle.oneshot_machine.specs.Slots.{vacant, held, In, head, tail, SenderMay}
 use Rattle.oneshot_machine.specs.States.{word_after}
 use Rattle.oneshot_machine.proofs.GrownLogs.{sender_moved}
@@ -18,16 +18,16 @@ use Rattle.oneshot_memory.proofs.Memory.{IsSteady, comes_about, Operated, operat
 use Rattle.oneshot_memory.proofs.Events.{words_same}
 
 -- which memory a sender has, and what an operation leaves it
-abbrev pub has : SenderAt → Memory → Bool
-has p = sender_has (last_word p) (sender_owns p) (sender_moves p)
+abbrev pub is_senders : SenderAt → Memory → Bool
+is_senders p = sender_has (last_word p) (sender_owns p) (sender_moves p)
 
-abbrev pub keeps : Op → Memory → Bool × Bool × Bool
-keeps op c = (keeps_both c.word, keeps_both c.word, true)
+abbrev pub sender_keeps : Op → Memory → Bool × Bool × Bool
+sender_keeps op c = (keeps_both c.word, keeps_both c.word, true)
 
 -- The changes between its operations, in this order: a message is put into its slot or taken out; the waker
 -- is taken out of its slot; both slots are freed; the receiver keeps waiting, stops, or leaves.
-abbrev pub changes : List (Bool → Memory → Bool × Memory)
-changes =
+abbrev pub sender_changes : List (Bool → Memory → Bool × Memory)
+sender_changes =
     (λ there c. (true, record c { has_message = there }))
     ∷ (λ b c. (c.owns_waker, record c { has_waker = false }))
     ∷ (λ b c. (c.owns_waker, record c { owns_message = false; owns_waker = false }))
@@ -37,20 +37,20 @@ changes =
     ∷ []
 
 -- the law, computed for each phase
-pub steady : IsSteady sender_next sender_moves has keeps changes
-steady fresh = refl
-steady (owes sending) = refl
-steady (owes dropping) = refl
-steady (finished by) = refl
-steady (late by) = refl
-steady (overtaken sending) = refl
-steady (overtaken dropping) = refl
-steady no_sender = refl
+pub sender_steady : IsSteady sender_next sender_moves is_senders sender_keeps sender_changes
+sender_steady fresh = refl
+sender_steady (owes sending) = refl
+sender_steady (owes dropping) = refl
+sender_steady (finished by) = refl
+sender_steady (found_gone by) = refl
+sender_steady (overtaken sending) = refl
+sender_steady (overtaken dropping) = refl
+sender_steady no_sender = refl
 
 -- so after each change the ground still matches
-changes_to : (p : SenderAt) (c : Memory) {change : Bool → Memory → Bool × Memory} (b : Bool) → In change changes
+changes_to : (p : SenderAt) (c : Memory) {change : Bool → Memory → Bool × Memory} (b : Bool) → In change sender_changes
     → sender_matches p c ≡ true → (change b c).0 ≡ true → sender_matches p (change b c).1 ≡ true
-changes_to = comes_about sender_next sender_moves has keeps changes steady
+changes_to = comes_about sender_next sender_moves is_senders sender_keeps sender_changes sender_steady
 
 module _ {T W : Type 0} where
   -- a step that is no operation on the word
@@ -63,7 +63,7 @@ module _ {T W : Type 0} where
 
   -- an operation
   abbrev pub SenderOperated : SenderAt → Op → ℕ → Bool → Bool → Option T → Option W → Type 0
-  SenderOperated = Operated sender_next sender_moves has keeps changes steady
+  SenderOperated = Operated sender_next sender_moves is_senders sender_keeps sender_changes sender_steady
 
   pub sender_operates : {p : SenderAt} {op : Op} (word : ℕ) (own own_waker : Bool) (content : Option T)
       (waker : Option W)
@@ -71,7 +71,8 @@ module _ {T W : Type 0} where
       → SenderMay p op (slot_if_own own content) (slot_if_own own_waker waker)
       → SenderOperated p op word own own_waker content waker
   sender_operates {p} word own own_waker content waker stands =
-      operates sender_next sender_moves has keeps changes steady p word own own_waker content waker stands.is_so
+      operates sender_next sender_moves is_senders sender_keeps sender_changes sender_steady p word own own_waker
+          content waker stands.is_so
 
   -- an operation that meets its `requires`, on the ground as a caller sees it
   pub sender_asked : (events : List (Event T W)) {op : Op} {word : ℕ} {own own_waker : Bool} {content : Option T}

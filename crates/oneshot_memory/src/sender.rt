@@ -178,7 +178,7 @@ impl<'a, T: Drop, W: Drop, R: Wait> SenderGround<T, W> for MemorySender<'a, T, W
         self.operate(Op::Add)
     }
 
-    fn flip(&mut self) -> u8 {
+    fn xor(&mut self) -> u8 {
         self.operate(Op::Xor)
     }
 

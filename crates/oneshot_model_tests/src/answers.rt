@@ -14,7 +14,7 @@ use std::process::Abort;
 
 /// Returns the output for `input`, or the status and the one line of the fault. Fails if the program writes
 /// both.
-fn told(rt: &(impl Abort + AllocGlobal), input: &[u8]) -> String {
+fn output_of(rt: &(impl Abort + AllocGlobal), input: &[u8]) -> String {
     let mut input = input;
     let mut written = Vec::new(rt.alloc());
     let mut errors = Vec::new(rt.alloc());
@@ -31,7 +31,7 @@ fn told(rt: &(impl Abort + AllocGlobal), input: &[u8]) -> String {
 
 /// Fails unless this input has this output.
 fn assert_trace(rt: &(impl Abort + AllocGlobal), input: &str, output: &str) {
-    assert_eq!(rt; told(rt, input.as_bytes()).as_str(), output, "{input}");
+    assert_eq!(rt; output_of(rt, input.as_bytes()).as_str(), output, "{input}");
 }
 
 /// Fails unless each input has its output.

@@ -1,10 +1,12 @@
 //! Tests of the model's parts, by public names: runs that are stepped by hand, texts, and answers to inputs.
+//!
+//! `answers/` tests what `oneshot-run` writes for an input, `text/` the faults that the parser names, and `replayer.rt`
+//! a run that is stepped. The traces of drawn schedules are tested in `oneshot_trace_audit`.
 #![tactic(auto)]
 
 #[cfg(test)]
 mod answers;
 #[cfg(test)]
-mod asserts;
 #[cfg(test)]
 mod replayer;
 #[cfg(test)]

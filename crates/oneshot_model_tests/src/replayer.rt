@@ -1,6 +1,5 @@
 //! Tests of runs that are stepped by hand.
 
-use crate::asserts::{assert_same, assert_that};
 use oneshot_machine::machine::{End, ReceiverStart, Seen, SenderCall, Step};
 use oneshot_machine::states::Op;
 use oneshot_replay::{
@@ -43,23 +42,20 @@ fn a_refused_message_is_followed_move_by_move(rt: HostRuntime) {
         last: ReceiverLast::Drop,
     };
     let mut replayer = Replayer::new(send(7, ErrorLast::IntoInner), receiver);
-    assert_same(&rt, replayer.sender_call(), Some(SenderCall::Send));
-    assert_same(&rt, replayer.receiver_call(), Some(ReceiverStart::Drop));
+    assert_eq!(rt; replayer.sender_call(), Some(SenderCall::Send));
+    assert_eq!(rt; replayer.receiver_call(), Some(ReceiverStart::Drop));
     for (i, (made, sender, receiver, freed)) in MOVES_OF_A_REFUSED_SEND.iter().enumerate() {
         let number = i + 1;
         let _ = replayer.step(*made);
         let calls = (replayer.sender_call(), replayer.receiver_call());
-        assert_same(&rt, calls, (*sender, *receiver));
-        assert_same(
-            &rt,
+        assert_eq!(rt; calls, (*sender, *receiver), "after move {number}");
+        assert_eq!(rt;
             (replayer.count(), replayer.block_freed()),
             (number, *freed),
+            "after move {number}"
         );
     }
-    assert_that(
-        &rt,
-        matches!(replayer.into_rest(), Some(Rest::FromError(7))),
-    );
+    assert!(rt; matches!(replayer.into_rest(), Some(Rest::FromError(7))));
 }
 
 /// The entry of this number, from 1, in a run of a `recv_ref` that nobody wakes.
@@ -99,6 +95,6 @@ fn a_receiver_that_nobody_wakes_parks_and_loads_in_turn(rt: HostRuntime) -> Resu
         let number = i + 1;
         assert_eq!(rt; replayer.step(RECEIVER), waiting(number), "entry {number}");
     }
-    assert_same(&rt, replayer.count(), MOVES);
+    assert_eq!(rt; replayer.count(), MOVES);
     Ok(())
 }

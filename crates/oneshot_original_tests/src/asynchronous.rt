@@ -6,7 +6,6 @@
 
 use super::counted::Drops;
 use super::threads::{Act, By, Pace, assert_outcomes, outcome_of};
-use crate::asserts::{assert_same, assert_that};
 use futures::executor::block_on;
 use futures::task::Poll;
 use futures::test::MockTask;
@@ -30,8 +29,8 @@ const AWAITED: By = By::Receiver("future await");
 
 fn send_before_await<R: Wait + RandomSource + AllocGlobal + Abort>(rt: &R) -> Result<(), Fail> {
     let (sender, receiver) = channel(rt, rt.alloc())?;
-    assert_that(rt, sender.send(19i128).is_ok());
-    assert_same(rt, block_on(rt, receiver.into_future())?, Ok(19));
+    assert!(rt; sender.send(19i128).is_ok());
+    assert_eq!(rt; block_on(rt, receiver.into_future())?, Ok(19));
     Ok(())
 }
 
@@ -50,7 +49,7 @@ fn await_with_dropped_sender<R: Wait + RandomSource + AllocGlobal + Abort>(
 ) -> Result<(), Fail> {
     let (sender, receiver) = channel::<u128, _>(rt, rt.alloc())?;
     drop(sender);
-    assert_same(rt, block_on(rt, receiver.into_future())?, Err(RecvError));
+    assert_eq!(rt; block_on(rt, receiver.into_future())?, Err(RecvError));
     Ok(())
 }
 
@@ -73,11 +72,11 @@ fn await_before_send<R: Threads + Wait + Clock + RandomSource + AllocGlobal + Ab
     let Some(returned) = received.message() else {
         panic!(rt; "it was sent");
     };
-    assert_same(rt, drops.count(), 0);
-    assert_same(rt, returned.value, 79);
+    assert_eq!(rt; drops.count(), 0);
+    assert_eq!(rt; returned.value, 79);
     drop(returned);
-    assert_same(rt, drops.count(), 1);
-    assert_that(rt, shows(&sent.numbered(), "Ok"));
+    assert_eq!(rt; drops.count(), 1);
+    assert!(rt; shows(&sent.numbered(), "Ok"));
     Ok(())
 }
 
@@ -113,28 +112,28 @@ fn await_before_send_then_drop_sender_async_std(rt: HostRuntime) -> Result<(), F
 fn poll_receiver_then_drop_it(rt: HostRuntime) -> Result<(), Fail> {
     let task = MockTask::new(&rt)?;
     let (sender, mut receiver) = async_channel::<(), _>(&rt, rt.alloc())?;
-    assert_same(&rt, task.poll(&mut receiver), Poll::Pending);
+    assert_eq!(rt; task.poll(&mut receiver), Poll::Pending);
     sleep(&rt, Duration::from_millis(100));
-    assert_same(&rt, task.poll(&mut receiver), Poll::Pending);
+    assert_eq!(rt; task.poll(&mut receiver), Poll::Pending);
     drop(receiver);
-    assert_that(&rt, sender.send(()).is_err());
+    assert!(rt; sender.send(()).is_err());
     Ok(())
 }
 
 #[test]
 fn dropping_sender_disconnects_async_receiver(rt: HostRuntime) -> Result<(), Fail> {
     let (sender, receiver) = async_channel::<(), _>(&rt, rt.alloc())?;
-    assert_that(&rt, !(sender.is_closed() || receiver.is_closed()));
+    assert!(rt; !(sender.is_closed() || receiver.is_closed()));
     drop(sender);
-    assert_that(&rt, receiver.is_closed());
+    assert!(rt; receiver.is_closed());
     Ok(())
 }
 
 #[test]
 fn async_receiver_has_message(rt: HostRuntime) -> Result<(), Fail> {
     let (sender, receiver) = async_channel(&rt, rt.alloc())?;
-    assert_that(&rt, !receiver.has_message());
-    assert_that(&rt, sender.send(19i128).is_ok());
-    assert_that(&rt, receiver.has_message());
+    assert!(rt; !receiver.has_message());
+    assert!(rt; sender.send(19i128).is_ok());
+    assert!(rt; receiver.has_message());
     Ok(())
 }

@@ -2,7 +2,6 @@
 //! receives by blocking and by awaiting; and the same by typed requests.
 
 use super::times::{assert_woken_since, now};
-use crate::asserts::{assert_same, assert_that};
 use crossbeam_channel as queue;
 use futures::executor::block_on;
 use oneshot::reply::{self, Length};
@@ -47,14 +46,14 @@ fn a_processing_thread_answers_lengths(rt: HostRuntime) -> Result<(), Fail> {
     for (text, length) in [("", 0), ("lengths", 7), ("a processing thread", 19)] {
         let (reply, mut answer) = channel(&rt, rt.alloc())?;
         let request = String::from_str(rt.alloc(), text)?;
-        assert_that(&rt, ask(&rt, &requests, request, reply));
+        assert!(rt; ask(&rt, &requests, request, reply));
         let start = now(&rt);
-        assert_same(&rt, answer.recv_timeout(limit()), Ok(length));
+        assert_eq!(rt; answer.recv_timeout(limit()), Ok(length));
         assert_woken_since(&rt, start);
         let (reply, answer) = channel(&rt, rt.alloc())?;
         let request = String::from_str(rt.alloc(), text)?;
-        assert_that(&rt, ask(&rt, &requests, request, reply));
-        assert_same(&rt, block_on(&rt, answer.into_future())?, Ok(length));
+        assert!(rt; ask(&rt, &requests, request, reply));
+        assert_eq!(rt; block_on(&rt, answer.into_future())?, Ok(length));
     }
     drop(requests);
     processor.join(&rt);
@@ -83,11 +82,11 @@ fn a_processing_thread_answers_typed_requests(rt: HostRuntime) -> Result<(), Fai
         let question = String::from_str(rt.alloc(), text)?;
         let made = reply::request(&rt, rt.alloc(), question);
         let (request, mut ticket) = made.map_err(|_| AllocError)?;
-        assert_that(&rt, requests.send(&rt, request).is_ok());
+        assert!(rt; requests.send(&rt, request).is_ok());
         let start = now(&rt);
         let reply = ticket.wait_for(limit());
         assert_woken_since(&rt, start);
-        assert_same(&rt, reply.map(|length| length.bytes()), Ok(bytes));
+        assert_eq!(rt; reply.map(|length| length.bytes()), Ok(bytes));
     }
     drop(requests);
     processor.join(&rt);

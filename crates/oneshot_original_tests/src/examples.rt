@@ -1,7 +1,6 @@
 //! The programs of `examples/`, each as a test that runs it once.
 
 use super::threads::{Act, By, Pace, assert_outcomes};
-use crate::asserts::assert_same;
 use oneshot::channel;
 use std::test::Fail;
 
@@ -20,7 +19,7 @@ fn send_with_dropped_receiver(rt: HostRuntime) -> Result<(), Fail> {
     let (sender, receiver) = channel::<u128, ()>((), rt.alloc())?;
     drop(receiver);
     let back = sender.send(5).err().map(|refused| refused.into_inner());
-    assert_same(&rt, back, Some(5));
+    assert_eq!(rt; back, Some(5));
     Ok(())
 }
 
@@ -28,7 +27,7 @@ fn send_with_dropped_receiver(rt: HostRuntime) -> Result<(), Fail> {
 fn send_before_recv(rt: HostRuntime) -> Result<(), Fail> {
     let (sender, receiver) = channel::<i128, _>(&rt, rt.alloc())?;
     let sent = sender.send(19).is_ok();
-    assert_same(&rt, (sent, receiver.recv()), (true, Ok(19)));
+    assert_eq!(rt; (sent, receiver.recv()), (true, Ok(19)));
     Ok(())
 }
 

@@ -1,6 +1,5 @@
 //! The test of `tests/future.rs`, over a ground in memory whose tasks count the copies of their wakers.
 
-use crate::asserts::assert_same;
 use futures::task::Poll;
 use oneshot::drive::poll;
 use oneshot_memory::{MemoryFuture, MemoryTask};
@@ -10,10 +9,10 @@ fn multiple_receiver_polls_keeps_only_latest_waker(rt: HostRuntime) {
     let first = MemoryTask::new();
     let second = MemoryTask::new();
     let mut receiver = MemoryFuture::<'_, '_, (), _>::new(&rt, rt.alloc(), &first);
-    assert_same(&rt, poll(&mut receiver), Poll::Pending);
-    assert_same(&rt, (first.copies(), first.ended()), (1, 0));
+    assert_eq!(rt; poll(&mut receiver), Poll::Pending);
+    assert_eq!(rt; (first.copies(), first.ended()), (1, 0));
     receiver.task = &second;
-    assert_same(&rt, poll(&mut receiver), Poll::Pending);
-    assert_same(&rt, (second.copies(), second.ended()), (1, 0));
-    assert_same(&rt, (first.copies(), first.ended()), (1, 1));
+    assert_eq!(rt; poll(&mut receiver), Poll::Pending);
+    assert_eq!(rt; (second.copies(), second.ended()), (1, 0));
+    assert_eq!(rt; (first.copies(), first.ended()), (1, 1));
 }

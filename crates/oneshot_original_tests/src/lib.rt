@@ -6,7 +6,6 @@
 #![tactic(auto)]
 
 #[cfg(test)]
-mod asserts;
 #[cfg(test)]
 mod asynchronous;
 #[cfg(test)]

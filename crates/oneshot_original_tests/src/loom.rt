@@ -4,7 +4,6 @@
 //! channel.
 
 use super::threads::{AT_ONCE, Act, By, ROUNDS, assert_outcomes, on_two_threads};
-use crate::asserts::{assert_same, assert_that};
 use futures::task::Poll;
 use futures::test::MockTask;
 use oneshot::{async_channel, drive};
@@ -56,15 +55,15 @@ fn counts(task: &MemoryTask) -> (u64, u64, u64) {
 fn send_then_poll(rt: HostRuntime) -> Result<(), Fail> {
     let task = MockTask::new(&rt)?;
     let (sender, mut receiver) = async_channel(&rt, rt.alloc())?;
-    assert_that(&rt, sender.send(1234u128).is_ok());
-    assert_same(&rt, task.poll(&mut receiver), Poll::Ready(Ok(1234)));
-    assert_that(&rt, !task.is_woken());
+    assert!(rt; sender.send(1234u128).is_ok());
+    assert_eq!(rt; task.poll(&mut receiver), Poll::Ready(Ok(1234)));
+    assert!(rt; !task.is_woken());
 
     let task = MemoryTask::new();
     let mut receiver = MemoryFuture::<'_, '_, u128, _>::new(&rt, rt.alloc(), &task);
     receiver.receiver.sender_sends(1234);
-    assert_same(&rt, drive::poll(&mut receiver), Poll::Ready(Ok(1234)));
-    assert_same(&rt, counts(&task), (0, 0, 0));
+    assert_eq!(rt; drive::poll(&mut receiver), Poll::Ready(Ok(1234)));
+    assert_eq!(rt; counts(&task), (0, 0, 0));
     Ok(())
 }
 
@@ -74,7 +73,7 @@ fn poll_then_drop_receiver_during_send(rt: HostRuntime) -> Result<(), Fail> {
     let task = MockTask::new(&rt)?;
     for _ in 0..ROUNDS {
         let (sender, mut receiver) = async_channel(&rt, rt.alloc())?;
-        assert_same(&rt, task.poll(&mut receiver), Poll::Pending);
+        assert_eq!(rt; task.poll(&mut receiver), Poll::Pending);
         let ends = (Sending::new(sender, Some(1234u128)), receiver);
         let sends = &[SenderCall::Send];
         let _ = on_two_threads(&rt, Duration::ZERO, sends, ends, |receiver| drop(receiver));
@@ -86,21 +85,21 @@ fn poll_then_drop_receiver_during_send(rt: HostRuntime) -> Result<(), Fail> {
 fn poll_then_send(rt: HostRuntime) -> Result<(), Fail> {
     let task = MockTask::new(&rt)?;
     let (sender, mut receiver) = async_channel(&rt, rt.alloc())?;
-    assert_same(&rt, task.poll(&mut receiver), Poll::Pending);
-    assert_that(&rt, !task.is_woken());
-    assert_that(&rt, sender.send(1234u128).is_ok());
-    assert_that(&rt, task.is_woken());
-    assert_same(&rt, task.poll(&mut receiver), Poll::Ready(Ok(1234)));
-    assert_that(&rt, !task.is_woken());
+    assert_eq!(rt; task.poll(&mut receiver), Poll::Pending);
+    assert!(rt; !task.is_woken());
+    assert!(rt; sender.send(1234u128).is_ok());
+    assert!(rt; task.is_woken());
+    assert_eq!(rt; task.poll(&mut receiver), Poll::Ready(Ok(1234)));
+    assert!(rt; !task.is_woken());
 
     let task = MemoryTask::new();
     let mut receiver = MemoryFuture::<'_, '_, u128, _>::new(&rt, rt.alloc(), &task);
-    assert_same(&rt, drive::poll(&mut receiver), Poll::Pending);
-    assert_same(&rt, counts(&task), (1, 0, 0));
+    assert_eq!(rt; drive::poll(&mut receiver), Poll::Pending);
+    assert_eq!(rt; counts(&task), (1, 0, 0));
     receiver.receiver.sender_sends(1234);
-    assert_same(&rt, counts(&task), (1, 1, 1));
-    assert_same(&rt, drive::poll(&mut receiver), Poll::Ready(Ok(1234)));
-    assert_same(&rt, counts(&task), (1, 1, 1));
+    assert_eq!(rt; counts(&task), (1, 1, 1));
+    assert_eq!(rt; drive::poll(&mut receiver), Poll::Ready(Ok(1234)));
+    assert_eq!(rt; counts(&task), (1, 1, 1));
     Ok(())
 }
 
@@ -109,29 +108,21 @@ fn poll_with_different_wakers(rt: HostRuntime) -> Result<(), Fail> {
     let first = MockTask::new(&rt)?;
     let second = MockTask::new(&rt)?;
     let (sender, mut receiver) = async_channel(&rt, rt.alloc())?;
-    assert_same(&rt, first.poll(&mut receiver), Poll::Pending);
-    assert_same(&rt, second.poll(&mut receiver), Poll::Pending);
-    assert_same(&rt, (first.is_woken(), second.is_woken()), (false, false));
-    assert_that(&rt, sender.send(1234u128).is_ok());
-    assert_same(&rt, (first.is_woken(), second.is_woken()), (false, true));
+    assert_eq!(rt; first.poll(&mut receiver), Poll::Pending);
+    assert_eq!(rt; second.poll(&mut receiver), Poll::Pending);
+    assert_eq!(rt; (first.is_woken(), second.is_woken()), (false, false));
+    assert!(rt; sender.send(1234u128).is_ok());
+    assert_eq!(rt; (first.is_woken(), second.is_woken()), (false, true));
 
     let first = MemoryTask::new();
     let second = MemoryTask::new();
     let mut receiver = MemoryFuture::<'_, '_, u128, _>::new(&rt, rt.alloc(), &first);
-    assert_same(&rt, drive::poll(&mut receiver), Poll::Pending);
-    assert_same(&rt, counts(&first), (1, 0, 0));
+    assert_eq!(rt; drive::poll(&mut receiver), Poll::Pending);
+    assert_eq!(rt; counts(&first), (1, 0, 0));
     receiver.task = &second;
-    assert_same(&rt, drive::poll(&mut receiver), Poll::Pending);
-    assert_same(
-        &rt,
-        (counts(&first), counts(&second)),
-        ((1, 1, 0), (1, 0, 0)),
-    );
+    assert_eq!(rt; drive::poll(&mut receiver), Poll::Pending);
+    assert_eq!(rt; (counts(&first), counts(&second)), ((1, 1, 0), (1, 0, 0)));
     receiver.receiver.sender_sends(1234);
-    assert_same(
-        &rt,
-        (counts(&first), counts(&second)),
-        ((1, 1, 0), (1, 1, 1)),
-    );
+    assert_eq!(rt; (counts(&first), counts(&second)), ((1, 1, 0), (1, 1, 1)));
     Ok(())
 }

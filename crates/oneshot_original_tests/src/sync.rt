@@ -5,7 +5,6 @@
 use super::counted::Drops;
 use super::threads::{AT_ONCE, Act, By, Pace, ROUNDS, assert_outcomes};
 use super::times::{in_time, second, tenth};
-use crate::asserts::{assert_same, assert_that};
 use oneshot::{RecvError, RecvTimeoutError, SendError, TryRecvError, channel};
 use std::alloc::{AllocError, Global};
 use std::process::Abort;
@@ -17,20 +16,16 @@ use std::time::{Clock, Duration, Instant};
 fn send_before_try_recv(rt: HostRuntime) -> Result<(), Fail> {
     let (sender, mut receiver) = channel(&rt, rt.alloc())?;
     let before = receiver.has_message();
-    assert_that(&rt, !before && sender.send(19i128).is_ok());
+    assert!(rt; !before && sender.send(19i128).is_ok());
     let sent = receiver.has_message();
     let received = receiver.try_recv();
-    assert_same(&rt, (sent, received), (true, Ok(19)));
+    assert_eq!(rt; (sent, received), (true, Ok(19)));
     let after = receiver.has_message();
     let again = receiver.try_recv();
-    assert_same(
-        &rt,
-        (after, again),
-        (false, Err(TryRecvError::Disconnected)),
-    );
-    assert_same(&rt, receiver.recv_ref(), Err(RecvError));
+    assert_eq!(rt; (after, again), (false, Err(TryRecvError::Disconnected)));
+    assert_eq!(rt; receiver.recv_ref(), Err(RecvError));
     let timed = receiver.recv_timeout(second());
-    assert_same(&rt, timed, Err(RecvTimeoutError::Disconnected));
+    assert_eq!(rt; timed, Err(RecvTimeoutError::Disconnected));
     Ok(())
 }
 
@@ -49,15 +44,12 @@ fn carried<R: Wait + Clock, T: Send + Drop>(
 
 #[test]
 fn send_before_recv(rt: HostRuntime) -> Result<(), Fail> {
-    assert_same(&rt, carried(&rt, rt.alloc(), ())?, Some(()));
-    assert_same(&rt, carried(&rt, rt.alloc(), 19u8)?, Some(19));
-    assert_same(&rt, carried(&rt, rt.alloc(), 21u64)?, Some(21));
+    assert_eq!(rt; carried(&rt, rt.alloc(), ())?, Some(()));
+    assert_eq!(rt; carried(&rt, rt.alloc(), 19u8)?, Some(19));
+    assert_eq!(rt; carried(&rt, rt.alloc(), 21u64)?, Some(21));
     let page = [0b1010_1010u8; 4096];
     let received = carried(&rt, rt.alloc(), page)?;
-    assert_that(
-        &rt,
-        received.is_some_and(|bytes| bytes.as_slice() == page.as_slice()),
-    );
+    assert!(rt; received.is_some_and(|bytes| bytes.as_slice() == page.as_slice()));
     Ok(())
 }
 
@@ -65,13 +57,13 @@ fn send_before_recv(rt: HostRuntime) -> Result<(), Fail> {
 fn send_before_recv_ref(rt: HostRuntime) -> Result<(), Fail> {
     let (sender, mut receiver) = channel(&rt, rt.alloc())?;
     let sent = sender.send(19i128).is_ok();
-    assert_same(&rt, (sent, receiver.recv_ref()), (true, Ok(19)));
+    assert_eq!(rt; (sent, receiver.recv_ref()), (true, Ok(19)));
     let by_ref = receiver.recv_ref();
     let tried = receiver.try_recv();
     let timed = receiver.recv_timeout(second());
-    assert_same(&rt, by_ref, Err(RecvError));
-    assert_same(&rt, tried, Err(TryRecvError::Disconnected));
-    assert_same(&rt, timed, Err(RecvTimeoutError::Disconnected));
+    assert_eq!(rt; by_ref, Err(RecvError));
+    assert_eq!(rt; tried, Err(TryRecvError::Disconnected));
+    assert_eq!(rt; timed, Err(RecvTimeoutError::Disconnected));
     Ok(())
 }
 
@@ -83,12 +75,12 @@ fn send_before_recv_timeout(rt: HostRuntime) -> Result<(), Fail> {
         let before = Instant::now(&rt)?;
         let received = receiver.recv_timeout(second());
         let took = before.elapsed(&rt)?;
-        assert_same(&rt, (sent, received), (true, Ok(19)));
+        assert_eq!(rt; (sent, received), (true, Ok(19)));
         let timed = receiver.recv_timeout(second());
         let tried = receiver.try_recv();
-        assert_same(&rt, timed, Err(RecvTimeoutError::Disconnected));
-        assert_same(&rt, tried, Err(TryRecvError::Disconnected));
-        assert_same(&rt, receiver.recv(), Err(RecvError));
+        assert_eq!(rt; timed, Err(RecvTimeoutError::Disconnected));
+        assert_eq!(rt; tried, Err(TryRecvError::Disconnected));
+        assert_eq!(rt; receiver.recv(), Err(RecvError));
         Ok(took < slept)
     })
 }
@@ -98,7 +90,7 @@ fn send_then_drop_receiver(rt: HostRuntime) -> Result<(), Fail> {
     let (sender, receiver) = channel::<_, ()>((), rt.alloc())?;
     let sent = sender.send(19i128);
     drop(receiver);
-    assert_that(&rt, sent.is_ok());
+    assert!(rt; sent.is_ok());
     Ok(())
 }
 
@@ -119,7 +111,7 @@ fn refused<T: Send + Drop>(
 fn send_with_dropped_receiver(rt: HostRuntime) -> Result<(), Fail> {
     let error = refused(&rt, rt.alloc(), 5u128)?;
     let seen = *error.as_inner();
-    assert_same(&rt, (seen, error.into_inner()), (5, 5));
+    assert_eq!(rt; (seen, error.into_inner()), (5, 5));
     Ok(())
 }
 
@@ -128,18 +120,14 @@ fn try_recv_with_dropped_sender(rt: HostRuntime) -> Result<(), Fail> {
     let (_, mut receiver) = channel::<u128, ()>((), rt.alloc())?;
     let found = receiver.has_message();
     let received = receiver.try_recv();
-    assert_same(
-        &rt,
-        (found, received),
-        (false, Err(TryRecvError::Disconnected)),
-    );
+    assert_eq!(rt; (found, received), (false, Err(TryRecvError::Disconnected)));
     Ok(())
 }
 
 #[test]
 fn recv_with_dropped_sender(rt: HostRuntime) -> Result<(), Fail> {
     let (_, receiver) = channel::<u128, _>(&rt, rt.alloc())?;
-    assert_same(&rt, receiver.recv(), Err(RecvError));
+    assert_eq!(rt; receiver.recv(), Err(RecvError));
     Ok(())
 }
 
@@ -194,7 +182,7 @@ fn try_recv(rt: HostRuntime) -> Result<(), Fail> {
     let (sender, mut receiver) = channel::<u128, ()>((), rt.alloc())?;
     let received = receiver.try_recv();
     drop(sender);
-    assert_same(&rt, received, Err(TryRecvError::Empty));
+    assert_eq!(rt; received, Err(TryRecvError::Empty));
     Ok(())
 }
 
@@ -215,7 +203,7 @@ fn timed_out<T: Drop, F: FnOnce(Instant) -> Result<T, RecvTimeoutError>>(
     let start = Instant::now(rt)?;
     let received = receive(start);
     let took = start.elapsed(rt)?;
-    assert_that(rt, matches!(received, Err(RecvTimeoutError::Timeout)));
+    assert!(rt; matches!(received, Err(RecvTimeoutError::Timeout)));
     Ok(took)
 }
 
@@ -237,7 +225,7 @@ fn recv_deadline_time_should_elapse(rt: HostRuntime) -> Result<(), Fail> {
             let end = start.checked_add(tenth());
             receiver.recv_deadline(end.expect(&rt, "an instant can hold it"))
         })?;
-        assert_that(&rt, took > tenth());
+        assert!(rt; took > tenth());
         Ok(took / 3 < slept)
     })
 }
@@ -247,7 +235,7 @@ fn recv_timeout_time_should_elapse(rt: HostRuntime) -> Result<(), Fail> {
     in_time(&rt, |slept| {
         let (_sender, mut receiver) = channel::<u128, _>(&rt, rt.alloc())?;
         let took = timed_out(&rt, |_| receiver.recv_timeout(tenth()))?;
-        assert_that(&rt, took > tenth());
+        assert!(rt; took > tenth());
         Ok(took / 3 < slept)
     })
 }
@@ -257,11 +245,11 @@ fn message_in_channel_dropped_on_receiver_drop(rt: HostRuntime) -> Result<(), Fa
     let drops = Drops::new();
     let (sender, receiver) = channel::<_, ()>((), rt.alloc())?;
     let message = drops.message(());
-    assert_same(&rt, drops.count(), 0);
-    assert_that(&rt, sender.send(message).is_ok());
-    assert_same(&rt, drops.count(), 0);
+    assert_eq!(rt; drops.count(), 0);
+    assert!(rt; sender.send(message).is_ok());
+    assert_eq!(rt; drops.count(), 0);
     drop(receiver);
-    assert_same(&rt, drops.count(), 1);
+    assert_eq!(rt; drops.count(), 1);
     Ok(())
 }
 
@@ -269,9 +257,9 @@ fn message_in_channel_dropped_on_receiver_drop(rt: HostRuntime) -> Result<(), Fa
 fn send_error_drops_message_correctly(rt: HostRuntime) -> Result<(), Fail> {
     let drops = Drops::new();
     let error = refused(&rt, rt.alloc(), drops.message(()))?;
-    assert_same(&rt, drops.count(), 0);
+    assert_eq!(rt; drops.count(), 0);
     drop(error);
-    assert_same(&rt, drops.count(), 1);
+    assert_eq!(rt; drops.count(), 1);
     Ok(())
 }
 
@@ -279,28 +267,28 @@ fn send_error_drops_message_correctly(rt: HostRuntime) -> Result<(), Fail> {
 fn send_error_drops_message_correctly_on_into_inner(rt: HostRuntime) -> Result<(), Fail> {
     let drops = Drops::new();
     let error = refused(&rt, rt.alloc(), drops.message(5u8))?;
-    assert_same(&rt, drops.count(), 0);
+    assert_eq!(rt; drops.count(), 0);
     let back = error.into_inner();
-    assert_same(&rt, (back.value, drops.count()), (5, 0));
+    assert_eq!(rt; (back.value, drops.count()), (5, 0));
     drop(back);
-    assert_same(&rt, drops.count(), 1);
+    assert_eq!(rt; drops.count(), 1);
     Ok(())
 }
 
 #[test]
 fn dropping_receiver_disconnects_sender(rt: HostRuntime) -> Result<(), Fail> {
     let (sender, receiver) = channel::<(), ()>((), rt.alloc())?;
-    assert_that(&rt, !(sender.is_closed() || receiver.is_closed()));
+    assert!(rt; !(sender.is_closed() || receiver.is_closed()));
     drop(receiver);
-    assert_that(&rt, sender.is_closed());
+    assert!(rt; sender.is_closed());
     Ok(())
 }
 
 #[test]
 fn dropping_sender_disconnects_receiver(rt: HostRuntime) -> Result<(), Fail> {
     let (sender, receiver) = channel::<(), ()>((), rt.alloc())?;
-    assert_that(&rt, !(sender.is_closed() || receiver.is_closed()));
+    assert!(rt; !(sender.is_closed() || receiver.is_closed()));
     drop(sender);
-    assert_that(&rt, receiver.is_closed());
+    assert!(rt; receiver.is_closed());
     Ok(())
 }

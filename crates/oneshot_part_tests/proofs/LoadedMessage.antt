@@ -7,7 +7,7 @@ use Rattle.oneshot_machine.specs.declared.states.Op.TheVariants.{Load}
 use Rattle.oneshot_machine.specs.declared.states.TheConstants.{MESSAGE}
 use Rattle.oneshot_machine.specs.Noted.{is_same_op}
 use Rattle.oneshot_machine.specs.Phases.{Share, empty, Row, Got, full, ReceiverAt, receiver_next, receiver_at}
-use Rattle.oneshot_machine.specs.Slots.{Held, vacant, held, Turns, stays_vacant, stays_held, gets_room, gets_thing, finds, ReceiverFinds}
+use Rattle.oneshot_machine.specs.Slots.{Held, vacant, held, SlotChange, stays_vacant, stays_held, gets_room, gets_thing, finds, ReceiverFinds}
 use Rattle.oneshot_machine.proofs.EachPhase.{in_each_receiver_row}
 use Rattle.oneshot_word.specs.Side.{ReceiverDid}
 use Rattle.oneshot_part_tests.proofs.Shown.{Plain, ReceiverIs, receiver_told, receiver_went, receiver_is, is_filled}
@@ -29,12 +29,13 @@ full_is : (q : ReceiverAt) → is_full q ≡ true → (g : Got) × (q ≡ full g
 full_is (full g) e = (g, refl)
 full_is _ e = absurd (cc)
 
-message_is : {X : Type 0} {s t : Share} {h h' : Held X} → is_filled t ≡ true → Turns s t h h' → (x : X) × (h' ≡ held x)
+message_is : {X : Type 0} {s t : Share} {h h' : Held X} → is_filled t ≡ true → SlotChange s t h h'
+    → (x : X) × (h' ≡ held x)
 message_is e (stays_held x) = (x, refl)
 message_is e (gets_thing x) = (x, refl)
 message_is e _ = absurd (cc)
 
-waker_is : {X : Type 0} {s t : Share} {h h' : Held X} → is_empty t ≡ true → Turns s t h h' → h' ≡ vacant
+waker_is : {X : Type 0} {s t : Share} {h h' : Held X} → is_empty t ≡ true → SlotChange s t h h' → h' ≡ vacant
 waker_is e stays_vacant = refl
 waker_is e gets_room = refl
 waker_is e _ = absurd (cc)

@@ -6,7 +6,7 @@ use Rattle.oneshot_machine.specs.declared.states.Op.TheVariants.{Load, Store, Sw
 use Rattle.oneshot_machine.specs.declared.states.TheConstants.{DISCONNECTED, MESSAGE}
 use Rattle.oneshot_machine.specs.Noted.{saw}
 use Rattle.oneshot_machine.specs.Over.{SenderIsOver, over_finished, over_late, over_overtaken, found_no_sender, ReceiverIsOver}
-use Rattle.oneshot_machine.specs.Phases.{By, Row, SenderAt, finished, late, overtaken, sender_next, sender_at, blocked, waits, overdue, closed_itself, found_closed, disconnected, receiver_at}
+use Rattle.oneshot_machine.specs.Phases.{By, Row, SenderAt, finished, found_gone, overtaken, sender_next, sender_at, blocked, waits, overdue, closed_itself, found_closed, disconnected, receiver_at}
 use Rattle.oneshot_machine.specs.Slots.{finds, SenderFinds}
 use Rattle.oneshot_machine.proofs.EachPhase.{in_each_sender_row}
 use Rattle.oneshot_word.specs.Side.{SenderDid, ReceiverDid}
@@ -18,13 +18,13 @@ is_swap _ = false
 
 abbrev is_over : SenderAt → Bool
 is_over (finished by) = true
-is_over (late by) = true
+is_over (found_gone by) = true
 is_over (overtaken by) = true
 is_over _ = false
 
 over_is : (p : SenderAt) → is_over p ≡ true → (by : By) × SenderIsOver by p
 over_is (finished by) e = (by, over_finished)
-over_is (late by) e = (by, over_late)
+over_is (found_gone by) e = (by, over_late)
 over_is (overtaken by) e = (by, over_overtaken)
 over_is _ e = absurd (cc e)
 

@@ -5,9 +5,9 @@ use Rattle.oneshot_machine.specs.declared.states.Op.{Op}
 use Rattle.oneshot_machine.specs.declared.states.Op.TheVariants.{Store, Swap}
 use Rattle.oneshot_machine.specs.declared.states.TheConstants.{RECEIVING, DISCONNECTED, EMPTY}
 use Rattle.oneshot_machine.specs.Noted.{saw, is_same_op}
-use Rattle.oneshot_machine.specs.Phases.{Share, filled, Got, at_once, full, here, looked, waits, blocked, SenderAt, fresh, sender_next, sender_at, ReceiverAt, first, receiver_moves, receiver_next}
+use Rattle.oneshot_machine.specs.Phases.{Share, filled, Got, at_once, full, idle, after_load, waits, blocked, SenderAt, fresh, sender_next, sender_at, ReceiverAt, first, receiver_moves, receiver_next}
 use Rattle.oneshot_machine.specs.Phases.{receiver_at}
-use Rattle.oneshot_machine.specs.Slots.{Held, away, vacant, held, is_held, is_vacant, Turns, stays_vacant, stays_held, gets_thing, head, tail, may, finds, SenderMay, SenderFinds, ReceiverMay}
+use Rattle.oneshot_machine.specs.Slots.{Held, away, vacant, held, is_held, is_vacant, SlotChange, stays_vacant, stays_held, gets_thing, head, tail, may, finds, SenderMay, SenderFinds, ReceiverMay}
 use Rattle.oneshot_machine.specs.Slots.{ReceiverFinds, not_its_own, owns, SenderOwns}
 use Rattle.oneshot_machine.proofs.Sameness.{each_passes}
 use Rattle.oneshot_machine.proofs.GrownLogs.{phase_from-snoc}
@@ -26,11 +26,11 @@ stays_full : (g : Got) → list_all (λ row. is_filled row.4.0) (receiver_moves 
 stays_full at_once = refl
 stays_full _ = refl
 
-kept : {T : Type 0} {s t : Share} {x : T} {m : Held T} → is_filled t ≡ true → Turns s t (held x) m → m ≡ held x
+kept : {T : Type 0} {s t : Share} {x : T} {m : Held T} → is_filled t ≡ true → SlotChange s t (held x) m → m ≡ held x
 kept e (stays_held x) = refl
 kept e _ = absurd (cc)
 
--- only a receiver that waits in a call that blocks may swap in 3
+-- only a receiver that waits in a call that blocks may swap EMPTY in
 abbrev has_no_stop : ReceiverAt → Bool
 has_no_stop q = list_all (λ row. not (is_same_op (Swap EMPTY) row.0)) (receiver_moves q)
 
@@ -40,7 +40,7 @@ data StopsWhere : ReceiverAt → Type 0 where
 
 where_it_stops : (q : ReceiverAt) → StopsWhere q
 where_it_stops (waits blocked) = stops_waiting
-where_it_stops (here looked) = stops_nowhere refl
+where_it_stops (idle after_load) = stops_nowhere refl
 where_it_stops (full at_once) = stops_nowhere refl
 where_it_stops _ = stops_nowhere refl
 
@@ -140,7 +140,7 @@ module _ {T W : Type 0} where
   begins_fresh s at message its =
       record { at = at; message = message; waker = no_waker_yet (subst (λ p. SenderOwns p s.message s.waker) at its) }
 
-  -- a sender that finds 0 has the receiver's waker
+  -- a sender that finds RECEIVING has the receiver's waker
   found_waker : {op : Op} {m m' : Held T} {w : Held W} → SenderFinds fresh op 0 m away m' w
       → (m' ≡ m) × (k : W) × (w ≡ held k)
   found_waker (finds (tail head) (stays_held x) (gets_thing k)) = (refl, k, refl)

@@ -3,11 +3,10 @@
 ghost use Rattle.std.specs.Prelude.{◌≡◌, ◌⊎◌};
 ghost use Rattle.oneshot_machine.specs.declared.states.Op.TheVariants.{Load, Swap};
 ghost use Rattle.oneshot_machine.specs.Over.{SenderIsOver, ReceiverIsOver};
-ghost use Rattle.oneshot_machine.specs.Phases.{By, fresh, sender_at, looked, first, here, blocked, waits, overdue, receiver_at};
+ghost use Rattle.oneshot_machine.specs.Phases.{By, fresh, sender_at, after_load, first, idle, blocked, waits, overdue, receiver_at};
 ghost use Rattle.oneshot_machine.specs.Slots.{vacant};
 ghost use Rattle.oneshot_word.specs.Side.{SenderCan, ReceiverCan};
 
-use crate::asserts::assert_same;
 use oneshot_word::{AnyWaker, Peek, ReceiverSide, SenderSide, Slot, discard, open};
 use std::mem::size_of;
 use std::process::Abort;
@@ -16,8 +15,8 @@ use std::test::Fail;
 #[test]
 fn a_new_table_reads_3_at_both_ends(rt: HostRuntime) -> Result<(), Fail> {
     let (sender, receiver) = open::<u64, u64, u64, ()>(rt.alloc(), &())?;
-    assert_same(&rt, sender.peek(), 3);
-    assert_same(&rt, receiver.peek(), 3);
+    assert_eq!(rt; sender.peek(), 3);
+    assert_eq!(rt; receiver.peek(), 3);
     discard(sender, receiver);
     Ok(())
 }
@@ -36,7 +35,7 @@ fn a_waker_goes_one_way_and_a_message_the_other(rt: HostRuntime) -> Result<(), F
     store_waker(&rt, &mut receiver, AnyWaker::Thread(5));
     assert!(rt; matches!(begin_send(&rt, &mut sender, 7), AnyWaker::Thread(5)));
     finish(&rt, &mut sender, 4, 1);
-    assert_same(&rt, receive(&rt, &mut receiver), 7);
+    assert_eq!(rt; receive(&rt, &mut receiver), 7);
     sender.let_go();
     receiver.let_go();
     Ok(())
@@ -48,11 +47,11 @@ fn a_receiver_that_stops_waiting_goes_on(rt: HostRuntime) -> Result<(), Fail> {
     look(&rt, &mut receiver);
     store_waker(&rt, &mut receiver, AnyWaker::Thread(5));
     assert!(rt; matches!(stop(&rt, &mut receiver), AnyWaker::Thread(5)));
-    assert_same(&rt, sender.peek(), 3);
+    assert_eq!(rt; sender.peek(), 3);
     store_waker(&rt, &mut receiver, AnyWaker::Task(6));
     assert!(rt; matches!(begin_send(&rt, &mut sender, 7), AnyWaker::Task(6)));
     finish(&rt, &mut sender, 4, 1);
-    assert_same(&rt, receive(&rt, &mut receiver), 7);
+    assert_eq!(rt; receive(&rt, &mut receiver), 7);
     sender.let_go();
     receiver.let_go();
     Ok(())
@@ -66,7 +65,7 @@ fn an_overdue_receiver_gets_the_message(rt: HostRuntime) -> Result<(), Fail> {
     assert!(rt; matches!(begin_send(&rt, &mut sender, 7), AnyWaker::Thread(5)));
     stop_too_late(&rt, &mut receiver);
     finish(&rt, &mut sender, 4, 3);
-    assert_same(&rt, receive(&rt, &mut receiver), 7);
+    assert_eq!(rt; receive(&rt, &mut receiver), 7);
     sender.let_go();
     receiver.let_go();
     Ok(())
@@ -93,8 +92,8 @@ fn a_receiver_that_stops_over_the_message_gets_it(rt: HostRuntime) -> Result<(),
     store_waker(&rt, &mut receiver, AnyWaker::Thread(5));
     assert!(rt; matches!(begin_send(&rt, &mut sender, 7), AnyWaker::Thread(5)));
     finish(&rt, &mut sender, 4, 1);
-    assert_same(&rt, stop_over_the_message(&rt, &mut receiver), 7);
-    assert_same(&rt, receiver.peek(), 2);
+    assert_eq!(rt; stop_over_the_message(&rt, &mut receiver), 7);
+    assert_eq!(rt; receiver.peek(), 2);
     sender.let_go();
     receiver.let_go();
     Ok(())
@@ -108,7 +107,7 @@ fn a_receiver_that_stops_over_an_end_closes(rt: HostRuntime) -> Result<(), Fail>
     assert!(rt; matches!(begin_drop(&rt, &mut sender), AnyWaker::Thread(5)));
     finish(&rt, &mut sender, 2, 1);
     stop_over_the_end(&rt, &mut receiver);
-    assert_same(&rt, receiver.peek(), 2);
+    assert_eq!(rt; receiver.peek(), 2);
     sender.let_go();
     receiver.let_go();
     Ok(())
@@ -116,7 +115,7 @@ fn a_receiver_that_stops_over_an_end_closes(rt: HostRuntime) -> Result<(), Fail>
 
 fn look(rt: &impl Abort, receiver: &mut ReceiverSide<u8, u8, u8>)
     requires { receiver_at receiver.old.log ≡ first }
-    ensures at { receiver_at receiver.new.log ≡ here looked }
+    ensures at { receiver_at receiver.new.log ≡ idle after_load }
     ensures waker { receiver.new.waker ≡ vacant }
 {
     receiver.owns_its_slots();
@@ -125,7 +124,7 @@ fn look(rt: &impl Abort, receiver: &mut ReceiverSide<u8, u8, u8>)
 }
 
 fn store_waker(rt: &impl Abort, receiver: &mut ReceiverSide<u8, u8, u8>, waker: AnyWaker<u8, u8>)
-    requires at { receiver_at receiver.old.log ≡ here looked }
+    requires at { receiver_at receiver.old.log ≡ idle after_load }
     requires waker { receiver.old.waker ≡ vacant }
     ensures at { receiver_at receiver.new.log ≡ waits blocked }
     ensures loads { ReceiverCan receiver.new Load }
@@ -140,7 +139,7 @@ fn store_waker(rt: &impl Abort, receiver: &mut ReceiverSide<u8, u8, u8>, waker: 
 // Returns the receiver's waker.
 fn stop(rt: &impl Abort, receiver: &mut ReceiverSide<u8, u8, u8>) -> AnyWaker<u8, u8>
     requires { ReceiverCan receiver.old (Swap 3) }
-    ensures at { receiver_at receiver.new.log ≡ here looked }
+    ensures at { receiver_at receiver.new.log ≡ idle after_load }
     ensures waker { receiver.new.waker ≡ vacant }
 {
     let found = receiver.swap(3);
@@ -201,7 +200,7 @@ fn begin_drop(rt: &impl Abort, sender: &mut SenderSide<u8, u8, u8>) -> AnyWaker<
     ensures { SenderCan sender.new (Swap 2) }
 {
     sender.peek();
-    let found = sender.flip();
+    let found = sender.xor();
     assert!(rt; found == 0);
     sender.take_waker()
 }

@@ -14,19 +14,19 @@ same_value : {X : Type 0} {a b : X} → Some a ≡ Some b → a ≡ b
 same_value is = cc
 
 module _ {T : Type 0} where
-  told_with : List Entry → Bool → Option (Rest T) → TraceView T
-  told_with entries freed rest = record { entries = entries; block_freed = freed; rest = rest }
+  input_of : List Entry → Bool → Option (Rest T) → TraceView T
+  input_of entries freed rest = record { entries = entries; block_freed = freed; rest = rest }
 
-  told_parts : (t : TraceView T) → told_with t.entries t.block_freed t.rest ≡ t
-  unfolding told_with
+  told_parts : (t : TraceView T) → input_of t.entries t.block_freed t.rest ≡ t
+  unfolding input_of
   told_parts t = refl
 
   pub one_trace : (s : SenderScript T) (r : ReceiverScript) (moves : List Move) (t u : TraceView T)
       → IsReplayed s r moves t → IsReplayed s r moves u → t ≡ u
   one_trace s r moves t u a b =
       let same : (t.entries, a.worlds) ≡ (u.entries, b.worlds) =
-      same_value (sym (run_is 1 (opening s r) a.worlds moves t.entries a.tells) ∙ run_is 1 (opening s r) b.worlds moves
-      u.entries b.tells) in
+      same_value (sym (run_is 1 (opening s r) a.worlds moves t.entries a.is_run) ∙ run_is 1 (opening s r) b.worlds moves
+      u.entries b.is_run) in
       let entries : t.entries ≡ u.entries = ap (λ (x : List Entry × List World). x.0) same in
       let worlds : a.worlds ≡ b.worlds = ap (λ (x : List Entry × List World). x.1) same in
       let freed : t.block_freed ≡ u.block_freed =

@@ -9,7 +9,7 @@ use Rattle.oneshot_machine.specs.declared.machine.Step.{Step}
 use Rattle.oneshot_machine.specs.declared.machine.Step.TheVariants as T
 use Rattle.oneshot_world.specs.Scripts.{calls_of}
 use Rattle.oneshot_world.specs.Effects.{freed_by, place_left, move_of, sender_puts, receiver_puts, reply_of}
-use Rattle.oneshot_world.specs.World.{World, Tells_from, Tells, opening, opening_place, side_of, receiver_told}
+use Rattle.oneshot_world.specs.World.{World, IsRunFrom, IsRun, opening, opening_place, side_of, receiver_input}
 use Rattle.oneshot_world.specs.declared.script.Move.{Move}
 use Rattle.oneshot_world.specs.declared.script.ReceiverScript.{ReceiverScript}
 use Rattle.oneshot_world.specs.declared.script.SenderLast.{SenderLast}
@@ -49,7 +49,7 @@ freed_at freed _ = or_false freed
 -- the block is freed if an entry freed it
 abbrev FreedClaim : List Entry → Type 0
 FreedClaim entries =
-    (n : ℕ) (w : World) (worlds : List World) (moves : List Move) → Tells_from n w worlds moves entries
+    (n : ℕ) (w : World) (worlds : List World) (moves : List Move) → IsRunFrom n w worlds moves entries
     → (last_of w worlds).state.freed ≡ (w.state.freed || list_any (λ e. is_free e.step) (made_entries entries))
 
 freed_on : (freed : Bool) (step : Step) (later : Bool) (last : Bool) → last ≡ (freed_by freed step || later) → last
@@ -59,28 +59,28 @@ freed_on freed step later last h =
 
 freed_turn : (entries : List Entry) → FreedClaim entries
     → (n : ℕ) (side : End) (w : World) (entry : Entry) (next : World) (worlds : List World) (moves : List Move)
-    → Turned n w side entry next → Tells_from (n + 1) next worlds moves entries → (last_of next worlds).state.freed
+    → Turned n w side entry next → IsRunFrom (n + 1) next worlds moves entries → (last_of next worlds).state.freed
     ≡ (w.state.freed || list_any (λ e. is_free e.step) (made_entries (entry ∷ entries)))
-freed_turn entries later n _ w _ _ worlds moves (sender_idle at) told = later (n + 1) w worlds moves told
-freed_turn entries later n _ w _ _ worlds moves (receiver_idle at) told = later (n + 1) w worlds moves told
-freed_turn entries later n _ w _ _ worlds moves (sender_made position row at by) told =
+freed_turn entries later n _ w _ _ worlds moves (sender_idle at) is_run = later (n + 1) w worlds moves is_run
+freed_turn entries later n _ w _ _ worlds moves (receiver_idle at) is_run = later (n + 1) w worlds moves is_run
+freed_turn entries later n _ w _ _ worlds moves (sender_made position row at by) is_run =
     freed_on w.state.freed (sender_step position) _ _
-    (later (n + 1) (sender_world w (sender_step position) row) worlds moves told)
-freed_turn entries later n _ w _ _ worlds moves (receiver_made answer position row at by) told =
+    (later (n + 1) (sender_world w (sender_step position) row) worlds moves is_run)
+freed_turn entries later n _ w _ _ worlds moves (receiver_made answer position row at by) is_run =
     freed_on w.state.freed (receiver_step position) _ _
-    (later (n + 1) (receiver_world (receiver_told answer n w) w (receiver_step position) row) worlds moves told)
+    (later (n + 1) (receiver_world (receiver_input answer n w) w (receiver_step position) row) worlds moves is_run)
 
 freed_steps : (entries : List Entry) → FreedClaim entries
-freed_steps [] n w [] [] told = or_false w.state.freed
-freed_steps [] n w (next ∷ worlds) [] told = elim told [ ]
-freed_steps [] n w (next ∷ worlds) (move ∷ moves) told = elim told [ ]
-freed_steps [] n w [] (move ∷ moves) told = elim told [ ]
-freed_steps (entry ∷ entries) n w (next ∷ worlds) (move ∷ moves) told =
+freed_steps [] n w [] [] is_run = or_false w.state.freed
+freed_steps [] n w (next ∷ worlds) [] is_run = elim is_run [ ]
+freed_steps [] n w (next ∷ worlds) (move ∷ moves) is_run = elim is_run [ ]
+freed_steps [] n w [] (move ∷ moves) is_run = elim is_run [ ]
+freed_steps (entry ∷ entries) n w (next ∷ worlds) (move ∷ moves) is_run =
     freed_turn entries (freed_steps entries) n (side_of move) w entry next worlds moves
-    (turned n w move (entry, next) told.0) told.1
-freed_steps (entry ∷ entries) n w [] [] told = elim told [ ]
-freed_steps (entry ∷ entries) n w [] (move ∷ moves) told = elim told [ ]
-freed_steps (entry ∷ entries) n w (next ∷ worlds) [] told = elim told [ ]
+    (turned n w move (entry, next) is_run.0) is_run.1
+freed_steps (entry ∷ entries) n w [] [] is_run = elim is_run [ ]
+freed_steps (entry ∷ entries) n w [] (move ∷ moves) is_run = elim is_run [ ]
+freed_steps (entry ∷ entries) n w (next ∷ worlds) [] is_run = elim is_run [ ]
 
 freed_marks : (es : List Entry) (s r : Reading) (n : ℕ) (o : Object) → list_any (λ e. is_free e.step) (made_entries es)
     ≡ list_any frees (marks_from s r n o es)
@@ -89,10 +89,10 @@ freed_marks (Idle side ∷ es) s r n o = freed_marks es s r (n + 1) o
 freed_marks (Made_entry e ∷ es) s r n o = ap (λ later. is_free e.step || later) (freed_marks es _ _ _ _)
 
 pub freed_shown : {T : Type 0} (s : SenderScript T) (r : ReceiverScript) (worlds : List World) (moves : List Move)
-    (entries : List Entry) → Tells (opening s r) worlds moves entries → (last_of (opening s r) worlds).state.freed
+    (entries : List Entry) → IsRun (opening s r) worlds moves entries → (last_of (opening s r) worlds).state.freed
     ≡ is_freed (marks (calls_of s r) entries)
-freed_shown s r worlds moves entries told =
-    freed_steps entries 1 (opening s r) worlds moves told ∙ freed_marks entries _ _ 1 _
+freed_shown s r worlds moves entries is_run =
+    freed_steps entries 1 (opening s r) worlds moves is_run ∙ freed_marks entries _ _ 1 _
 
 -- the message's place, by the move that a step shows
 abbrev moved_to : Place → Option Place → Place
@@ -112,40 +112,40 @@ last_on place from (Some to) later is = rw is refl
 abbrev PlaceClaim : List Entry → Type 0
 PlaceClaim entries =
     (n : ℕ) (w : World) (from : Place) (worlds : List World) (moves : List Move) → w.state.message ≡ Some from
-    → Tells_from n w worlds moves entries → (last_of w worlds).state.message
+    → IsRunFrom n w worlds moves entries → (last_of w worlds).state.message
     ≡ Some (last_place from (message_moves entries))
 
 place_turn : (entries : List Entry) → PlaceClaim entries
     → (n : ℕ) (side : End) (w : World) (entry : Entry) (next : World) (from : Place) (worlds : List World)
     (moves : List Move) → Turned n w side entry next → w.state.message ≡ Some from
-    → Tells_from (n + 1) next worlds moves entries → (last_of next worlds).state.message
+    → IsRunFrom (n + 1) next worlds moves entries → (last_of next worlds).state.message
     ≡ Some (last_place from (message_moves (entry ∷ entries)))
-place_turn entries later n _ w _ _ from worlds moves (sender_idle at) is told =
-    later (n + 1) w from worlds moves is told
-place_turn entries later n _ w _ _ from worlds moves (receiver_idle at) is told =
-    later (n + 1) w from worlds moves is told
-place_turn entries later n _ w _ _ from worlds moves (sender_made position row at by) is told =
+place_turn entries later n _ w _ _ from worlds moves (sender_idle at) is is_run =
+    later (n + 1) w from worlds moves is is_run
+place_turn entries later n _ w _ _ from worlds moves (receiver_idle at) is is_run =
+    later (n + 1) w from worlds moves is is_run
+place_turn entries later n _ w _ _ from worlds moves (sender_made position row at by) is is_run =
     let to : Option Place = sender_puts (sender_step position) (reply_of row) in
     later (n + 1) (sender_world w (sender_step position) row) (moved_to from to) worlds moves
-    (moved_on w.state.message from to is) told
+    (moved_on w.state.message from to is) is_run
     ∙ ap (λ (place : Place). Some place) (last_on w.state.message from to (message_moves entries) is)
-place_turn entries later n _ w _ _ from worlds moves (receiver_made answer position row at by) is told =
+place_turn entries later n _ w _ _ from worlds moves (receiver_made answer position row at by) is is_run =
     let to : Option Place = receiver_puts (receiver_step position) in
-    later (n + 1) (receiver_world (receiver_told answer n w) w (receiver_step position) row) (moved_to from to) worlds
-    moves (moved_on w.state.message from to is) told
+    later (n + 1) (receiver_world (receiver_input answer n w) w (receiver_step position) row) (moved_to from to) worlds
+    moves (moved_on w.state.message from to is) is_run
     ∙ ap (λ (place : Place). Some place) (last_on w.state.message from to (message_moves entries) is)
 
 place_steps : (entries : List Entry) → PlaceClaim entries
-place_steps [] n w from [] [] is told = is
-place_steps [] n w from (next ∷ worlds) [] is told = elim told [ ]
-place_steps [] n w from (next ∷ worlds) (move ∷ moves) is told = elim told [ ]
-place_steps [] n w from [] (move ∷ moves) is told = elim told [ ]
-place_steps (entry ∷ entries) n w from (next ∷ worlds) (move ∷ moves) is told =
+place_steps [] n w from [] [] is is_run = is
+place_steps [] n w from (next ∷ worlds) [] is is_run = elim is_run [ ]
+place_steps [] n w from (next ∷ worlds) (move ∷ moves) is is_run = elim is_run [ ]
+place_steps [] n w from [] (move ∷ moves) is is_run = elim is_run [ ]
+place_steps (entry ∷ entries) n w from (next ∷ worlds) (move ∷ moves) is is_run =
     place_turn entries (place_steps entries) n (side_of move) w entry next from worlds moves
-    (turned n w move (entry, next) told.0) is told.1
-place_steps (entry ∷ entries) n w from [] [] is told = elim told [ ]
-place_steps (entry ∷ entries) n w from [] (move ∷ moves) is told = elim told [ ]
-place_steps (entry ∷ entries) n w from (next ∷ worlds) [] is told = elim told [ ]
+    (turned n w move (entry, next) is_run.0) is is_run.1
+place_steps (entry ∷ entries) n w from [] [] is is_run = elim is_run [ ]
+place_steps (entry ∷ entries) n w from [] (move ∷ moves) is is_run = elim is_run [ ]
+place_steps (entry ∷ entries) n w from (next ∷ worlds) [] is is_run = elim is_run [ ]
 
 no_rest : {T : Type 0} (place : Option Place) → rest_at {T = T} place None ≡ None
 no_rest None = refl
@@ -159,9 +159,9 @@ rest_shown_by SL.Drop place shown is = no_rest place
 rest_shown_by SL.Stop place shown is = no_rest place
 
 pub rest_shown : {T : Type 0} (s : SenderScript T) (r : ReceiverScript) (worlds : List World) (moves : List Move)
-    (entries : List Entry) → Tells (opening s r) worlds moves entries
+    (entries : List Entry) → IsRun (opening s r) worlds moves entries
     → rest_at (last_of (opening s r) worlds).state.message (message_of s.last)
     ≡ option_map (rest_of (last_message_place entries)) (message_of s.last)
-rest_shown s r worlds moves entries told =
+rest_shown s r worlds moves entries is_run =
     rest_shown_by s.last (last_of (opening s r) worlds).state.message (last_message_place entries)
-    (λ is. place_steps entries 1 (opening s r) NotSent worlds moves is told)
+    (λ is. place_steps entries 1 (opening s r) NotSent worlds moves is is_run)

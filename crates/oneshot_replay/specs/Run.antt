@@ -1,6 +1,6 @@
 -- A run that is stepped by hand: what it has reached, and how it goes on.
 use Rattle.std.specs.Prelude.{◌≡◌, List, [], ◌∷◌, ◌++◌, length}
-use Rattle.oneshot_world.specs.World.{World, opening, Tells}
+use Rattle.oneshot_world.specs.World.{World, opening, IsRun}
 use Rattle.oneshot_world.specs.declared.script.Move.{Move}
 use Rattle.oneshot_world.specs.declared.script.ReceiverScript.{ReceiverScript}
 use Rattle.oneshot_world.specs.declared.script.SenderScript.{SenderScript}
@@ -14,14 +14,14 @@ use Rattle.oneshot_replay.specs.TraceView.{TraceView, last_of}
 pub record HasRun {T : Type 0} (s : SenderScript T) (r : ReceiverScript) (moves : List Move) (entries : List Entry)
     (now : Scene T) : Type 0 where
   pub worlds : List World
-  pub tells : Tells (opening s r) worlds moves entries
+  pub is_run : IsRun (opening s r) worlds moves entries
   pub ends : last_of (opening s r) worlds ≡ now.world
   pub count : now.count ≡ length moves
   pub message : now.message ≡ message_of s.last
 
 -- the trace that ends here
-abbrev pub told_at : {T : Type 0} → List Entry → Scene T → TraceView T
-told_at entries now =
+abbrev pub trace_at : {T : Type 0} → List Entry → Scene T → TraceView T
+trace_at entries now =
     record {
       entries = entries;
       block_freed = now.world.state.freed;

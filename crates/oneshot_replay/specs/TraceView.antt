@@ -1,6 +1,6 @@
 -- What a contract sees of a trace: its entries, whether the block is freed, and the message's rest.
 use Rattle.std.specs.Prelude.{◌≡◌, Bool, List, [], ◌∷◌, Option}
-use Rattle.oneshot_world.specs.World.{World, opening, Tells}
+use Rattle.oneshot_world.specs.World.{World, opening, IsRun}
 use Rattle.oneshot_world.specs.declared.script.Move.{Move}
 use Rattle.oneshot_world.specs.declared.script.ReceiverScript.{ReceiverScript}
 use Rattle.oneshot_world.specs.declared.script.SenderScript.{SenderScript}
@@ -24,7 +24,7 @@ last_of w (next ∷ worlds) = last_of next worlds
 pub record IsReplayed {T : Type 0} (s : SenderScript T) (r : ReceiverScript) (moves : List Move) (t : TraceView T)
     : Type 0 where
   pub worlds : List World
-  pub tells : Tells (opening s r) worlds moves t.entries
+  pub is_run : IsRun (opening s r) worlds moves t.entries
   pub block_freed : t.block_freed ≡ (last_of (opening s r) worlds).state.freed
   pub rest : t.rest ≡ rest_at (last_of (opening s r) worlds).state.message (message_of s.last)
 

@@ -1,4 +1,7 @@
 //! Runs of the model: both ends' scripts under a schedule, move by move, and the trace of what they did.
+//!
+//! `replayer.rt` makes a run move by move, and `run.rt` goes through a whole schedule. The record of what every run
+//! keeps is `specs/Right.antt`.
 #![tactic(auto)]
 
 pub mod laws;

@@ -14,7 +14,7 @@ use std::marker::Model;
 ///
 /// It may be sent to another thread if `Q` and `A` are `Send`.
 ///
-/// In contracts a request is its sender's value (`SenderEndOf`), whose `about` has the question.
+/// In contracts a request is its sender's value (`SenderView`), whose `about` has the question.
 #[derive(Drop)]
 pub struct Request<Q: Eq, A: Answer<Q>> {
     asked: Asked<Q>,
@@ -23,10 +23,10 @@ pub struct Request<Q: Eq, A: Answer<Q>> {
 
 impl<Q: Eq, A: Answer<Q>> Model for Request<Q, A> {
     ghost use Rattle.std.specs.Prelude.{◌≡◌};
-    ghost use Rattle.oneshot_ends.specs.Ends.{SenderEndOf};
+    ghost use Rattle.oneshot_ends.specs.Ends.{SenderView};
     ghost use Rattle.oneshot_reply.specs.declared.asked.Asked.{Asked};
 
-    ghost Value = { SenderEndOf (Asked Q) };
+    ghost Value = { SenderView (Asked Q) };
 
     ghost view = { λ r. r.reply };
 

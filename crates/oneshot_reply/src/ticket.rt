@@ -27,17 +27,17 @@ use std::time::{Clock, Duration};
 ///
 /// It may be sent to another thread if `Q`, `A` and `Rt` are `Send`. Two threads cannot share it.
 ///
-/// In contracts a ticket is its receiver's value (`EndOf`), whose `about` has the question.
+/// In contracts a ticket is its receiver's value (`ReceiverView`), whose `about` has the question.
 #[derive(Drop)]
 pub struct Ticket<Q: Eq, A: Answer<Q>, Rt> {
     pub(crate) replies: Receiver<A, Rt, Asked<Q>>,
 }
 
 impl<Q: Eq, A: Answer<Q>, Rt> Model for Ticket<Q, A, Rt> {
-    ghost use Rattle.oneshot_ends.specs.Ends.{EndOf};
+    ghost use Rattle.oneshot_ends.specs.Ends.{ReceiverView};
     ghost use Rattle.oneshot_reply.specs.declared.asked.Asked.{Asked};
 
-    ghost Value = { EndOf A (Asked Q) };
+    ghost Value = { ReceiverView A (Asked Q) };
 
     ghost view = { λ t. t.replies };
 }

@@ -1,8 +1,12 @@
 //! Tests of the channel and of requests, by their public names, on one thread and on two.
+//!
+//! `ends/lives.rt` has lives of a channel on one thread, as tables of steps: a new case of what a call returns goes
+//! there. `ends/beside.rt` has each receive beside the sender's act on another thread. The other files of `ends/` test
+//! one thing each, such as time (`clocks.rt`, `deadlines.rt`, `asleep.rt`), wakes (`polls.rt`, `wakes.rt`) and memory
+//! (`leaks.rt`). `reply/` tests requests, and `watches/` guards.
 #![tactic(auto)]
 
 #[cfg(test)]
-mod asserts;
 #[cfg(test)]
 mod ends;
 #[cfg(test)]

@@ -4,7 +4,6 @@ mod sizes;
 mod threads;
 mod waits;
 
-use crate::asserts::{assert_same, assert_that};
 use futures::executor::block_on;
 use oneshot_channel::reply::{Answer, Length, Request, Ticket, request};
 use oneshot_channel::{RecvError, RecvTimeoutError, TryRecvError};
@@ -41,17 +40,16 @@ pub(crate) fn bytes_of(length: Length) -> usize {
 #[test]
 fn a_reply_is_taken_once(rt: HostRuntime) -> Result<(), Fail> {
     let (request, mut ticket) = ask((), rt.alloc())?;
-    assert_same(&rt, request.question().as_str(), TEXT);
-    assert_that(&rt, !request.is_cancelled() && !ticket.is_closed());
-    assert_that(&rt, answer(request)?.is_ok());
-    assert_that(&rt, !ticket.is_closed());
-    assert_same(&rt, ticket.try_take().map(bytes_of), Ok(21));
-    assert_same(
-        &rt,
+    assert_eq!(rt; request.question().as_str(), TEXT);
+    assert!(rt; !request.is_cancelled() && !ticket.is_closed());
+    assert!(rt; answer(request)?.is_ok());
+    assert!(rt; !ticket.is_closed());
+    assert_eq!(rt; ticket.try_take().map(bytes_of), Ok(21));
+    assert_eq!(rt;
         ticket.try_take().map(bytes_of),
-        Err(TryRecvError::Disconnected),
+        Err(TryRecvError::Disconnected)
     );
-    assert_that(&rt, ticket.is_closed());
+    assert!(rt; ticket.is_closed());
     Ok(())
 }
 
@@ -59,12 +57,12 @@ fn a_reply_is_taken_once(rt: HostRuntime) -> Result<(), Fail> {
 fn an_answer_without_a_ticket_gives_the_reply_back(rt: HostRuntime) -> Result<(), Fail> {
     let (request, ticket) = ask((), rt.alloc())?;
     drop(ticket);
-    assert_that(&rt, request.is_cancelled());
+    assert!(rt; request.is_cancelled());
     let Err(length) = answer(request)? else {
         return Err(Fail::new("an answer without a ticket"));
     };
-    assert_same(&rt, length.bytes(), 21);
-    assert_same(&rt, length.question().as_str(), TEXT);
+    assert_eq!(rt; length.bytes(), 21);
+    assert_eq!(rt; length.question().as_str(), TEXT);
     Ok(())
 }
 
@@ -72,32 +70,26 @@ fn an_answer_without_a_ticket_gives_the_reply_back(rt: HostRuntime) -> Result<()
 fn a_dropped_request_has_no_reply(rt: HostRuntime) -> Result<(), Fail> {
     let (request, ticket) = ask(&rt, rt.alloc())?;
     drop(request);
-    assert_that(&rt, ticket.is_closed());
-    assert_same(&rt, ticket.wait().map(bytes_of), Err(RecvError));
+    assert!(rt; ticket.is_closed());
+    assert_eq!(rt; ticket.wait().map(bytes_of), Err(RecvError));
     Ok(())
 }
 
 #[test]
 fn a_request_that_is_there_has_no_reply_yet(rt: HostRuntime) -> Result<(), Fail> {
     let (request, mut ticket) = ask(&rt, rt.alloc())?;
-    assert_same(
-        &rt,
-        ticket.try_take().map(bytes_of),
-        Err(TryRecvError::Empty),
-    );
+    assert_eq!(rt; ticket.try_take().map(bytes_of), Err(TryRecvError::Empty));
     let moment = Duration::from_millis(1);
-    assert_same(
-        &rt,
+    assert_eq!(rt;
         ticket.wait_for(moment).map(bytes_of),
-        Err(RecvTimeoutError::Timeout),
+        Err(RecvTimeoutError::Timeout)
     );
-    assert_that(&rt, !request.is_cancelled());
-    assert_that(&rt, answer(request)?.is_ok());
-    assert_same(&rt, ticket.wait_for(moment).map(bytes_of), Ok(21));
-    assert_same(
-        &rt,
+    assert!(rt; !request.is_cancelled());
+    assert!(rt; answer(request)?.is_ok());
+    assert_eq!(rt; ticket.wait_for(moment).map(bytes_of), Ok(21));
+    assert_eq!(rt;
         ticket.wait_for(moment).map(bytes_of),
-        Err(RecvTimeoutError::Disconnected),
+        Err(RecvTimeoutError::Disconnected)
     );
     Ok(())
 }
@@ -105,31 +97,25 @@ fn a_request_that_is_there_has_no_reply_yet(rt: HostRuntime) -> Result<(), Fail>
 #[test]
 fn a_reply_is_waited_for(rt: HostRuntime) -> Result<(), Fail> {
     let (request, ticket) = ask(&rt, rt.alloc())?;
-    assert_that(&rt, answer(request)?.is_ok());
-    assert_same(&rt, ticket.wait().map(bytes_of), Ok(21));
+    assert!(rt; answer(request)?.is_ok());
+    assert_eq!(rt; ticket.wait().map(bytes_of), Ok(21));
     Ok(())
 }
 
 #[test]
 fn a_reply_is_awaited(rt: HostRuntime) -> Result<(), Fail> {
     let (request, ticket) = ask((), rt.alloc())?;
-    assert_that(&rt, answer(request)?.is_ok());
+    assert!(rt; answer(request)?.is_ok());
     let awaited = block_on(&rt, ticket.into_future())?;
-    assert_same(&rt, awaited.map(bytes_of), Ok(21));
+    assert_eq!(rt; awaited.map(bytes_of), Ok(21));
     Ok(())
 }
 
 #[test]
 fn a_reply_to_another_text_does_not_fit(rt: HostRuntime) -> Result<(), Fail> {
     let (request, _) = ask((), rt.alloc())?;
-    assert_that(
-        &rt,
-        request.fits(&Length::of(String::from_str(rt.alloc(), TEXT)?)),
-    );
+    assert!(rt; request.fits(&Length::of(String::from_str(rt.alloc(), TEXT)?)));
     let other = "data from sync threads";
-    assert_that(
-        &rt,
-        !request.fits(&Length::of(String::from_str(rt.alloc(), other)?)),
-    );
+    assert!(rt; !request.fits(&Length::of(String::from_str(rt.alloc(), other)?)));
     Ok(())
 }

@@ -4,7 +4,6 @@ mod cancelled;
 mod order;
 mod waits;
 
-use crate::asserts::{assert_same, assert_that};
 use futures::executor::block_on;
 use futures::future::{Either, ready, select};
 use futures::task::Poll;
@@ -20,11 +19,11 @@ const MOMENT: u64 = 20;
 #[test]
 fn a_look_sees_whether_the_guard_is_gone(rt: HostRuntime) -> Result<(), Fail> {
     let (guard, mut watch) = watch((), rt.alloc())?;
-    assert_that(&rt, !watch.is_gone());
-    assert_that(&rt, !watch.is_gone());
+    assert!(rt; !watch.is_gone());
+    assert!(rt; !watch.is_gone());
     drop(guard);
-    assert_that(&rt, watch.is_gone());
-    assert_that(&rt, watch.is_gone());
+    assert!(rt; watch.is_gone());
+    assert!(rt; watch.is_gone());
     Ok(())
 }
 
@@ -32,9 +31,9 @@ fn a_look_sees_whether_the_guard_is_gone(rt: HostRuntime) -> Result<(), Fail> {
 fn a_guard_goes_with_what_holds_it(rt: HostRuntime) -> Result<(), Fail> {
     let (guard, mut watch) = watch((), rt.alloc())?;
     let held = Some((guard, 7u8));
-    assert_that(&rt, !watch.is_gone());
+    assert!(rt; !watch.is_gone());
     drop(held);
-    assert_that(&rt, watch.is_gone());
+    assert!(rt; watch.is_gone());
     Ok(())
 }
 
@@ -43,14 +42,14 @@ fn a_polled_watch_is_woken_by_the_guards_drop_alone(rt: HostRuntime) -> Result<(
     let task = MockTask::new(&rt)?;
     let (guard, watch) = watch((), rt.alloc())?;
     let mut gone = watch.into_future();
-    assert_same(&rt, task.poll(&mut gone), Poll::Pending);
-    assert_that(&rt, !gone.is_gone());
-    assert_that(&rt, !task.is_woken());
+    assert_eq!(rt; task.poll(&mut gone), Poll::Pending);
+    assert!(rt; !gone.is_gone());
+    assert!(rt; !task.is_woken());
     drop(guard);
-    assert_that(&rt, task.is_woken());
-    assert_same(&rt, task.poll(&mut gone), Poll::Ready(()));
-    assert_same(&rt, task.poll(&mut gone), Poll::Ready(()));
-    assert_that(&rt, gone.is_gone());
+    assert!(rt; task.is_woken());
+    assert_eq!(rt; task.poll(&mut gone), Poll::Ready(()));
+    assert_eq!(rt; task.poll(&mut gone), Poll::Ready(()));
+    assert!(rt; gone.is_gone());
     Ok(())
 }
 
@@ -76,8 +75,8 @@ fn what_is_selected_beside_a_watch_comes_back(rt: HostRuntime) -> Result<(), Fai
     let Either::Right((number, mut gone)) = selected else {
         return Err(Fail::new("a guard that is there is gone"));
     };
-    assert_same(&rt, number, 7);
-    assert_that(&rt, !gone.is_gone());
+    assert_eq!(rt; number, 7);
+    assert!(rt; !gone.is_gone());
     drop(guard);
     let Either::Left(((), _)) = block_on(&rt, select(gone, ready(7u8)))? else {
         return Err(Fail::new("a guard that is gone is there"));

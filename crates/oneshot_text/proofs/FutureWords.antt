@@ -41,10 +41,10 @@ behind HasMessage xs ys is = cc
 behind IsClosed xs ys is = cc
 
 -- one more call
-pub written_more : (all left next : List (List ℕ)) (taken : List AsyncCall) (call : AsyncCall)
+pub future_written_more : (all left next : List (List ℕ)) (taken : List AsyncCall) (call : AsyncCall)
     → all ≡ words_of_future_calls taken ++ left → left ≡ words_of_future_call call ++ next
     → all ≡ words_of_future_calls (taken ++ call ∷ []) ++ next
-written_more all left next taken call all_is left_is =
+future_written_more all left next taken call all_is left_is =
     all_is
     ∙ ap (λ ws. words_of_future_calls taken ++ ws) (left_is ∙ sym (apart call [] next))
     ∙ sym (append_assoc (words_of_future_calls taken) (words_of_future_calls (call ∷ [])) next)

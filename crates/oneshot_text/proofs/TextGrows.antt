@@ -5,8 +5,8 @@ use Rattle.std.specs.Option.{option_and_then}
 use Rattle.std.specs.Io.KnownBytes.{Appends}
 use Rattle.std.proofs.lemmas.List.{append_assoc, append-nil}
 use Rattle.oneshot_world.specs.Calls.{first, as_receiver_call}
-use Rattle.oneshot_world.specs.World.{World, turn, Tells_from}
-use Rattle.oneshot_replay.proofs.Runs.{tells_as_many, tells_more, last_more}
+use Rattle.oneshot_world.specs.World.{World, turn, IsRunFrom}
+use Rattle.oneshot_replay.proofs.Runs.{run_has_as_many, run_extended, last_more}
 use Rattle.oneshot_replay.specs.Rest.{rest_at}
 use Rattle.oneshot_replay.specs.declared.rest.Rest.{Rest}
 use Rattle.oneshot_text.specs.RestText.{rest_text, block_text}
@@ -22,7 +22,7 @@ pub record IsTextTo (message : ℕ) (number : ℕ) (start : World) (moves : List
     0 where
   pub worlds : List World
   pub entries : List Entry
-  pub tells : Tells_from number start worlds moves entries
+  pub is_run : IsRunFrom number start worlds moves entries
   pub ends : last_of start worlds ≡ now
   pub written : text ≡ entries_text message number start worlds entries
 
@@ -31,20 +31,20 @@ line_at message number w entry =
     line (entry_text number (option_and_then as_receiver_call (first w.receiver.calls)) message entry)
 
 pub text_begins : (message number : ℕ) (start : World) → IsTextTo message number start [] [] start
-text_begins message number start = record { worlds = []; entries = []; tells = tt; ends = refl; written = refl }
+text_begins message number start = record { worlds = []; entries = []; is_run = tt; ends = refl; written = refl }
 
 entries_more : (message n : ℕ) (start : World) (worlds : List World) (moves : List Move) (entries : List Entry)
-    (entry : Entry) (next : World) → Tells_from n start worlds moves entries
+    (entry : Entry) (next : World) → IsRunFrom n start worlds moves entries
     → entries_text message n start (worlds ++ next ∷ []) (entries ++ entry ∷ [])
     ≡ entries_text message n start worlds entries ++ line_at message (n + length entries) (last_of start worlds) entry
-entries_more message n start [] [] [] entry next told =
+entries_more message n start [] [] [] entry next is_run =
     let here : n + 0 ≡ n = omega arith in rw here (append-nil (line_at message n start entry))
-entries_more message n start (w ∷ worlds) (m ∷ moves) (e ∷ entries) entry next told =
+entries_more message n start (w ∷ worlds) (m ∷ moves) (e ∷ entries) entry next is_run =
     let later : n + suc (length entries) ≡ (n + 1) + length entries = omega arith in
     rw later (ap (λ text. line_at message n start e ++ text)
-    (entries_more message (n + 1) w worlds moves entries entry next told.1)
+    (entries_more message (n + 1) w worlds moves entries entry next is_run.1)
     ∙ sym (append_assoc (line_at message n start e) (entries_text message (n + 1) w worlds entries) _))
-entries_more message n start _ _ _ entry next told = elim told [ ]
+entries_more message n start _ _ _ entry next is_run = elim is_run [ ]
 
 -- one more move, with its line
 pub text_grows : (message n : ℕ) (start : World) (moves : List Move) (text : List ℕ) (now : World) (move : Move)
@@ -53,16 +53,16 @@ pub text_grows : (message n : ℕ) (start : World) (moves : List Move) (text : L
     → IsTextTo message n start (moves ++ move ∷ []) (text ++ line_at message (n + length moves) now entry) next
 text_grows message n start moves text now move entry next so_far turned =
     let many : length so_far.entries ≡ length moves =
-    tells_as_many n start so_far.worlds moves so_far.entries so_far.tells in
+    run_has_as_many n start so_far.worlds moves so_far.entries so_far.is_run in
     record {
       worlds = so_far.worlds ++ next ∷ [];
       entries = so_far.entries ++ entry ∷ [];
-      tells = tells_more n start so_far.worlds moves so_far.entries move entry next so_far.tells
+      is_run = run_extended n start so_far.worlds moves so_far.entries move entry next so_far.is_run
           (rw (so_far.ends, many) turned);
       ends = last_more start so_far.worlds next;
       written =
           rw so_far.written (rw (← so_far.ends, ← many)
-          (sym (entries_more message n start so_far.worlds moves so_far.entries entry next so_far.tells)));
+          (sym (entries_more message n start so_far.worlds moves so_far.entries entry next so_far.is_run)));
     }
 
 -- the whole text
@@ -73,7 +73,7 @@ text_ends message n start moves text now so_far =
     record {
       worlds = so_far.worlds;
       entries = so_far.entries;
-      tells = so_far.tells;
+      is_run = so_far.is_run;
       written = rw (so_far.written, so_far.ends) refl;
     }
 

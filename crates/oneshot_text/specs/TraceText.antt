@@ -2,7 +2,7 @@
 use Rattle.std.specs.Prelude.{◌≡◌, ℕ, ◌+◌, List, [], ◌∷◌, ◌++◌, codes, Option, unwrap_or}
 use Rattle.std.specs.Option.{option_and_then}
 use Rattle.oneshot_world.specs.Calls.{first, as_receiver_call}
-use Rattle.oneshot_world.specs.World.{World, Tells_from}
+use Rattle.oneshot_world.specs.World.{World, IsRunFrom}
 use Rattle.oneshot_replay.specs.Rest.{rest_at}
 use Rattle.oneshot_replay.specs.TraceView.{last_of}
 use Rattle.oneshot_replay.specs.declared.Entry.{Entry}
@@ -37,5 +37,5 @@ end_text message w =
 pub record IsTextOf (message : Option ℕ) (number : ℕ) (w : World) (moves : List Move) (text : List ℕ) : Type 0 where
   pub worlds : List World
   pub entries : List Entry
-  pub tells : Tells_from number w worlds moves entries
+  pub is_run : IsRunFrom number w worlds moves entries
   pub written : text ≡ entries_text (unwrap_or message 0) number w worlds entries ++ end_text message (last_of w worlds)

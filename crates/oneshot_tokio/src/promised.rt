@@ -33,7 +33,7 @@ pub fn index_within<R: Wait + Clock + RandomSource + AllocGlobal, Rt: Drop>(
     limit: Duration,
     index: AsyncReceiver<usize, Rt, Below>,
 ) -> io::Result<Result<usize, RecvTimeoutError>>
-    ensures kept { IfOk result (λ came. IfOk came (λ i. i < index.about.0)) }
+    ensures promise { IfOk result (λ came. IfOk came (λ i. i < index.about.0)) }
 {
     block_on(rt, recv_within(rt, time, limit, index)?)
 }

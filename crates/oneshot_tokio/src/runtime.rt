@@ -46,7 +46,7 @@ pub fn index_within<R, Rt>(
 where
     R: Wait + Threads + Clock + RandomSource + AllocGlobal + Sync,
     Rt: Drop,
-    ensures kept { IfOk result (λ came. IfOk came (λ i. i < index.about.0)) }
+    ensures promise { IfOk result (λ came. IfOk came (λ i. i < index.about.0)) }
 {
     let index = recv_within(rt, runtime.handle().time(), limit, index)?;
     runtime.block_on(rt, index)

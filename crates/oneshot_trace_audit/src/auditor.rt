@@ -40,9 +40,9 @@ pub(crate) struct DrawnTrace {
 }
 
 /// Accepts the trace of these scripts. `Err`: what is wrong, and the first entry that shows it.
-pub(crate) fn audit(scripts: &Scripts, told: &DrawnTrace) -> Result<(), Finding> {
+pub(crate) fn audit(scripts: &Scripts, trace: &DrawnTrace) -> Result<(), Finding> {
     let mut auditor = Auditor::new(scripts);
-    let entries = told.entries.as_slice();
+    let entries = trace.entries.as_slice();
     for before in 0..entries.len() {
         let number = before + 1;
         let earlier = &entries[..before];
@@ -55,7 +55,7 @@ pub(crate) fn audit(scripts: &Scripts, told: &DrawnTrace) -> Result<(), Finding>
             return Err((number, fault));
         }
     }
-    match auditor.read_end(told) {
+    match auditor.read_end(trace) {
         Ok(()) => Ok(()),
         Err(fault) => Err((entries.len(), fault)),
     }
@@ -114,13 +114,13 @@ impl Auditor {
     }
 
     /// Checks what must hold after the last entry.
-    fn read_end(&self, told: &DrawnTrace) -> Result<(), Fault> {
+    fn read_end(&self, trace: &DrawnTrace) -> Result<(), Fault> {
         if self.history.have_all_ended() {
             self.message.read_end()?;
-            wakers::read_end(told.entries.as_slice())?;
+            wakers::read_end(trace.entries.as_slice())?;
             self.holders.read_end()?;
         }
-        self.holders.read_told(told.block_freed)?;
-        self.message.read_told(told.rest)
+        self.holders.read_told(trace.block_freed)?;
+        self.message.read_told(trace.rest)
     }
 }

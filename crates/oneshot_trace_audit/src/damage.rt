@@ -46,24 +46,24 @@ pub(crate) enum Edit {
 /// Applies a change to a trace. Panics if the trace has no entry that it names.
 pub(crate) fn apply(
     rt: &impl Abort,
-    told: &mut DrawnTrace,
+    trace: &mut DrawnTrace,
     change: Edit,
 ) -> Result<(), AllocError> {
     match change {
         Edit::Remove(number) => {
-            let _ = remove(rt, told, number);
+            let _ = remove(rt, trace, number);
         }
         Edit::Double(number) => {
-            let entry = entry_of(rt, told, number);
-            insert(rt, told, number, entry)?;
+            let entry = entry_of(rt, trace, number);
+            insert(rt, trace, number, entry)?;
         }
         Edit::MoveBefore(from, number) => {
-            let entry = remove(rt, told, from);
-            insert(rt, told, number, entry)?;
+            let entry = remove(rt, trace, from);
+            insert(rt, trace, number, entry)?;
         }
-        Edit::Idle(number, end) => replace(rt, told, number, Entry::Idle(end)),
-        Edit::BlockFreed(block_freed) => told.block_freed = block_freed,
-        Edit::Rest(rest) => told.rest = rest,
+        Edit::Idle(number, end) => replace(rt, trace, number, Entry::Idle(end)),
+        Edit::BlockFreed(block_freed) => trace.block_freed = block_freed,
+        Edit::Rest(rest) => trace.rest = rest,
         Edit::Side(number, _)
         | Edit::Step(number, _)
         | Edit::Seen(number, _)
@@ -73,8 +73,8 @@ pub(crate) fn apply(
         | Edit::Token(number, _)
         | Edit::Own(number, _)
         | Edit::Reply(number, _) => {
-            let made = step_of(rt, told, number);
-            replace(rt, told, number, Entry::Made(changed(made, change)));
+            let made = step_of(rt, trace, number);
+            replace(rt, trace, number, Entry::Made(changed(made, change)));
         }
     }
     Ok(())
@@ -99,45 +99,45 @@ fn changed(made: Made, change: Edit) -> Made {
     }
 }
 
-fn entry_of(rt: &impl Abort, told: &DrawnTrace, number: usize) -> Entry {
-    let at = index_of(rt, told, number);
-    told.entries[at]
+fn entry_of(rt: &impl Abort, trace: &DrawnTrace, number: usize) -> Entry {
+    let at = index_of(rt, trace, number);
+    trace.entries[at]
 }
 
-fn step_of(rt: &impl Abort, told: &DrawnTrace, number: usize) -> Made {
-    match entry_of(rt, told, number) {
+fn step_of(rt: &impl Abort, trace: &DrawnTrace, number: usize) -> Made {
+    match entry_of(rt, trace, number) {
         Entry::Made(made) => made,
         Entry::Idle(end) => panic!(rt; "entry {number}: {end:?} is idle"),
     }
 }
 
-fn remove(rt: &impl Abort, told: &mut DrawnTrace, number: usize) -> Entry {
-    let at = index_of(rt, told, number);
-    told.entries.remove(at)
+fn remove(rt: &impl Abort, trace: &mut DrawnTrace, number: usize) -> Entry {
+    let at = index_of(rt, trace, number);
+    trace.entries.remove(at)
 }
 
 fn insert(
     rt: &impl Abort,
-    told: &mut DrawnTrace,
+    trace: &mut DrawnTrace,
     number: usize,
     entry: Entry,
 ) -> Result<(), AllocError> {
-    let at = index_of(rt, told, number);
-    told.entries.insert(at, entry)?;
+    let at = index_of(rt, trace, number);
+    trace.entries.insert(at, entry)?;
     Ok(())
 }
 
-fn replace(rt: &impl Abort, told: &mut DrawnTrace, number: usize, entry: Entry) {
-    let at = index_of(rt, told, number);
-    told.entries[at] = entry;
+fn replace(rt: &impl Abort, trace: &mut DrawnTrace, number: usize, entry: Entry) {
+    let at = index_of(rt, trace, number);
+    trace.entries[at] = entry;
 }
 
 /// Returns the index of an entry. Panics if there is none.
-fn index_of(rt: &impl Abort, told: &DrawnTrace, number: usize) -> usize
-    ensures { result < vec_len told.now.entries }
+fn index_of(rt: &impl Abort, trace: &DrawnTrace, number: usize) -> usize
+    ensures { result < vec_len trace.now.entries }
 {
     assert!(rt;
-        0 < number && number <= told.entries.len(),
+        0 < number && number <= trace.entries.len(),
         "no entry {number}"
     );
     number - 1

@@ -40,24 +40,24 @@ fn right_trace(
 }
 
 /// Damages the trace by these changes.
-fn damaged_by(rt: &impl Abort, mut told: DrawnTrace, edits: &[Edit]) -> Result<DrawnTrace, Fail> {
+fn damaged_by(rt: &impl Abort, mut trace: DrawnTrace, edits: &[Edit]) -> Result<DrawnTrace, Fail> {
     for change in edits {
-        apply(rt, &mut told, *change)?;
+        apply(rt, &mut trace, *change)?;
     }
-    Ok(told)
+    Ok(trace)
 }
 
 /// Asserts that the auditor accepts the trace, and finds this in it once it is damaged.
 fn assert_finds(
     rt: &impl Abort,
     scripts: &Scripts,
-    told: DrawnTrace,
+    trace: DrawnTrace,
     damage: &Damage,
 ) -> Result<(), Fail> {
     let (name, _, edits, finding) = damage;
-    assert!(rt; audit(scripts, &told).is_ok(), "{name}, undamaged");
-    let told = damaged_by(rt, told, edits)?;
-    assert_eq!(rt; audit(scripts, &told), Err(*finding), "{name}");
+    assert!(rt; audit(scripts, &trace).is_ok(), "{name}, undamaged");
+    let trace = damaged_by(rt, trace, edits)?;
+    assert_eq!(rt; audit(scripts, &trace), Err(*finding), "{name}");
     Ok(())
 }
 
@@ -66,8 +66,8 @@ fn assert_refused(rt: &(impl Abort + AllocGlobal), damaged: Damaged) -> Result<(
     let (sender, receiver, damages) = damaged;
     let scripts = scripts_of(rt.alloc(), sender, receiver)?;
     for damage in damages {
-        let told = right_trace(rt, sender, receiver, damage.1)?;
-        assert_finds(rt, &scripts, told, damage)?;
+        let trace = right_trace(rt, sender, receiver, damage.1)?;
+        assert_finds(rt, &scripts, trace, damage)?;
     }
     Ok(())
 }
@@ -95,9 +95,9 @@ fn find_in_a_damaged_trace(rt: &(impl Abort + AllocGlobal)) -> Result<(), Fail> 
     let (sender, receiver, damages) = NO_DAMAGE;
     let scripts = scripts_of(rt.alloc(), sender, receiver)?;
     for damage in damages {
-        let told = right_trace(rt, sender, receiver, damage.1)?;
-        let told = damaged_by(rt, told, &[Edit::Remove(5)])?;
-        assert_finds(rt, &scripts, told, damage)?;
+        let trace = right_trace(rt, sender, receiver, damage.1)?;
+        let trace = damaged_by(rt, trace, &[Edit::Remove(5)])?;
+        assert_finds(rt, &scripts, trace, damage)?;
     }
     Ok(())
 }
@@ -147,9 +147,9 @@ fn a_receiver_that_nothing_wakes(rt: HostRuntime) -> Result<(), Fail> {
 }
 
 /// The lines of a trace in which no receive returns a message.
-fn lines_of(alloc: Global, told: &DrawnTrace) -> Result<String, AllocError> {
+fn lines_of(alloc: Global, trace: &DrawnTrace) -> Result<String, AllocError> {
     let mut text = String::new(alloc);
-    for (number, entry) in (1usize..).zip(told.entries.as_slice()) {
+    for (number, entry) in (1usize..).zip(trace.entries.as_slice()) {
         let line = EntryLine {
             number,
             entry: *entry,
@@ -167,11 +167,11 @@ fn lines_of(alloc: Global, told: &DrawnTrace) -> Result<String, AllocError> {
 #[test]
 fn a_future_whose_drop_waits_for_its_sender(rt: HostRuntime) -> Result<(), Fail> {
     let scripts = scripts_of(rt.alloc(), Sending::Send, Receiving::PollDrop)?;
-    let told = waited::trace(rt.alloc())?;
-    assert_eq!(rt; lines_of(rt.alloc(), &told)?.as_str(), waited::LINES);
-    assert_eq!(rt; audit(&scripts, &told), Ok(()));
-    let told = damaged_by(&rt, told, &[Edit::MoveBefore(15, 11)])?;
+    let trace = waited::trace(rt.alloc())?;
+    assert_eq!(rt; lines_of(rt.alloc(), &trace)?.as_str(), waited::LINES);
+    assert_eq!(rt; audit(&scripts, &trace), Ok(()));
+    let trace = damaged_by(&rt, trace, &[Edit::MoveBefore(15, 11)])?;
     let freed = Fault::FreedTooEarly(End::Receiver);
-    assert_eq!(rt; audit(&scripts, &told), Err((11, freed)));
+    assert_eq!(rt; audit(&scripts, &trace), Err((11, freed)));
     Ok(())
 }

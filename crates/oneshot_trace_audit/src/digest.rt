@@ -28,15 +28,15 @@ impl Digest {
     }
 
     /// Adds a trace: each field of each entry, the block and the message's place.
-    pub(crate) fn add_trace(&mut self, told: &DrawnTrace) {
-        for entry in told.entries.as_slice() {
+    pub(crate) fn add_trace(&mut self, trace: &DrawnTrace) {
+        for entry in trace.entries.as_slice() {
             match entry {
                 Entry::Idle(end) => self.add_two(0, *end as u64),
                 Entry::Made(made) => self.add_made(made),
             }
         }
-        self.add(u64::from(told.block_freed));
-        if let Some((place, message)) = told.rest {
+        self.add(u64::from(trace.block_freed));
+        if let Some((place, message)) = trace.rest {
             self.add_two(place as u64, message);
         }
     }

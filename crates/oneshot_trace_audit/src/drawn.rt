@@ -38,11 +38,11 @@ impl Digests {
     ) -> Result<(), Fail> {
         let moves = schedule(seed);
         let played = scripts_of(rt.alloc(), sender, receiver)?;
-        let told = run(rt.alloc(), played, &moves)?;
-        if let Err(finding) = audit(scripts, &told) {
+        let trace = run(rt.alloc(), played, &moves)?;
+        if let Err(finding) = audit(scripts, &trace) {
             panic!(rt; "{sender:?} beside {receiver:?}, seed {seed}: {finding:?}");
         }
-        self.traces.add_trace(&told);
+        self.traces.add_trace(&trace);
         let played = scripts_of(rt.alloc(), sender, receiver)?;
         Ok(print_run(&mut self.texts, played, &moves)?)
     }

@@ -21,7 +21,7 @@ use Rattle.oneshot_machine.specs.Runs.{Run, last, more}
 use Rattle.oneshot_machine.specs.Slots.{head, tail}
 use Rattle.oneshot_word.proofs.ByRows.{sender_is, receiver_is}
 use Rattle.oneshot_word.proofs.LastOnes.{not_empty, same_start, same_last}
-use Rattle.oneshot_ends.specs.Ends.{Waking}
+use Rattle.oneshot_ends.specs.Ends.{UnnamedWaker}
 use Rattle.oneshot_machine.specs.TableRows.{is_same_seen}
 use Rattle.oneshot_machine.proofs.CallBounds.{try_recv_makes}
 use Rattle.oneshot_machine.proofs.FirstSteps.{tries_in_vain}
@@ -46,7 +46,7 @@ refused =
 
 pub worked_values : {T : Type 0} (m : T) → WorkedValues m
 worked_values {T} m =
-    let calls = (worked_calls {T = T} {W = Waking}).tries in
+    let calls = (worked_calls {T = T} {W = UnnamedWaker}).tries in
     record {
       tried = receiver_runs T as_receiver (Some m) tried_twice
           ((TryRecv, R.Empty) ∷ (TryRecv, R.Message) ∷ [], calls) ((Add, Word EMPTY) ∷ [], DISCONNECTED, tried) refl;
@@ -59,20 +59,20 @@ worked_values {T} m =
 record IsLast (T : Type 0) (calls : List (ReceiverStart × Reply)) (x : ReceiverStart × Reply) (log : List Noted)
     : Type 0 where
   before : List Noted
-  earlier : ReceiverCalled T Waking as_receiver calls before
-  run : List (Event T Waking)
+  earlier : ReceiverCalled T UnnamedWaker as_receiver calls before
+  run : List (Event T UnnamedWaker)
   made : Run receiver_step receiver_row (receiver_start x.0) run x.1
   leaves : log ≡ before ++ words run
 
 last_call : {T : Type 0} (calls : List (ReceiverStart × Reply)) (x : ReceiverStart × Reply)
-    {all : List (ReceiverStart × Reply)} {log : List Noted} → ReceiverCalled T Waking as_receiver all log
+    {all : List (ReceiverStart × Reply)} {log : List Noted} → ReceiverCalled T UnnamedWaker as_receiver all log
     → all ≡ calls ++ x ∷ [] → IsLast T calls x log
 last_call calls x not_called e = absurd (not_empty calls x (sym e))
 last_call {T} calls x (called {calls = earlier} {log = log} call reply run was its made) e =
     subst (λ x. IsLast T calls x (log ++ words run)) (same_last earlier calls (call, reply) x e)
     (record {
       before = log;
-      earlier = subst (λ calls. ReceiverCalled T Waking as_receiver calls log)
+      earlier = subst (λ calls. ReceiverCalled T UnnamedWaker as_receiver calls log)
           (same_start earlier calls (call, reply) x e) was;
       run = run;
       made = made;
@@ -80,7 +80,7 @@ last_call {T} calls x (called {calls = earlier} {log = log} call reply run was i
     })
 
 -- a `try_recv` begins with its load
-begins : {T : Type 0} (x : Event T Waking) (xs : List (Event T Waking)) → x.step ≡ Steps.Word Load
+begins : {T : Type 0} (x : Event T UnnamedWaker) (xs : List (Event T UnnamedWaker)) → x.step ≡ Steps.Word Load
     → words (x ∷ xs) ≡ (Load, x.seen) ∷ words xs
 begins x xs is = ap (λ step. cons_option (option_map (λ op. (op, x.seen)) (op_of step)) (words xs)) is
 
@@ -88,12 +88,13 @@ none_of_some : (ys : List Noted) (z : Noted) (zs : List Noted) → [] ≡ ys ++ 
 none_of_some [] z zs e = cc e
 none_of_some (y ∷ ys) z zs e = cc e
 
-no_operation : {T : Type 0} {run : List (Event T Waking)} {reply : Reply}
+no_operation : {T : Type 0} {run : List (Event T UnnamedWaker)} {reply : Reply}
     → Run receiver_step receiver_row (Try TryLoad) run reply → (ys : List Noted) → [] ≡ ys ++ words run → ⊥
 no_operation (last x is leads) ys e = none_of_some ys _ _ (e ∙ ap (λ ns. ys ++ ns) (begins x [] is))
 no_operation (more next x xs is leads rest) ys e = none_of_some ys _ _ (e ∙ ap (λ ns. ys ++ ns) (begins x xs is))
 
-takes_nothing : {T : Type 0} {run : List (Event T Waking)} → Run receiver_step receiver_row (Try TryLoad) run R.Message
+takes_nothing : {T : Type 0} {run : List (Event T UnnamedWaker)}
+    → Run receiver_step receiver_row (Try TryLoad) run R.Message
     → (before : List Noted) → (Load, Word EMPTY) ∷ [] ≡ before ++ words run → ⊥
 takes_nothing made [] e = tries_in_vain made e
 takes_nothing made (y ∷ ys) e = no_operation made ys (cc e)
@@ -118,7 +119,7 @@ wrong_values {T} m =
       finds_a_waker = λ so. let is : false ≡ true = receiver_is so.order in cc is;
       took_none = λ so.
           let is : 1 ≡ 0 = so.gets ((TryRecv, R.Empty) ∷ (TryRecv, R.Message) ∷ [])
-          ((worked_calls {T = T} {W = Waking}).tries) in cc is;
+          ((worked_calls {T = T} {W = UnnamedWaker}).tries) in cc is;
       took_unfound = λ so. let is : 0 ≡ 1 = so.gets [] not_called in cc is;
       got_two = λ e. cc e;
       got_before = got_before;

@@ -15,7 +15,7 @@ use Rattle.oneshot_laws.specs.Entries.{is_same_reply}
 use Rattle.oneshot_machine.specs.Noted.{Noted}
 use Rattle.oneshot_errors.specs.declared.try_recv.TryRecvError.{TryRecvError}
 use Rattle.oneshot_drive.specs.BetweenCalls.{try_recv_reply}
-use Rattle.oneshot_ends.specs.Ends.{Waking, ReceiverGrew, HasCalls, CallsAddUp, SenderIsOrdered, ReceiverIsOrdered}
+use Rattle.oneshot_ends.specs.Ends.{UnnamedWaker, ReceiverGrew, HasCalls, CallsAddUp, SenderIsOrdered, ReceiverIsOrdered}
 use Rattle.oneshot_bridge.specs.CallsRun.{in_script, receiver_answered}
 use Rattle.oneshot_bridge.specs.Gives.{gave_message}
 use Rattle.oneshot_bridge.specs.Walks.{Answered}
@@ -77,7 +77,7 @@ counted (suc n) b = sym (ap positive (more_is n (one_if b)))
 
 -- a log shows whether one of its calls returned the message
 shows : {T : Type 0} {form : Form} {calls : List (ReceiverStart × Reply)} {log : List Noted}
-    → ReceiverCalled T Waking form calls log → has_found log ≡ positive (message_replies calls)
+    → ReceiverCalled T UnnamedWaker form calls log → has_found log ≡ positive (message_replies calls)
 unfolding positive
 shows not_called = refl
 shows (called {form} {calls} {log} call reply run was its made) =
@@ -90,7 +90,7 @@ shows (became_future {calls} was) =
     shows was ∙ ap positive (sym (messages_more calls (RC.IntoFuture, R.Future) ∙ omega arith))
 
 pub shows_none : {T : Type 0} {form : Form} {calls : List (ReceiverStart × Reply)} {log : List Noted}
-    → ReceiverCalled T Waking form calls log → message_replies calls ≡ 0 → has_found log ≡ false
+    → ReceiverCalled T UnnamedWaker form calls log → message_replies calls ≡ 0 → has_found log ≡ false
 unfolding positive
 shows_none was none = shows was ∙ ap positive none
 
@@ -116,11 +116,11 @@ receiver_runs T form took ys calls (xs, word, order) so =
       word = word;
       order = order;
       calls = calls;
-      runs = λ message calls was. calls_run T Waking message form calls xs ys word order was;
+      runs = λ message calls was. calls_run T UnnamedWaker message form calls xs ys word order was;
       gets = λ calls was.
-          gets_so took (message_replies calls) (λ m. one_call_gets T Waking m form calls xs ys word order was)
+          gets_so took (message_replies calls) (λ m. one_call_gets T UnnamedWaker m form calls xs ys word order was)
           (so ∙ shows was);
-      one_gets = λ message calls was. one_call_gets T Waking message form calls xs ys word order was;
+      one_gets = λ message calls was. one_call_gets T UnnamedWaker message form calls xs ys word order was;
     }
 
 pub error_runs : {T : Type 0} (message : T) (xs : List Noted) → SenderIsOrdered xs → ErrorRuns message xs

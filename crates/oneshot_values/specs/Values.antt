@@ -7,7 +7,7 @@ use Rattle.oneshot_machine.specs.declared.machine.receiver.ReceiverStart.TheVari
 use Rattle.oneshot_machine.specs.Called.{Form, as_receiver, ReceiverCalled}
 use Rattle.oneshot_machine.specs.Noted.{Noted}
 use Rattle.oneshot_machine.specs.Orders.{Reaches}
-use Rattle.oneshot_ends.specs.Ends.{Waking, HasCalls}
+use Rattle.oneshot_ends.specs.Ends.{UnnamedWaker, HasCalls}
 use Rattle.oneshot_bridge.specs.CallsRun.{RunsCalls, receiver_answered}
 use Rattle.oneshot_bridge.specs.Gives.{gave_message}
 use Rattle.oneshot_bridge.specs.Scripted.{IsOfARun}
@@ -30,20 +30,20 @@ pub record ReceiverRuns (T : Type 0) (form : Form) (took : Option T) (ys : List 
   pub calls : HasCalls T form ys
   -- whichever calls these were, and whichever message is sent: a run of the model has these logs and this word, and
   -- exactly these calls
-  pub runs : (message : T) (calls : List (ReceiverStart × Reply)) → ReceiverCalled T Waking form calls ys
+  pub runs : (message : T) (calls : List (ReceiverStart × Reply)) → ReceiverCalled T UnnamedWaker form calls ys
       → RunsCalls message calls xs ys word
   -- exactly one of them returned the message if the receiver took one, and otherwise none
-  pub gets : (calls : List (ReceiverStart × Reply)) → ReceiverCalled T Waking form calls ys
+  pub gets : (calls : List (ReceiverStart × Reply)) → ReceiverCalled T UnnamedWaker form calls ys
       → message_replies calls ≡ one_if (is_some took)
   -- at most one of them returned the message
-  pub one_gets : T → (calls : List (ReceiverStart × Reply)) → ReceiverCalled T Waking form calls ys
+  pub one_gets : T → (calls : List (ReceiverStart × Reply)) → ReceiverCalled T UnnamedWaker form calls ys
       → message_replies calls ≤ 1
 
 -- The log of a receiver whose last call is a `try_recv` that returned the message, and no call before it did.
 abbrev pub OnlyTheLastGot : (T : Type 0) → List Noted → Type 0
 OnlyTheLastGot T log =
     (calls : List (ReceiverStart × Reply))
-    × ReceiverCalled T Waking as_receiver (calls ++ (TryRecv, R.Message) ∷ []) log
+    × ReceiverCalled T UnnamedWaker as_receiver (calls ++ (TryRecv, R.Message) ∷ []) log
     × (message_replies calls ≡ 0)
 
 -- the message and the log of a refused `send`

@@ -20,7 +20,7 @@ use std::marker::Model;
 ///
 /// Dropping it never blocks, and drops `rt` too; the guard is not told. Nor does any other call of it block.
 ///
-/// In contracts it is its receiver's value (`FutureEndOf`): it is done exactly if a call has found its guard gone.
+/// In contracts it is its receiver's value (`FutureView`): it is done exactly if a call has found its guard gone.
 ///
 /// It may go to another thread between two polls if `Rt` is `Send`. Two threads cannot share it.
 #[derive(Drop)]
@@ -29,10 +29,10 @@ pub struct AsyncWatch<Rt> {
 }
 
 impl<Rt> Model for AsyncWatch<Rt> {
-    ghost use Rattle.oneshot_channel.specs.Ends.{FutureEndOf};
+    ghost use Rattle.oneshot_channel.specs.Ends.{FutureView};
     ghost use Rattle.oneshot_watch.specs.declared.never.Never.{Never};
 
-    ghost Value = { FutureEndOf Never Unit };
+    ghost Value = { FutureView Never Unit };
 
     ghost view = { λ w. w.receiver };
 }
@@ -75,9 +75,10 @@ impl<Rt: Drop> Future for AsyncWatch<Rt> {
 
     /// Polls once, for the task of `cx`. It never blocks and does not allocate.
     ///
-    /// - `Ready`: the guard is gone. A future that was ready returns this from then on.
+    /// - `Ready`: the guard is gone. A future that was ready returns this from then on (clause `stays_gone`).
     /// - `Pending`: the guard is there. The task is registered, and woken when the guard is dropped (clause
     ///   `woken`). If no copy of its waker could be made, or the guard's drop is under way, it is woken at once.
+    #[tactic(auto, using(crate::proofs::Gone::not_pending))]
     fn poll(&mut self, cx: &mut Context<'_>) -> Poll<()>
         ensures value { IfReady result (λ _. ⊤) }
         ensures again { OnPending result ⊤ }
@@ -91,6 +92,7 @@ impl<Rt: Drop> Future for AsyncWatch<Rt> {
         ensures gone_run { result ≢ Pending → ReceiverGrew Never C.Poll self.old.log self.new.log R.Disconnected }
         ensures there { result ≡ Pending → IsUnfinished self.new }
         ensures there_run { result ≡ Pending → ReceiverGrew Never C.Poll self.old.log self.new.log R.Pending }
+        ensures stays_gone { IsDone self.old → result ≡ Ready tt }
         ensures bounded { GrewWithin (receiver_bound C.Poll) self.old.log self.new.log }
     {
         match self.receiver.poll(cx) {

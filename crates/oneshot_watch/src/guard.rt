@@ -10,7 +10,7 @@ use std::marker::Model;
 ///
 /// The drop wakes a waiting watch. It never blocks and does not allocate.
 ///
-/// In contracts a guard is its sender's value (`SenderEndOf`).
+/// In contracts a guard is its sender's value (`SenderView`).
 ///
 /// It may be sent to another thread.
 #[derive(Drop)]
@@ -19,9 +19,9 @@ pub struct Guard {
 }
 
 impl Model for Guard {
-    ghost use Rattle.oneshot_channel.specs.Ends.{SenderEndOf};
+    ghost use Rattle.oneshot_channel.specs.Ends.{SenderView};
 
-    ghost Value = { SenderEndOf Unit };
+    ghost Value = { SenderView Unit };
 
     ghost view = { λ g. g.sender };
 }

@@ -30,7 +30,7 @@ use std::marker::Model;
 ///
 /// It may go to another thread between two polls if `Q`, `A` and `Rt` are `Send`. Two threads cannot share it.
 ///
-/// In contracts it is its receiver's value (`FutureEndOf`), whose `about` has the question.
+/// In contracts it is its receiver's value (`FutureView`), whose `about` has the question.
 pub struct CancellableReply<Q: Eq, A: Answer<Q>, Rt> {
     replies: AsyncReceiver<A, Rt, Asked<Q>>,
     guard: Guard,
@@ -38,9 +38,9 @@ pub struct CancellableReply<Q: Eq, A: Answer<Q>, Rt> {
 
 impl<Q: Eq, A: Answer<Q>, Rt> Model for CancellableReply<Q, A, Rt> {
     ghost use Rattle.oneshot_channel.specs.Asked.{Asked};
-    ghost use Rattle.oneshot_channel.specs.Ends.{FutureEndOf};
+    ghost use Rattle.oneshot_channel.specs.Ends.{FutureView};
 
-    ghost Value = { FutureEndOf A (Asked Q) };
+    ghost Value = { FutureView A (Asked Q) };
 
     ghost view = { λ r. r.replies };
 }
@@ -86,7 +86,7 @@ impl<Q: Eq, A: Answer<Q> + Drop, Rt: Drop> CancellableReply<Q, A, Rt> {
         ensures same_waker { result ≡ Err Tried.Empty → self.new.registered ≡ self.old.registered }
         ensures bounded { GrewWithin (receiver_bound C.AsyncTryRecv) self.old.log self.new.log }
         ensures about { self.new.about ≡ self.old.about }
-        ensures kept { IfOk result (λ reply. Q.eq (A.asked reply) self.old.about.question ≡ true) }
+        ensures promise { IfOk result (λ reply. Q.eq (A.asked reply) self.old.about.question ≡ true) }
         ensures took { Takes result self.old.took self.new.took }
     {
         self.replies.try_recv()

@@ -16,7 +16,7 @@ use std::marker::Model;
 ///
 /// It may be sent to another thread if `Q`, `A` and `Rt` are `Send`.
 ///
-/// In contracts it is its request's value (`SenderEndOf`), whose `about` has the question.
+/// In contracts it is its request's value (`SenderView`), whose `about` has the question.
 #[derive(Drop)]
 pub struct CancellableRequest<Q: Eq, A: Answer<Q>, Rt> {
     request: Request<Q, A>,
@@ -25,9 +25,9 @@ pub struct CancellableRequest<Q: Eq, A: Answer<Q>, Rt> {
 
 impl<Q: Eq, A: Answer<Q>, Rt> Model for CancellableRequest<Q, A, Rt> {
     ghost use Rattle.oneshot_channel.specs.Asked.{Asked};
-    ghost use Rattle.oneshot_channel.specs.Ends.{SenderEndOf};
+    ghost use Rattle.oneshot_channel.specs.Ends.{SenderView};
 
-    ghost Value = { SenderEndOf (Asked Q) };
+    ghost Value = { SenderView (Asked Q) };
 
     ghost view = { λ r. r.request };
 }

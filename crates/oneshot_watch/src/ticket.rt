@@ -27,7 +27,7 @@ use std::time::{Clock, Duration};
 ///
 /// It may be sent to another thread if `Q`, `A` and `Rt` are `Send`. Two threads cannot share it.
 ///
-/// In contracts it is its ticket's value (`EndOf`), whose `about` has the question.
+/// In contracts it is its ticket's value (`ReceiverView`), whose `about` has the question.
 pub struct CancellableTicket<Q: Eq, A: Answer<Q>, Rt> {
     ticket: Ticket<Q, A, Rt>,
     guard: Guard,
@@ -35,9 +35,9 @@ pub struct CancellableTicket<Q: Eq, A: Answer<Q>, Rt> {
 
 impl<Q: Eq, A: Answer<Q>, Rt> Model for CancellableTicket<Q, A, Rt> {
     ghost use Rattle.oneshot_channel.specs.Asked.{Asked};
-    ghost use Rattle.oneshot_channel.specs.Ends.{EndOf};
+    ghost use Rattle.oneshot_channel.specs.Ends.{ReceiverView};
 
-    ghost Value = { EndOf A (Asked Q) };
+    ghost Value = { ReceiverView A (Asked Q) };
 
     ghost view = { λ t. t.ticket };
 }

@@ -19,7 +19,8 @@ use std::time::{Clock, Duration, Instant};
 /// Once a call has found the guard gone, each later one finds the same. Dropping the watch never blocks, and
 /// drops `rt` too; the guard is not told.
 ///
-/// In contracts a watch is its receiver's value (`EndOf`): it is closed exactly if a call has found its guard gone.
+/// In contracts a watch is its receiver's value (`ReceiverView`): it is closed exactly if a call has found its guard
+/// gone.
 ///
 /// It may be sent to another thread if `Rt` is `Send`. Two threads cannot share it.
 #[derive(Drop)]
@@ -28,10 +29,10 @@ pub struct Watch<Rt> {
 }
 
 impl<Rt> Model for Watch<Rt> {
-    ghost use Rattle.oneshot_channel.specs.Ends.{EndOf};
+    ghost use Rattle.oneshot_channel.specs.Ends.{ReceiverView};
     ghost use Rattle.oneshot_watch.specs.declared.never.Never.{Never};
 
-    ghost Value = { EndOf Never Unit };
+    ghost Value = { ReceiverView Never Unit };
 
     ghost view = { λ w. w.receiver };
 }

@@ -5,7 +5,7 @@ use Rattle.oneshot_word.proofs.Names.{SenderAt, sender_moves, sender_owns, sende
 use Rattle.oneshot_word.proofs.Names.{message_home, waker_home}
 use Rattle.oneshot_word.proofs.WordsEqual.{is_bool, is_word, words_are}
 use Rattle.oneshot_word.proofs.FoundRow.{row_of}
-use Rattle.oneshot_word.proofs.SlotMoves.{is_owned, is_turn, is_act}
+use Rattle.oneshot_word.proofs.SlotMoves.{is_owned, is_change, is_act}
 use Rattle.oneshot_word.proofs.RuleImplies.{word_between, Is, is}
 
 -- the word that a step on the table leaves
@@ -68,11 +68,11 @@ module _ {At : Type 0} (e : OneEnd At) where
     abbrev pub leaves_word : Bool
     leaves_word = is_word (e.word after) (Some (stepped op word))
 
-    abbrev pub turns_message : Slots → Bool
-    turns_message slots = is_turn before.0 slots.0 (e.message after) (e.message at)
+    abbrev pub changes_message : Slots → Bool
+    changes_message slots = is_change before.0 slots.0 (e.message after) (e.message at)
 
-    abbrev pub turns_waker : Slots → Bool
-    turns_waker slots = is_turn before.1 slots.1 (e.waker after) (e.waker at)
+    abbrev pub changes_waker : Slots → Bool
+    changes_waker slots = is_change before.1 slots.1 (e.waker after) (e.waker at)
 
     abbrev pub has_act : Slots → Bool
     has_act slots = is_act e.front (is_owned before.0) (is_owned slots.0) (is_owned before.1) (is_owned slots.1)
@@ -80,7 +80,7 @@ module _ {At : Type 0} (e : OneEnd At) where
     abbrev pub is_right : Option Slots → Bool
     is_right None = false
     is_right (Some slots) =
-        leaves_word && turns_message slots && turns_waker slots && is_slots (e.owns after) slots && has_act slots
+        leaves_word && changes_message slots && changes_waker slots && is_slots (e.owns after) slots && has_act slots
 
   abbrev pub is_kept : At → Op → Slots → Option ℕ → Bool
   is_kept at op before None = true
@@ -99,15 +99,15 @@ module _ {At : Type 0} (e : OneEnd At) (at : At) (op : Op) (word : ℕ) where
     -- the test, part by part
     pub record Rightly (slots : Slots) : Type 0 where
       pub leaves : leaves_word e at op before word ≡ true
-      pub of_message : turns_message e at op before word slots ≡ true
-      pub of_waker : turns_waker e at op before word slots ≡ true
+      pub of_message : changes_message e at op before word slots ≡ true
+      pub of_waker : changes_waker e at op before word slots ≡ true
       pub owned : is_slots (e.owns (after e at op before word)) slots ≡ true
       pub acted : has_act e at op before word slots ≡ true
 
     pub rightly : (slots : Slots) → is_right e at op before word (Some slots) ≡ true → Rightly slots
     rightly slots fits =
-        let of_message = turns_message e at op before word slots in
-        let of_waker = turns_waker e at op before word slots in
+        let of_message = changes_message e at op before word slots in
+        let of_waker = changes_waker e at op before word slots in
         let owned = is_slots (e.owns (after e at op before word)) slots in
         let acted = has_act e at op before word slots in
         let leaves = leaves_word e at op before word in

@@ -3,8 +3,8 @@ use Rattle.std.proofs.Common.{◌≡◌, ℕ, Bool, true, false, Option, Some, N
 use Rattle.std.specs.Prelude.{is_some}
 use Rattle.oneshot_machine.specs.TableRows.{is_same_seen}
 use Rattle.oneshot_machine.proofs.EachPhase.{in_each_receiver_row}
-use Rattle.oneshot_word.proofs.Names.{sym, ap, ◌∙◌, subst, not, ◌||◌, saw, Word, In, Op, Row, Slots, Share, none, empty, filled, SenderAt, fresh, owes, finished, late, overtaken, no_sender}
-use Rattle.oneshot_word.proofs.Names.{sender_owns, ReceiverAt, receiver_moves, Held, away, vacant, held, SenderMay, may, Turns, stays_away, stays_vacant, stays_held, gives_room, gives_thing}
+use Rattle.oneshot_word.proofs.Names.{sym, ap, ◌∙◌, subst, not, ◌||◌, saw, Word, In, Op, Row, Slots, Share, none, empty, filled, SenderAt, fresh, owes, finished, found_gone, overtaken, no_sender}
+use Rattle.oneshot_word.proofs.Names.{sender_owns, ReceiverAt, receiver_moves, Held, away, vacant, held, SenderMay, may, SlotChange, stays_away, stays_vacant, stays_held, gives_room, gives_thing}
 use Rattle.oneshot_word.proofs.Names.{gets_room, gets_thing, AnyWaker, Slot, Message, Home, message_home, Lies, lies_out, lies_bare, lies_filled, IsGiven, IsTaken, took_none, took_it, Carried, Front}
 use Rattle.oneshot_word.proofs.Names.{slot_vacant, slot_held, not_carried, carried, SeatOf, seat_of, GivesOnce, has_given, gave_none, HoldsTaken, holds_no_slot, holds_none, holds_it, gave, took}
 use Rattle.oneshot_word.proofs.Names.{MESSAGE}
@@ -46,7 +46,7 @@ module _ {T H K : Type 0} where
   gave_no (owes by) asks (seat_of (carried slot_vacant) waker) gave_none = refl
   gave_no (owes by) asks (seat_of (carried (slot_held x k)) waker) gave_none = refl
   gave_no (finished by) (may row _ _) seat once = elim row [ ]
-  gave_no (late by) (may row _ _) seat once = elim row [ ]
+  gave_no (found_gone by) (may row _ _) seat once = elim row [ ]
   gave_no (overtaken by) (may row _ _) seat once = elim row [ ]
   gave_no no_sender (may row _ _) seat once = elim row [ ]
 
@@ -60,7 +60,7 @@ module _ {T H K : Type 0} where
   gave_what_lies keeps q fresh r m seat lies_out = lies_out
   gave_what_lies keeps q (owes by) r m seat lies_out = lies_out
   gave_what_lies keeps q (finished by) r m (seat_of not_carried waker) lies = lies
-  gave_what_lies keeps q (late by) r m seat lies_out = lies_out
+  gave_what_lies keeps q (found_gone by) r m seat lies_out = lies_out
   gave_what_lies keeps q (overtaken by) r m seat lies_out = lies_out
   gave_what_lies keeps q no_sender r m seat lies = elim seat [ ]
 
@@ -125,7 +125,7 @@ module _ {T : Type 0} where
   holds_given (holds_it m) (took_it _ same) is = same ∙ ap Some (cc is)
 
   -- what the receiver has taken after an operation, and its slot, which it does not give up
-  pub holds_taken : {s s' : Share} {m m' : Held T} {taken : Option T} → Turns s s' m m' → is_kept_slot s s' ≡ true
+  pub holds_taken : {s s' : Share} {m m' : Held T} {taken : Option T} → SlotChange s s' m m' → is_kept_slot s s' ≡ true
       → HoldsTaken taken m → HoldsTaken (took m m' taken) m'
   holds_taken stays_away kept holds = holds
   holds_taken stays_vacant kept holds = holds_none
@@ -136,19 +136,20 @@ module _ {T : Type 0} where
   holds_taken (gets_thing x) kept holds = holds_it x
 
   -- a receiver without the slot has taken none, so a message that it took stays the one
-  pub stays_taken : {s s' : Share} {m m' : Held T} {taken : Option T} → Turns s s' m m' → HoldsTaken taken m → (x : T)
+  pub stays_taken : {s s' : Share} {m m' : Held T} {taken : Option T} → SlotChange s s' m m' → HoldsTaken taken m
+      → (x : T)
       → taken ≡ Some x → took m m' taken ≡ Some x
   stays_taken (gets_thing y) holds_no_slot x is = absurd (cc is)
   stays_taken _ holds x is = is
 
-  pub takes_as_found : {s s' : Share} {m m' : Held T} {taken : Option T} (found : Bool) → Turns s s' m m'
+  pub takes_as_found : {s s' : Share} {m m' : Held T} {taken : Option T} (found : Bool) → SlotChange s s' m m'
       → is_found_so s s' found ≡ true → HoldsTaken taken m → is_some (took m m' taken) ≡ (is_some taken || found)
   takes_as_found found (stays_held x) so (holds_it _) = refl
   takes_as_found found (gets_thing x) so holds_no_slot = sym so
   takes_as_found {taken} found _ so holds = unfound (is_some taken) found so
 
   -- it is the one given, if a message that the receiver gets is
-  pub takes_given : {s s' : Share} {m m' : Held T} {given taken : Option T} → Turns s s' m m' → IsTaken given taken
+  pub takes_given : {s s' : Share} {m m' : Held T} {given taken : Option T} → SlotChange s s' m m' → IsTaken given taken
       → ((x : T) → m' ≡ held x → given ≡ Some x) → IsTaken given (took m m' taken)
   takes_given (gets_thing x) same gets = took_it x (gets x refl)
   takes_given _ same gets = same

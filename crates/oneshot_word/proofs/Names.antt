@@ -9,10 +9,11 @@ pub use Rattle.oneshot_machine.proofs.GrownLogs.{phase_from-snoc}
 pub use Rattle.oneshot_machine.proofs.Sameness.{each_passes, is_same_share, ops_are_same, shares_are_same, same_sight, Passing}
 pub use Rattle.oneshot_machine.specs.Noted.{Noted, saw, is_same_op}
 pub use Rattle.oneshot_machine.specs.Orders.{has_row, Reaches, nothing_made, sender_makes, receiver_makes, HasRow, InOrder, none_made, by_sender, by_receiver}
-pub use Rattle.oneshot_machine.specs.Phases.{By, sending, dropping, SenderAt, fresh, owes, finished, late, overtaken, swapped, found_closed, closed_itself, ReceiverAt, first, here, claimed, withdrew}
+pub use Rattle.oneshot_machine.specs.Phases.{By, sending, dropping, SenderAt, fresh, owes, finished, found_gone, overtaken, swapped, found_closed, closed_itself, ReceiverAt, first}
+pub use Rattle.oneshot_machine.specs.Phases.{idle, claimed, withdrew}
 pub use Rattle.oneshot_machine.specs.Phases.{overdue, full, unclosed, disconnected, resolved, gone, swapped_in, word_of, at_once, waited, by_future, by_poll, Share, no_sender, sender_owns, Row, Slots}
 pub use Rattle.oneshot_machine.specs.Phases.{sender_at, sender_next, sender_moves, receiver_at, receiver_next, receiver_moves, receiver_owns, none, empty, filled, no_receiver, is_row_for, next_by}
-pub use Rattle.oneshot_machine.specs.Slots.{Held, IsOwned, not_its_own, own_vacant, own_held, Owns, away, vacant, held, SenderMay, may, Turns, stays_away, stays_vacant, stays_held, gives_room}
+pub use Rattle.oneshot_machine.specs.Slots.{Held, IsOwned, not_its_own, own_vacant, own_held, Owns, away, vacant, held, SenderMay, may, SlotChange, stays_away, stays_vacant, stays_held, gives_room}
 pub use Rattle.oneshot_machine.specs.Slots.{gives_thing, gets_room, gets_thing, In, Finds, finds, head, tail, IsSlot, is_away, is_vacant, is_held, ReceiverMay, May, SenderOwns, ReceiverOwns}
 pub use Rattle.oneshot_machine.specs.States.{word_after}
 pub use Rattle.oneshot_machine.specs.TableRows.{is_same_seen}
@@ -44,7 +45,7 @@ pub use Rattle.oneshot_word.specs.contracts.sender.SenderSide.new.{clauses}
 pub use Rattle.oneshot_word.specs.declared.promise.Promise.{Ghosts}
 pub use Rattle.oneshot_word.specs.declared.any_waker.AnyWaker.{AnyWaker}
 pub use Rattle.oneshot_word.specs.declared.rule.Role.{Role}
-pub use Rattle.oneshot_word.specs.declared.rule.Role.TheVariants.{Maker, Dealer}
+pub use Rattle.oneshot_word.specs.declared.rule.Role.TheVariants.{Maker, MakerWithSlot}
 pub use Rattle.oneshot_word.specs.declared.rule.Slot.{Slot}
 pub use Rattle.oneshot_word.specs.declared.rule.Slot.TheVariants.{Message, Empty, Thread, Task}
 pub use Rattle.oneshot_word.specs.declared.rule.View.{View}

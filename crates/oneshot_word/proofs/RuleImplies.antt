@@ -1,11 +1,12 @@
 -- What the rule implies phase by phase: the word for each pair of phases, and what each log shows.
 use Rattle.std.specs.Prelude.{◌≡◌, ℕ, Bool, true, false, List, [], Option, Some, None}
-use Rattle.oneshot_word.proofs.Names.{Noted, By, sending, dropping, SenderAt, fresh, owes, finished, late, overtaken, swapped, found_closed, closed_itself, ReceiverAt, first, here, claimed, withdrew}
+use Rattle.oneshot_word.proofs.Names.{Noted, By, sending, dropping, SenderAt, fresh, owes, finished, found_gone, overtaken, swapped, found_closed, closed_itself, ReceiverAt, first}
+use Rattle.oneshot_word.proofs.Names.{idle, claimed, withdrew}
 use Rattle.oneshot_word.proofs.Names.{overdue, full, unclosed, disconnected, resolved, gone, swapped_in, word_of, Message, FoundZero, MadeLast, MadeLate, stores_waker, is_overdue, is_gone}
 use Rattle.oneshot_word.proofs.Names.{wrote_since, Home, message_home, waker_home, Lies, AnyWaker, with_waker, RECEIVING, UNPARKING, DISCONNECTED, EMPTY, MESSAGE}
 use Rattle.oneshot_machine.specs.Phases.{waits, ended}
 
--- the word that the sender's final operation leaves, unless it is an add or a flip that found the receiver
+-- the word that the sender's final operation leaves, unless it is an add or an xor that found the receiver
 -- gone
 abbrev pub final_word : By → ℕ
 final_word sending = MESSAGE
@@ -15,7 +16,7 @@ final_word dropping = DISCONNECTED
 abbrev pub word_between : SenderAt → ReceiverAt → Option ℕ
 -- the sender has performed no operation
 word_between fresh first = Some EMPTY
-word_between fresh (here open_at) = Some EMPTY
+word_between fresh (idle open_at) = Some EMPTY
 word_between fresh (waits waiting) = Some RECEIVING
 word_between fresh withdrew = Some EMPTY
 word_between fresh gone = Some DISCONNECTED
@@ -25,11 +26,11 @@ word_between (owes by) claimed = Some UNPARKING
 word_between (owes by) overdue = Some EMPTY
 word_between (owes by) gone = Some DISCONNECTED
 -- its last operation found DISCONNECTED
-word_between (late by) gone = Some EMPTY
+word_between (found_gone by) gone = Some EMPTY
 word_between (overtaken by) gone = Some (final_word by)
 -- it has performed its last operation, and the receiver has performed none since
 word_between (finished by) first = Some (final_word by)
-word_between (finished by) (here open_at) = Some (final_word by)
+word_between (finished by) (idle open_at) = Some (final_word by)
 word_between (finished by) (waits waiting) = Some (final_word by)
 word_between (finished by) claimed = Some (final_word by)
 word_between (finished by) withdrew = Some (final_word by)
@@ -83,7 +84,7 @@ pub data SenderSays : List Noted → SenderAt → Type 0 where
   says_none : SenderSays [] fresh
   says_owes : {xs : List Noted} (by : By) → FoundZero by xs → SenderSays xs (owes by)
   says_last : {xs : List Noted} (by : By) → MadeLast by xs → SenderSays xs (finished by)
-  says_late : {xs : List Noted} (by : By) → MadeLate by EMPTY xs → SenderSays xs (late by)
+  says_late : {xs : List Noted} (by : By) → MadeLate by EMPTY xs → SenderSays xs (found_gone by)
   says_overtaken : {xs : List Noted} (by : By) → MadeLate by (final_word by) xs → SenderSays xs (overtaken by)
 
 pub record ReceiverSays (ys : List Noted) (q : ReceiverAt) : Type 0 where

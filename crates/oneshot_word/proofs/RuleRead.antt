@@ -1,6 +1,6 @@
 -- The rule of the table implies its public rows.
 use Rattle.std.proofs.Common.{ℕ, List, Bool, Option, refl}
-use Rattle.oneshot_word.proofs.Names.{Noted, sending, dropping, SenderAt, at_once, waited, swapped, by_future, by_poll, found_closed, closed_itself, ReceiverAt, first, here, claimed, withdrew}
+use Rattle.oneshot_word.proofs.Names.{Noted, sending, dropping, SenderAt, at_once, waited, swapped, by_future, by_poll, found_closed, closed_itself, ReceiverAt, first, idle, claimed, withdrew}
 use Rattle.oneshot_word.proofs.Names.{overdue, full, unclosed, disconnected, resolved, gone, Held, IsOwned, not_its_own, own_vacant, own_held, Owns, AnyWaker, Slot, View, Ordered, maker_before}
 use Rattle.oneshot_word.proofs.Names.{dealer_before, in_order, sender_has_it, left_for_sender, receiver_has_it, left_for_receiver, receiver_found_it, waits_for_receiver, waker_at_home, Owned}
 use Rattle.oneshot_word.proofs.Names.{both_open, waker_stored, waker_claimed, claimed_overdue, claimed_gone, receiver_gone, sender_after, written, Ruled, maker_alone, dealer_alone, two_ends, Home}
@@ -17,7 +17,7 @@ module _ {T H K : Type 0} where
       → (q : ReceiverAt) → ReceiverSays ys q → Meet T H K kept fits p q w h k → Owned xs ys w h k
   pair_reads says_none first r (meet is lies_out lies_bare) =
       both_open refl r.stores r.gone sender_has_it left_for_receiver
-  pair_reads says_none (here f) r (meet is lies_out lies_out) =
+  pair_reads says_none (idle f) r (meet is lies_out lies_out) =
       both_open refl r.stores r.gone sender_has_it receiver_has_it
   pair_reads says_none withdrew r (meet is lies_out lies_out) =
       both_open refl r.stores r.gone sender_has_it receiver_has_it
@@ -40,9 +40,9 @@ module _ {T H K : Type 0} where
       sent made r.wrote (waits_for_receiver m) left_for_receiver
   pair_reads (says_last dropping made) first r (meet is lies_bare lies_bare) =
       dropped made r.wrote left_for_receiver left_for_receiver
-  pair_reads (says_last sending made) (here f) r (meet is (lies_filled m _) lies_out) =
+  pair_reads (says_last sending made) (idle f) r (meet is (lies_filled m _) lies_out) =
       sent made r.wrote (waits_for_receiver m) receiver_has_it
-  pair_reads (says_last dropping made) (here f) r (meet is lies_bare lies_out) =
+  pair_reads (says_last dropping made) (idle f) r (meet is lies_bare lies_out) =
       dropped made r.wrote left_for_receiver receiver_has_it
   pair_reads (says_last sending made) (waits a) r (meet is (lies_filled m _) lies_bare) =
       sent made r.wrote (waits_for_receiver m) left_for_receiver

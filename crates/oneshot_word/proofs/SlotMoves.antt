@@ -2,7 +2,8 @@
 use Rattle.std.proofs.Common.{◌≡◌, ℕ, Bool, true, false, [], ◌∷◌, refl}
 use mathlib.Core.Option as maybe
 use Rattle.atomic_table.specs.Table.{keeps}
-use Rattle.oneshot_word.proofs.Names.{Act, takes, gives, chain, Valid, homes_after, carried_after, Share, none, empty, filled, Held, away, vacant, held, IsSlot, is_away, is_vacant, is_held, Turns}
+use Rattle.oneshot_word.proofs.Names.{Act, takes, gives, chain, Valid, homes_after, carried_after, Share, none, empty, filled, Held, away, vacant, held, IsSlot, is_away, is_vacant}
+use Rattle.oneshot_word.proofs.Names.{is_held, SlotChange}
 use Rattle.oneshot_word.proofs.Names.{stays_away, stays_vacant, stays_held, gives_room, gives_thing, gets_room, gets_thing, Slot, Empty, Carried, slot_vacant, slot_held, Part, not_carried, carried}
 use Rattle.oneshot_word.proofs.Names.{Front, message_first, waker_first, carried_as, Home, out, Lies, lies_out, lies_bare, lies_filled, is_same_share}
 
@@ -22,15 +23,15 @@ pub data Goes {T H K : Type 0} (place : ℕ) : Bool → Bool → Home T H K → 
   comes : {s : Slot T H K} → Goes place false true (maybe.some s) out [] ((place, s) ∷ [])
 
 -- whether a slot can turn so: the seat's shares of it before and after, then the table's after and before
-abbrev pub is_turn : Share → Share → Share → Share → Bool
-is_turn none none there' there = is_same_share there there'
-is_turn empty empty none none = true
-is_turn filled filled none none = true
-is_turn empty none empty none = true
-is_turn filled none filled none = true
-is_turn none empty none empty = true
-is_turn none filled none filled = true
-is_turn _ _ _ _ = false
+abbrev pub is_change : Share → Share → Share → Share → Bool
+is_change none none there' there = is_same_share there there'
+is_change empty empty none none = true
+is_change filled filled none none = true
+is_change empty none empty none = true
+is_change filled none filled none = true
+is_change none empty none empty = true
+is_change none filled none filled = true
+is_change _ _ _ _ = false
 
 module _ {T H K X : Type 0} (kept : X → Type 0) (place : ℕ) (put : X → Slot T H K) where
   -- what a seat carries of a slot in which it has this share
@@ -47,12 +48,12 @@ module _ {T H K X : Type 0} (kept : X → Type 0) (place : ℕ) (put : X → Slo
   carries (is_held x) (carried (slot_held _ k)) = carries_filled x k
 
   pub data Moved (s s' there' : Share) (h : Home T H K) (c : Carried T H K) (x : Held X) : Type 0 where
-    moved : {h' : Home T H K} {c' : Carried T H K} {x' : Held X} → Turns s s' x x'
+    moved : {h' : Home T H K} {c' : Carried T H K} {x' : Held X} → SlotChange s s' x x'
         → Goes place (is_owned s) (is_owned s') h h' c c' → Part kept place put (is_owned s') c' x'
         → Lies kept put there' h' → Moved s s' there' h c x
 
   pub goes : {s there : Share} {h : Home T H K} {c : Carried T H K} {x : Held X} → Carries s c x → (s' there' : Share)
-      → Lies kept put there h → is_turn s s' there' there ≡ true → Moved s s' there' h c x
+      → Lies kept put there h → is_change s s' there' there ≡ true → Moved s s' there' h c x
   goes carries_none none none lies_out e = moved stays_away stays_there not_carried lies_out
   goes carries_none none empty lies_bare e = moved stays_away stays_there not_carried lies_bare
   goes carries_none none filled (lies_filled x k) e = moved stays_away stays_there not_carried (lies_filled x k)

@@ -1,6 +1,7 @@
 -- The table begins under its rule, and its first seat is split into those of both ends.
 use Rattle.std.proofs.Common.{◌≡◌, ℕ, List, [], ◌∷◌, None, refl}
-use Rattle.oneshot_word.proofs.Names.{◌++◌, get_or, set, sym, subst, Me, Act, takes, Valid, Allows, Splits, homes_after, carried_after, nothing_made, Maker, Dealer, Slot, Empty, View, Home, lies_out}
+use Rattle.oneshot_word.proofs.Names.{◌++◌, get_or, set, sym, subst, Me, Act, takes, Valid, Allows, Splits, homes_after, carried_after, nothing_made, Maker, MakerWithSlot, Slot}
+use Rattle.oneshot_word.proofs.Names.{Empty, View, Home, lies_out}
 use Rattle.oneshot_word.proofs.Names.{lies_bare, took_none, claimed_none, Tied, dealt, runs, view, slot_vacant, carried, not_carried, seat_of, gave_none, holds_no_slot, claims_no_slot, SenderSeat}
 use Rattle.oneshot_word.proofs.Names.{ReceiverSeat, EMPTY}
 use Rattle.oneshot_word.specs.declared.rule.Role.TheVariants.{Sender, Receiver}
@@ -8,7 +9,7 @@ use Rattle.oneshot_word.proofs.SeatShows.{Sits, maker_sits, dealer_sits, sits}
 use Rattle.oneshot_word.proofs.EachStep.{Holds}
 
 abbrev pub dealt_seat : {T H K P : Type 0} → P → Me (Slot T H K) (View T H K P)
-dealt_seat about = (view about Dealer [] None None, (0, Empty) ∷ [])
+dealt_seat about = (view about MakerWithSlot [] None None, (0, Empty) ∷ [])
 
 module _ {T H K P : Type 0} (keeps : P → T → Type 0) (q : P) where
   -- the maker takes the message's slot
@@ -17,7 +18,7 @@ module _ {T H K P : Type 0} (keeps : P → T → Type 0) (q : P) where
       → (v : View T H K P) × (a : Act (Slot T H K)) × Valid hs [] a
       × Tied keeps q (set ws 0 (get_or ws 0 0)) (homes_after hs [] a) (set vs id v)
       × ((v, carried_after [] a) ≡ dealt_seat q)
-  deals maker_sits = (view q Dealer [] None None, takes 0 Empty, refl, dealt, refl)
+  deals maker_sits = (view q MakerWithSlot [] None None, takes 0 Empty, refl, dealt, refl)
 
   pub deal_allowed : (slots id : ℕ) (me : Me (Slot T H K) (View T H K P)) → me ≡ (view q Maker [] None None, [])
       → Allows (Holds keeps q) slots id me 0 (λ n. n) (λ r n. n ≡ dealt_seat me.0.about)
@@ -28,11 +29,11 @@ module _ {T H K P : Type 0} (keeps : P → T → Type 0) (q : P) where
 
   -- its seat is split into the sender's and the receiver's
   splits : {ws : List ℕ} {hs : List (Home T H K)} {vs : List (View T H K P)} {id : ℕ}
-      → Sits keeps q ws hs vs id Dealer [] None None
+      → Sits keeps q ws hs vs id MakerWithSlot [] None None
       → Tied keeps q ws hs (set vs id (view q Sender [] None None) ++ view q Receiver [] None None ∷ [])
   splits dealer_sits = runs [] [] nothing_made lies_out lies_bare took_none claimed_none
 
-  pub split_allowed : (id : ℕ) (v : View T H K P) → v ≡ view q Dealer [] None None
+  pub split_allowed : (id : ℕ) (v : View T H K P) → v ≡ view q MakerWithSlot [] None None
       → Splits (Holds {T = T} {H = H} {K = K} keeps q) id v (view v.about Sender [] None None)
       (view v.about Receiver [] None None)
   split_allowed id v it =

@@ -3,7 +3,8 @@ use Rattle.std.proofs.Common.{◌≡◌, ℕ, Bool, true, false, List, [], ◌�
 use Rattle.std.specs.Prelude.{if◌then◌else◌}
 use Rattle.oneshot_machine.proofs.EachPhase.{at_each_pair}
 use Rattle.oneshot_word.proofs.Names.{◌++◌, ◌||◌, not, list_all, eq-eqb, each_passes, sym, ap, ◌∙◌, subst, Op, Noted, Share, none, filled, Slots, Row, In, SenderAt, fresh, sender_owns, ReceiverAt}
-use Rattle.oneshot_word.proofs.Names.{receiver_owns, receiver_moves, Held, away, vacant, held, Turns, stays_away, stays_vacant, stays_held, gives_room, gives_thing, gets_room, gets_thing, AnyWaker}
+use Rattle.oneshot_word.proofs.Names.{receiver_owns, receiver_moves, Held, away, vacant, held, SlotChange, stays_away, stays_vacant, stays_held, gives_room, gives_thing, gets_room}
+use Rattle.oneshot_word.proofs.Names.{gets_thing, AnyWaker}
 use Rattle.oneshot_word.proofs.Names.{with_waker, Home, has_slots, waker_left, waker_home, Lies, lies_out, IsPut, has_made, IsClaimed, claimed_none, claimed_it, Carried, Front, slot_vacant, slot_held}
 use Rattle.oneshot_word.proofs.Names.{not_carried, carried, SeatOf, seat_of, HoldsClaimed, claims_no_slot, claims_none, claims_it, gave, took}
 use Rattle.oneshot_word.proofs.WordsEqual.{is_word}
@@ -78,7 +79,7 @@ module _ {W : Type 0} where
   holds_put (claims_it m) (claimed_it _ same made) so = same ∙ ap Some (cc so)
 
   -- the waker that the sender has taken after an operation, and its slot
-  pub holds_claimed : {s s' : Share} {w w' : Held W} {woke : Option W} → Turns s s' w w' → HoldsClaimed woke w
+  pub holds_claimed : {s s' : Share} {w w' : Held W} {woke : Option W} → SlotChange s s' w w' → HoldsClaimed woke w
       → HoldsClaimed (took w w' woke) w'
   holds_claimed stays_away holds = claims_no_slot
   holds_claimed stays_vacant holds = claims_none
@@ -94,14 +95,14 @@ module _ {W : Type 0} where
   claims_on claimed_none made = claimed_none
   claims_on (claimed_it k same _) made = claimed_it k same made
 
-  pub claims_put : {s s' : Share} {w w' : Held W} {put woke : Option W} {xs xs' : List Noted} → Turns s s' w w'
+  pub claims_put : {s s' : Share} {w w' : Held W} {put woke : Option W} {xs xs' : List Noted} → SlotChange s s' w w'
       → IsClaimed put xs woke → has_made xs' ≡ true → ((x : W) → w' ≡ held x → put ≡ Some x)
       → IsClaimed put xs' (took w w' woke)
   claims_put (gets_thing x) claim made gets = claimed_it x (gets x refl) made
   claims_put _ claim made gets = claims_on claim made
 
   -- and after an operation of the receiver, which gives a waker only to a sender that has made none
-  pub still_claimed : {s s' : Share} {w w' : Held W} {put woke : Option W} {xs : List Noted} → Turns s s' w w'
+  pub still_claimed : {s s' : Share} {w w' : Held W} {put woke : Option W} {xs : List Noted} → SlotChange s s' w w'
       → IsClaimed put xs woke → (s ≡ filled → s' ≡ none → has_made xs ≡ false) → IsClaimed (gave w w' put) xs woke
   still_claimed (gives_thing x) claimed_none none_made = claimed_none
   still_claimed (gives_thing x) (claimed_it k same made) none_made =

@@ -3,7 +3,7 @@ use Rattle.std.specs.Prelude.{ℕ, List, [], ◌∷◌, Option, None}
 use Rattle.oneshot_machine.specs.Noted.{Noted}
 use Rattle.oneshot_machine.specs.Orders.{Reaches}
 use Rattle.oneshot_word.specs.declared.any_waker.AnyWaker.{AnyWaker}
-use Rattle.oneshot_word.specs.declared.rule.Role.TheVariants.{Maker, Dealer, Sender, Receiver}
+use Rattle.oneshot_word.specs.declared.rule.Role.TheVariants.{Maker, MakerWithSlot, Sender, Receiver}
 use Rattle.oneshot_word.specs.declared.rule.View.{View}
 use Rattle.oneshot_word.specs.Rule.{Home, Tied}
 use Rattle.oneshot_word.specs.Seats.{view}
@@ -13,7 +13,7 @@ use Rattle.oneshot_machine.specs.declared.states.TheConstants.{EMPTY}
 pub data Ordered {T H K P : Type 0} (q : P) : List ℕ → List (View T H K P) → Type 0 where
   -- before there are ends
   maker_before : Ordered q (EMPTY ∷ []) (view q Maker [] None None ∷ [])
-  dealer_before : Ordered q (EMPTY ∷ []) (view q Dealer [] None None ∷ [])
+  dealer_before : Ordered q (EMPTY ∷ []) (view q MakerWithSlot [] None None ∷ [])
   -- from then on
   in_order : {word : ℕ} (xs ys : List Noted) {given taken : Option T} {put woke : Option (AnyWaker H K)}
       → Reaches xs ys word

@@ -4,7 +4,7 @@ use Rattle.std.specs.Prelude.{◌≡◌, ℕ, true, false, List, [], ◌∷◌, 
 use Rattle.oneshot_machine.specs.Noted.{Noted}
 use Rattle.oneshot_machine.specs.Phases.{By, sending, dropping}
 use Rattle.oneshot_word.specs.declared.any_waker.AnyWaker.{AnyWaker}
-use Rattle.oneshot_word.specs.declared.rule.Role.TheVariants.{Maker, Dealer, Sender, Receiver}
+use Rattle.oneshot_word.specs.declared.rule.Role.TheVariants.{Maker, MakerWithSlot, Sender, Receiver}
 use Rattle.oneshot_word.specs.declared.rule.View.{View}
 use Rattle.oneshot_word.specs.EndLogs.{FoundZero, MadeLast, MadeLate, stores_waker, is_overdue, is_gone, wrote_since}
 use Rattle.oneshot_word.specs.Rule.{Home, out, bare, has_message, has_waker, Tied}
@@ -68,7 +68,7 @@ pub data Owned {T H K : Type 0} (xs ys : List Noted) : ℕ → Home T H K → Ho
 pub data Ruled {T H K P : Type 0} (q : P) : List ℕ → List (Home T H K) → List (View T H K P) → Type 0 where
   -- before there are ends
   maker_alone : Ruled q (EMPTY ∷ []) (bare ∷ bare ∷ []) (view q Maker [] None None ∷ [])
-  dealer_alone : Ruled q (EMPTY ∷ []) (out ∷ bare ∷ []) (view q Dealer [] None None ∷ [])
+  dealer_alone : Ruled q (EMPTY ∷ []) (out ∷ bare ∷ []) (view q MakerWithSlot [] None None ∷ [])
   -- from then on
   two_ends : {w : ℕ} {h k : Home T H K} (xs ys : List Noted) {given taken : Option T} {put woke : Option (AnyWaker H K)}
       → Owned xs ys w h k

@@ -5,7 +5,7 @@ use mathlib.Core.Option as maybe
 use Rattle.oneshot_machine.specs.Noted.{Noted}
 use Rattle.oneshot_machine.specs.Orders.{Reaches}
 use Rattle.oneshot_machine.specs.Phases.{sending, SenderAt, fresh, finished, sender_at, sender_owns, ReceiverAt, waits, receiver_at, receiver_owns, Share, none, empty, filled}
-use Rattle.oneshot_word.specs.declared.rule.Role.TheVariants.{Maker, Dealer, Sender, Receiver}
+use Rattle.oneshot_word.specs.declared.rule.Role.TheVariants.{Maker, MakerWithSlot, Sender, Receiver}
 use Rattle.oneshot_word.specs.declared.any_waker.AnyWaker.{AnyWaker}
 use Rattle.oneshot_word.specs.declared.rule.Slot.{Slot}
 use Rattle.oneshot_word.specs.declared.rule.Slot.TheVariants.{Empty, Message}
@@ -88,7 +88,7 @@ pub data Tied {T H K P : Type 0} (keeps : P → T → Type 0) (q : P)
   -- the table is new
   opened : Tied keeps q (EMPTY ∷ []) (bare ∷ bare ∷ []) (view q Maker [] None None ∷ [])
   -- its maker has the message's slot
-  dealt : Tied keeps q (EMPTY ∷ []) (out ∷ bare ∷ []) (view q Dealer [] None None ∷ [])
+  dealt : Tied keeps q (EMPTY ∷ []) (out ∷ bare ∷ []) (view q MakerWithSlot [] None None ∷ [])
   -- both ends exist: their operations have an order, each slot is where both phases put it, a message that
   -- is at home or that the receiver took is the one that the sender gave, and a waker that is at home or that
   -- the sender took is the one that the receiver gave last

@@ -1,4 +1,5 @@
 //! Laws of the definitions: each function's contract states the law, and its body does nothing.
+//! A body that mentions a seat does so for the invariant of its side, which the proof uses.
 
 ghost use Rattle.std.specs.Prelude.{ℕ, List};
 ghost use Rattle.oneshot_machine.specs.Noted.{Noted};

@@ -1,4 +1,8 @@
 //! The word that both ends share, with the message's slot and the waker's: its rule and its operations.
+//!
+//! Read `rule.rt` first: what a slot holds, what a seat knows, and the rule of the table, which `specs/Rule.antt`
+//! defines. `sender.rt` and `receiver.rt` have the operations of each end. `plays.rt` has what each operation notes for
+//! proofs, `opening.rt` makes a table, and `looks.rt` has the one load that needs no seat.
 #![tactic(auto)]
 
 mod any_waker;

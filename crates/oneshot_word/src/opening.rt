@@ -36,7 +36,8 @@ pub fn open<T: Send + Drop, H: Send + Drop, K: Send + Drop, P: Promise<T>>(
             };
             Ok((sender, receiver))
         }
-        // Dropped by hand: otherwise the borrow checker does not cover this function.
+        // Dropped by hand: otherwise the borrow checker would give up on this function, and leave the whole proof to be
+        // written by hand.
         Err(error) => {
             drop(seat);
             drop(other);

@@ -1,7 +1,7 @@
 //! Types for the proofs alone: what each operation on the word notes in its seat.
 
 ghost use Rattle.std.specs.Prelude.{◌≡◌, ◌∷◌, [], None};
-ghost use Rattle.oneshot_word.specs.declared.rule.Role.TheVariants.{Dealer, Sender, Receiver};
+ghost use Rattle.oneshot_word.specs.declared.rule.Role.TheVariants.{MakerWithSlot, Sender, Receiver};
 ghost use Rattle.oneshot_word.specs.declared.rule.Slot.TheVariants.{Empty};
 ghost use Rattle.oneshot_word.specs.Plays.{AddFound, FlipFound, FinalSwapFound, LoadFound, StoreFound, SwapFound, ExchangeFound};
 ghost use Rattle.oneshot_word.specs.Seats.{view};
@@ -16,9 +16,9 @@ impl<T, H, K, P: Promise<T>> Play<Slot<T, H, K>, View<T, H, K, P>> for Adds {
     ghost then = { AddFound P.keeps };
 }
 
-pub(crate) struct Flips;
+pub(crate) struct Xors;
 
-impl<T, H, K, P: Promise<T>> Play<Slot<T, H, K>, View<T, H, K, P>> for Flips {
+impl<T, H, K, P: Promise<T>> Play<Slot<T, H, K>, View<T, H, K, P>> for Xors {
     ghost then = { FlipFound P.keeps };
 }
 
@@ -56,7 +56,7 @@ impl<T, H, K, P: Promise<T>> Play<Slot<T, H, K>, View<T, H, K, P>> for Exchanges
 pub(crate) struct TakesMessageSlot;
 
 impl<T, H, K, P> Play<Slot<T, H, K>, View<T, H, K, P>> for TakesMessageSlot {
-    ghost then = { λ _ before found after. after ≡ (view before.0.about Dealer [] None None, (0, Empty) ∷ []) };
+    ghost then = { λ _ before found after. after ≡ (view before.0.about MakerWithSlot [] None None, (0, Empty) ∷ []) };
 }
 
 // The sender's seat keeps the slot, and the receiver gets a new seat.

@@ -49,11 +49,13 @@ impl<T, H, K, P: Promise<T>> ReceiverSide<T, H, K, P> {
         self.table.shared.load::<Loads>(&mut self.seat, 0) as u8
     }
 
-    /// Stores `new` by a swap, and returns the word before, which the log does not have.
+    /// Stores `new`, and returns the word before, which the log does not have: in the tables a store sees nothing.
     pub fn store(&mut self, new: u8) -> u8
         requires { ReceiverCan self.old (Store new) }
         ensures { ReceiverDid self.old (Store new) result self.new }
     {
+        // By a swap, since a row of the phases' table names the word before. A `store` of `atomic_table` passes only
+        // the number that it stores to its note.
         self.table
             .shared
             .swap::<Stores>(&mut self.seat, 0, new as u64) as u8
@@ -93,7 +95,7 @@ impl<T, H: Drop, K: Drop, P: Promise<T>> ReceiverSide<T, H, K, P> {
         requires { (message : T) × (self.old.message ≡ held message) }
         ensures message { self.old.message ≡ held result }
         ensures passed { self.old.passed ≡ Some result }
-        ensures kept { P.keeps self.old.about result }
+        ensures promise { P.keeps self.old.about result }
         ensures rest { self.new ≡ record self.old { message = vacant } }
     {
         self.trade_message(Slot::Empty).into_message()
@@ -123,7 +125,7 @@ impl<T, H, K, P: Promise<T>> ReceiverSide<T, H, K, P> {
     fn trade_message(&mut self, new: Slot<T, H, K>) -> Slot<T, H, K>
         requires its_own { self.old.message ≢ away }
         requires no_waker { waker_of new ≡ vacant }
-        requires kept { Keeps (P.keeps self.old.about) (message_of new) }
+        requires promise { Keeps (P.keeps self.old.about) (message_of new) }
         requires passed { HoldsTaken self.old.passed (message_of new) }
         ensures was { MessageSlot (P.keeps self.old.about) result self.old.message }
         ensures taken { HoldsTaken self.old.passed self.old.message }

@@ -12,8 +12,8 @@ use oneshot_machine::machine::Seen;
 use oneshot_machine::states::Op;
 use std::collections::LinkedList;
 
-// One flat enum: a nested `Option` or `AnyWaker` would add a tag of its own.
 /// The content of a slot: nothing, a message, or the waker of a receiver that waits.
+/// It is one flat enum, since a nested `Option` or `AnyWaker` would add a tag of its own.
 #[derive(Drop)]
 pub enum Slot<T, H, K> {
     /// Nothing.
@@ -69,7 +69,7 @@ pub enum Role {
     /// The maker of the table.
     Maker,
     /// The maker, once it has taken the message's slot.
-    Dealer,
+    MakerWithSlot,
     /// The sender.
     Sender,
     /// The receiver.

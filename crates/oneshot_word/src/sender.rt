@@ -11,7 +11,7 @@ ghost use Rattle.oneshot_word.specs.Seats.{IsAt, HoldsClaimed, Keeps, MessageSlo
 ghost use Rattle.oneshot_word.specs.Side.{SenderCan, SenderDid, side_of};
 
 use crate::any_waker::AnyWaker;
-use crate::plays::{Adds, Finishes, Flips};
+use crate::plays::{Adds, Finishes, Xors};
 use crate::promise::Promise;
 use crate::rule::Slot;
 use crate::table::{WordSeat, WordTable};
@@ -41,8 +41,9 @@ impl<T, H, K, P: Promise<T>> Model for SenderSide<T, H, K, P> {
     ghost invariant = { λ s.
         SenderSeat P.keeps s.seat.me × IsAt (arc_value s.table).shared.table_id s.seat.table_id };
 
-    // Both are empty. Only for a struct with `also_owns` can `Sync` be proved by hand, and `peek` reads
-    // such a struct only if it has `also_shares`.
+    // Both add nothing (`ftrue`). The first is here because Rattle takes a proof of `Sync` by hand only for a struct
+    // with `also_owns`. The second is here because `peek` can read the fields of such a struct through a `&` only if it
+    // has `also_shares` too.
     ghost also_owns = { λ _. ftrue };
 
     ghost also_shares = { λ _ _ _. ftrue };
@@ -75,12 +76,12 @@ impl<T, H, K, P: Promise<T>> SenderSide<T, H, K, P> {
         self.table.shared.fetch_add::<Adds>(&mut self.seat, 0, 1) as u8
     }
 
-    /// Flips the word's lowest bit, and returns the word before.
-    pub fn flip(&mut self) -> u8
+    /// Xors the word's lowest bit, and returns the word before.
+    pub fn xor(&mut self) -> u8
         requires { SenderCan self.old Xor }
         ensures { SenderDid self.old Xor result self.new }
     {
-        self.table.shared.fetch_xor::<Flips>(&mut self.seat, 0, 1) as u8
+        self.table.shared.fetch_xor::<Xors>(&mut self.seat, 0, 1) as u8
     }
 
     /// Puts `new` into the word, as the sender's last operation on it, and returns the word before.
@@ -98,7 +99,7 @@ impl<T, H: Drop, K: Drop, P: Promise<T>> SenderSide<T, H, K, P> {
     /// Puts `message`, which must keep the promise, into its slot, which must be the sender's and empty.
     pub fn write_message(&mut self, message: T)
         requires slot { self.old.message ≡ vacant }
-        requires kept { P.keeps self.old.about message }
+        requires promise { P.keeps self.old.about message }
         ensures { self.new ≡ record self.old { message = held message } }
     {
         let old = self.trade_message(Slot::Message(message));
@@ -109,7 +110,7 @@ impl<T, H: Drop, K: Drop, P: Promise<T>> SenderSide<T, H, K, P> {
     pub fn take_message(&mut self) -> T
         requires { (message : T) × (self.old.message ≡ held message) }
         ensures message { self.old.message ≡ held result }
-        ensures kept { P.keeps self.old.about result }
+        ensures promise { P.keeps self.old.about result }
         ensures rest { self.new ≡ record self.old { message = vacant } }
     {
         self.trade_message(Slot::Empty).into_message()
@@ -131,7 +132,7 @@ impl<T, H, K, P: Promise<T>> SenderSide<T, H, K, P> {
     fn trade_message(&mut self, new: Slot<T, H, K>) -> Slot<T, H, K>
         requires its_own { self.old.message ≢ away }
         requires no_waker { waker_of new ≡ vacant }
-        requires kept { Keeps (P.keeps self.old.about) (message_of new) }
+        requires promise { Keeps (P.keeps self.old.about) (message_of new) }
         ensures was { MessageSlot (P.keeps self.old.about) result self.old.message }
         ensures has { self.new ≡ record self.old { message = message_of new } }
     {

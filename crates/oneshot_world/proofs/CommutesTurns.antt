@@ -1,6 +1,6 @@
 -- A turn does the same by classes: a step reads of a waker only whether it is the parker's half, and of a poll nothing.
 use Rattle.oneshot_world.proofs.Names.{◌≡◌, Bool, true, false, Option, Some, None, refl, ap, if◌then◌else◌, option_map, option_and_then, receiver_step, receiver_row, Outcome, sender_step, sender_row}
-use Rattle.oneshot_world.proofs.Names.{End, Sender, Receiver, Reply, Step, ReceiverPos, SenderPos, Call, Poll, as_sender_call, as_receiver_call, Classes, as_name, as_wakers, as_told, as_state}
+use Rattle.oneshot_world.proofs.Names.{End, Sender, Receiver, Reply, Step, ReceiverPos, SenderPos, Call, Poll, as_sender_call, as_receiver_call, Classes, as_name, as_wakers, as_input, as_state}
 use Rattle.oneshot_world.proofs.Names.{as_call, as_made, as_turned, Control, Begin, control_then, control_turn, sender_under_way, receiver_under_way, as_begin, as_control, as_control_turned, turns}
 use Rattle.oneshot_world.proofs.Names.{sender_turns_at, receiver_turns_at, position_of_sender, position_of_receiver, sender_stepped, sender_moved, receiver_moved, receiver_stepped, made, made_entry}
 use Rattle.oneshot_world.proofs.Names.{sender_fits, receiver_fits, hand_kept, seen_by, reply_of, is_future, sender_puts, receiver_puts, wakers_left, sets_token, own_of, ReceiverState, SenderState}
@@ -15,7 +15,7 @@ token_as : (k : Classes) (w : Wakers) (step : Step) → sets_token (as_wakers k 
 token_as k w T.Wake = parker_as k w.taken
 token_as k w _ = refl
 
-own_as : (k : Classes) (t : Input) (step : Step) → own_of (as_told k t) step ≡ option_map k.polls (own_of t step)
+own_as : (k : Classes) (t : Input) (step : Step) → own_of (as_input k t) step ≡ option_map k.polls (own_of t step)
 own_as k t T.WakeOwn = refl
 own_as k t _ = refl
 
@@ -40,13 +40,13 @@ receiver_fits_as k s _ = refl
 
 -- the entry, and the state after it
 made_as : (k : Classes) (side : End) (t : Input) (s : State) (step : Step) (reply : Option Reply) (to : Option Place)
-    → made side (as_told k t) (as_state k s) step reply to ≡ as_made k (made side t s step reply to)
+    → made side (as_input k t) (as_state k s) step reply to ≡ as_made k (made side t s step reply to)
 made_as k side t s step reply to =
     rw (seen_as k t.answer s step, waker_moved_as k t s.word s.wakers step, token_as k s.wakers step, own_as k t step)
     refl
 
 sender_moved_as : (k : Classes) (t : Input) (s : State) (step : Step) (row : Outcome SenderPos)
-    → sender_moved (as_told k t) (as_state k s) step row ≡ as_state k (sender_moved t s step row)
+    → sender_moved (as_input k t) (as_state k s) step row ≡ as_state k (sender_moved t s step row)
 sender_moved_as k t s step row = rw (wakers_as k t s.word s.wakers step) refl
 
 kept_as : (k : Classes) (future : Bool) (w : Wakers)
@@ -55,7 +55,7 @@ kept_as k true w = refl
 kept_as k false w = refl
 
 receiver_moved_as : (k : Classes) (t : Input) (s : State) (step : Step) (row : Outcome ReceiverPos)
-    → receiver_moved (as_told k t) (as_state k s) step row ≡ as_state k (receiver_moved t s step row)
+    → receiver_moved (as_input k t) (as_state k s) step row ≡ as_state k (receiver_moved t s step row)
 receiver_moved_as k t s step row =
     rw (wakers_as k t s.word s.wakers step, kept_as k (is_future (reply_of row)) (wakers_left t s.word s.wakers step))
     refl
@@ -74,11 +74,11 @@ by_row k true gits f g (Some r) rov fit same each =
 by_row k false gits f g row rov fit same each = rw fit refl
 
 sender_turns_as : (k : Classes) (t : Input) (s : State) (position : Option SenderPos)
-    → sender_turns_at (as_told k t) (as_state k s) position ≡ option_map (as_turned k) (sender_turns_at t s position)
+    → sender_turns_at (as_input k t) (as_state k s) position ≡ option_map (as_turned k) (sender_turns_at t s position)
 sender_turns_as k t s None = refl
 sender_turns_as k t s (Some position) =
     by_row k (sender_fits s (sender_step position)) (sender_fits (as_state k s) (sender_step position))
-    (sender_stepped t s (sender_step position)) (sender_stepped (as_told k t) (as_state k s) (sender_step position))
+    (sender_stepped t s (sender_step position)) (sender_stepped (as_input k t) (as_state k s) (sender_step position))
     (sender_row position (seen_by t.answer s (sender_step position)))
     (sender_row position (seen_by t.answer (as_state k s) (sender_step position)))
     (sender_fits_as k s (sender_step position))
@@ -90,13 +90,13 @@ sender_turns_as k t s (Some position) =
     ) refl)
 
 receiver_turns_as : (k : Classes) (t : Input) (s : State) (position : Option ReceiverPos)
-    → receiver_turns_at (as_told k t) (as_state k s) position
+    → receiver_turns_at (as_input k t) (as_state k s) position
     ≡ option_map (as_turned k) (receiver_turns_at t s position)
 receiver_turns_as k t s None = refl
 receiver_turns_as k t s (Some position) =
     by_row k (receiver_fits s (receiver_step position)) (receiver_fits (as_state k s) (receiver_step position))
     (receiver_stepped t s (receiver_step position))
-    (receiver_stepped (as_told k t) (as_state k s) (receiver_step position))
+    (receiver_stepped (as_input k t) (as_state k s) (receiver_step position))
     (receiver_row position (seen_by t.answer s (receiver_step position)))
     (receiver_row position (seen_by t.answer (as_state k s) (receiver_step position)))
     (receiver_fits_as k s (receiver_step position))
@@ -121,7 +121,7 @@ receiver_call_as k (Some _) = refl
 
 -- A turn by classes is the turn, by those classes.
 pub turns_as : (k : Classes) (side : End) (t : Input) (s : State) (call : Option Call)
-    → turns side (as_told k t) (as_state k s) (option_map (as_call k) call)
+    → turns side (as_input k t) (as_state k s) (option_map (as_call k) call)
     ≡ option_map (as_turned k) (turns side t s call)
 turns_as k Sender t s call = rw (sender_call_as k call) (sender_turns_as k t s (position_of_sender s call))
 turns_as k Receiver t s call = rw (receiver_call_as k call) (receiver_turns_as k t s (position_of_receiver s call))
@@ -156,4 +156,5 @@ leads_as k b c (Some turned) turnt h = rw (h, control_then_as k b.side b.call c 
 
 pub control_turn_as : (k : Classes) (c : Control) (b : Begin)
     → control_turn (as_control k c) (as_begin k b) ≡ option_map (as_control_turned k) (control_turn c b)
-control_turn_as k c b = leads_as k b c (turns b.side b.told c.state b.call) _ (turns_as k b.side b.told c.state b.call)
+control_turn_as k c b = leads_as k b c (turns b.side b.input c.state b.call) _
+    (turns_as k b.side b.input c.state b.call)

@@ -1,5 +1,5 @@
 -- A step does the same with the wakers by classes.
-use Rattle.oneshot_world.proofs.Names.{◌≡◌, ℕ, Bool, true, false, Option, Some, None, refl, ◌∙◌, ap, ◌==◌, is_some, is_none, if◌then◌else◌, option_map, Step, Classes, as_name, as_wakers, as_told}
+use Rattle.oneshot_world.proofs.Names.{◌≡◌, ℕ, Bool, true, false, Option, Some, None, refl, ◌∙◌, ap, ◌==◌, is_some, is_none, if◌then◌else◌, option_map, Step, Classes, as_name, as_wakers, as_input}
 use Rattle.oneshot_world.proofs.Names.{as_move, is_parker, is_copy, withdrawn, back_to, wakers_left, waker_move, WakerName, Parker, Copy, WakerPlace, Input, Wakers}
 use Rattle.oneshot_machine.specs.declared.machine.Step.TheVariants as T
 use Rattle.oneshot_machine.specs.declared.states.Op.TheVariants as O
@@ -50,7 +50,7 @@ back_as k (Some (Copy number entry)) = refl
 
 -- the wakers after a step, and the one that it moves
 pub wakers_as : (k : Classes) (t : Input) (word : ℕ) (w : Wakers) (step : Step)
-    → wakers_left (as_told k t) word (as_wakers k w) step ≡ as_wakers k (wakers_left t word w step)
+    → wakers_left (as_input k t) word (as_wakers k w) step ≡ as_wakers k (wakers_left t word w step)
 wakers_as k t word w T.Withdraw = rw (withdrawn_as k w.cell w.hand) refl
 wakers_as k t word w T.Wake = rw (parker_as k w.taken) refl
 wakers_as k t word w T.Copy = rw (if_as (option_map (as_name k)) t.answer w.hand t.copy) refl
@@ -60,7 +60,7 @@ wakers_as k t word w (T.Word _) = refl
 wakers_as k t word w _ = refl
 
 pub waker_moved_as : (k : Classes) (t : Input) (word : ℕ) (w : Wakers) (step : Step)
-    → waker_move (as_told k t) word (as_wakers k w) step ≡ option_map (as_move k) (waker_move t word w step)
+    → waker_move (as_input k t) word (as_wakers k w) step ≡ option_map (as_move k) (waker_move t word w step)
 waker_moved_as k t word w T.WriteWaker = moves_as k WakerPlaces.Hand WakerPlaces.Cell w.hand
 waker_moved_as k t word w T.TakeWaker = moves_as k WakerPlaces.Cell WakerPlaces.SenderHand w.cell
 waker_moved_as k t word w T.Withdraw = back_as k w.cell

@@ -18,9 +18,9 @@ pub use Rattle.oneshot_machine.specs.declared.machine.timed.TimedPos.TheVariants
 pub use Rattle.oneshot_machine.specs.declared.machine.try_recv.TryPos.TheVariants.{TryLoad}
 pub use Rattle.oneshot_machine.specs.declared.machine.value.ValuePos.TheVariants.{RecvLoad}
 pub use Rattle.oneshot_world.specs.Calls.{Call, Unanswered, first, rest, is_none_left, left_by, Of_sender, Of_receiver, Poll, Stray, number_of, as_sender_call, as_receiver_call}
-pub use Rattle.oneshot_world.specs.Classes.{all_alike, Classes, as_name, as_wakers, as_told, as_move, as_call, as_state, as_made, as_turned}
+pub use Rattle.oneshot_world.specs.Classes.{all_alike, Classes, as_name, as_wakers, as_input, as_move, as_call, as_state, as_made, as_turned}
 pub use Rattle.oneshot_world.specs.Control.{Control, control_of, as_control, sender_under_way, receiver_under_way, control_then, Begin, begins, as_begin, as_control_turned, sender_begins}
-pub use Rattle.oneshot_world.specs.Control.{control_turn, begins_poll, poll_begin, plain_told, receiver_begins_at, receiver_begins, begins_with}
+pub use Rattle.oneshot_world.specs.Control.{control_turn, begins_poll, poll_begin, plain_input, receiver_begins_at, receiver_begins, begins_with}
 pub use Rattle.oneshot_world.specs.ControlCodes.{bool_code, control_code, is_same_control, sender_code, receiver_code, sender_call_code, receiver_call_code, is_same_call, is_same_under_way}
 pub use Rattle.oneshot_world.specs.ControlCodes.{place_code, is_same_wakers, is_same_state, is_same_name}
 pub use Rattle.oneshot_world.specs.Effects.{place_left, reply_of, sender_goes, receiver_goes, is_plain, is_free, is_future, sender_puts, receiver_puts, seen_by}
@@ -33,7 +33,7 @@ pub use Rattle.oneshot_world.specs.ScriptsLeft.{is_sender_script, is_error_scrip
 pub use Rattle.oneshot_world.specs.State.{sender_moved, receiver_moved, sender_turns_at, receiver_turns_at, position_of_sender, position_of_receiver, sender_steps, receiver_steps, made_entry}
 pub use Rattle.oneshot_world.specs.State.{sender_position, receiver_position, made, moved, hand_kept, sender_fits, receiver_fits, sender_stepped, receiver_stepped, turns}
 pub use Rattle.oneshot_world.specs.Wakers.{is_parker, is_copy, withdrawn, back_to, wakers_left, waker_move, is_same_waker, sets_token, own_of}
-pub use Rattle.oneshot_world.specs.World.{World, nothing_told, by_end, reply_in, receiver_told, opening_place, opening, turn, Tells_from, told_with, turn_of, side_of, answer_told, world_then}
+pub use Rattle.oneshot_world.specs.World.{World, no_input, by_end, reply_in, receiver_input, opening_place, opening, turn, IsRunFrom, input_of, turn_of, side_of, receiver_answer, world_then}
 pub use Rattle.oneshot_world.specs.declared.script.AsyncCall.{AsyncCall}
 pub use Rattle.oneshot_world.specs.declared.script.AsyncLast.{AsyncLast}
 pub use Rattle.oneshot_world.specs.declared.script.ErrorLast.{ErrorLast}

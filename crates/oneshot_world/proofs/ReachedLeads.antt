@@ -3,7 +3,7 @@ use Rattle.oneshot_world.proofs.Names.{◌≡◌, ◌≤◌, ◌==◌, ℕ, Bool
 use Rattle.oneshot_world.proofs.Names.{Sender, Receiver, Reply, ReceiverPos, SenderPos, Call, first, Classes, all_alike, Control, control_of, Begin, begins, as_begin, as_control, as_control_turned}
 use Rattle.oneshot_world.proofs.Names.{sender_begins, control_then, control_turn, one_poll, one_copy, reached, is_reached, IsReached, bool_code, control_code, is_same_control, stays_sender}
 use Rattle.oneshot_world.proofs.Names.{ends_sender, stays_error, ends_error, all_in, sender_turns_at, receiver_turns_at, position_of_sender, position_of_receiver, sender_steps, receiver_steps}
-use Rattle.oneshot_world.proofs.Names.{made_entry, is_future, World, by_end, reply_in, nothing_told, receiver_told, ReceiverState, SenderState, State, Entry, Made, NotSent}
+use Rattle.oneshot_world.proofs.Names.{made_entry, is_future, World, by_end, reply_in, no_input, receiver_input, ReceiverState, SenderState, State, Entry, Made, NotSent}
 use Rattle.oneshot_machine.specs.declared.machine.Reply.TheVariants as Replies
 use Rattle.oneshot_world.specs.declared.state.ReceiverState.TheVariants as RS
 use Rattle.oneshot_world.specs.declared.state.SenderState.TheVariants as SS
@@ -73,7 +73,7 @@ abbrev pub receiver_at : World → Option ReceiverPos
 receiver_at w = position_of_receiver w.state (first w.receiver.calls)
 
 abbrev pub sender_begin : World → Begin
-sender_begin w = record { side = Sender; told = nothing_told; call = first w.sender.calls }
+sender_begin w = record { side = Sender; input = no_input; call = first w.sender.calls }
 
 abbrev pub receiver_begin : Bool → ℕ → World → Begin
 receiver_begin answer entry w = receives_at answer entry (first w.receiver.calls)
@@ -87,14 +87,14 @@ after_receiver w turned = (turned.0, control_then Receiver (first w.receiver.cal
 
 sender_turn_is : (w : World) (position : SenderPos) → sender_at w ≡ Some position
     → control_turn (control_of w) (sender_begin w)
-    ≡ option_map (after_sender w) (option_map made_entry (sender_steps nothing_told w.state position))
-sender_turn_is w position at = ap (λ p. option_map (after_sender w) (sender_turns_at nothing_told w.state p)) at
+    ≡ option_map (after_sender w) (option_map made_entry (sender_steps no_input w.state position))
+sender_turn_is w position at = ap (λ p. option_map (after_sender w) (sender_turns_at no_input w.state p)) at
 
 receiver_turn_is : (answer : Bool) (entry : ℕ) (w : World) (position : ReceiverPos) → receiver_at w ≡ Some position
     → control_turn (control_of w) (receiver_begin answer entry w) ≡ option_map (after_receiver w)
-    (option_map made_entry (receiver_steps (receiver_told answer entry w) w.state position))
+    (option_map made_entry (receiver_steps (receiver_input answer entry w) w.state position))
 receiver_turn_is answer entry w position at =
-    ap (λ p. option_map (after_receiver w) (receiver_turns_at (receiver_told answer entry w) w.state p)) at
+    ap (λ p. option_map (after_receiver w) (receiver_turns_at (receiver_input answer entry w) w.state p)) at
 
 module _ (k : Classes) (polls : List ℕ) (copies : ℕ → List ℕ) (test : Begin → Option (Entry × Control) → Bool) where
   abbrev pub AllPass : World → Type 0
@@ -105,7 +105,7 @@ module _ (k : Classes) (polls : List ℕ) (copies : ℕ → List ℕ) (test : Be
   pub sender_passes : (w : World) (position : SenderPos) → IsReached w → sender_at w ≡ Some position → AllPass w
       → test (as_begin k (sender_begin w))
       (option_map (as_control_turned k)
-      (option_map (after_sender w) (option_map made_entry (sender_steps nothing_told w.state position)))) ≡ true
+      (option_map (after_sender w) (option_map made_entry (sender_steps no_input w.state position)))) ≡ true
   sender_passes w position h at all =
       subst (λ o. test (as_begin k (sender_begin w)) o ≡ true)
       (control_turn_as k (control_of w) (sender_begin w)
@@ -121,7 +121,7 @@ module _ (k : Classes) (polls : List ℕ) (copies : ℕ → List ℕ) (test : Be
       → test (as_begin k (receiver_begin answer entry w))
       (option_map (as_control_turned k)
       (option_map (after_receiver w)
-      (option_map made_entry (receiver_steps (receiver_told answer entry w) w.state position)))) ≡ true
+      (option_map made_entry (receiver_steps (receiver_input answer entry w) w.state position)))) ≡ true
   receiver_passes entry polled copied answer w position h at all =
       subst (λ o. test (as_begin k (receiver_begin answer entry w)) o ≡ true)
       (control_turn_as k (control_of w) (receiver_begin answer entry w)
@@ -138,14 +138,14 @@ moves_there w h =
 pub sender_leads : (w : World) (position : SenderPos) → IsReached w → sender_at w ≡ Some position
     → leads_on (as_begin all_alike (sender_begin w))
     (option_map (as_control_turned all_alike)
-    (option_map (after_sender w) (option_map made_entry (sender_steps nothing_told w.state position)))) ≡ true
+    (option_map (after_sender w) (option_map made_entry (sender_steps no_input w.state position)))) ≡ true
 sender_leads w position h at = sender_passes all_alike one_poll one_copy leads_on w position h at (moves_there w h)
 
 pub receiver_leads : (answer : Bool) (entry : ℕ) (w : World) (position : ReceiverPos) → IsReached w
     → receiver_at w ≡ Some position → leads_on (as_begin all_alike (receiver_begin answer entry w))
     (option_map (as_control_turned all_alike)
     (option_map (after_receiver w)
-    (option_map made_entry (receiver_steps (receiver_told answer entry w) w.state position)))) ≡ true
+    (option_map made_entry (receiver_steps (receiver_input answer entry w) w.state position)))) ≡ true
 receiver_leads answer entry w position h at =
     receiver_passes all_alike one_poll one_copy leads_on entry (λ number. refl) (λ number. refl) answer w position
     h at (moves_there w h)

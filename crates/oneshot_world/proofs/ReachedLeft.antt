@@ -2,7 +2,7 @@
 use Rattle.oneshot_world.proofs.Names.{◌≡◌, ◌==◌, Bool, true, false, List, [], ◌∷◌, Option, Some, None, refl, sym, ap, subst, ◌||◌, if◌then◌else◌, Outcome, Goes, Answers, Sender, Receiver, Reply}
 use Rattle.oneshot_world.proofs.Names.{Step, ReceiverPos, SenderPos, Call, Unanswered, first, rest, is_none_left, left_by, all_alike, Control, control_of, as_control, sender_under_way}
 use Rattle.oneshot_world.proofs.Names.{receiver_under_way, control_then, is_reached, IsReached, bool_code, is_sender_script, is_error_script, has_script, sender_has, receiver_has, sender_moved}
-use Rattle.oneshot_world.proofs.Names.{receiver_moved, place_left, reply_of, sender_goes, receiver_goes, is_plain, is_free, is_future, sender_puts, receiver_puts, World, nothing_told, ReceiverState}
+use Rattle.oneshot_world.proofs.Names.{receiver_moved, place_left, reply_of, sender_goes, receiver_goes, is_plain, is_free, is_future, sender_puts, receiver_puts, World, no_input, ReceiverState}
 use Rattle.oneshot_world.proofs.Names.{State, Place, Input}
 use Rattle.oneshot_machine.specs.declared.machine.Reply.TheVariants as Replies
 use Rattle.oneshot_world.specs.declared.state.ReceiverState.TheVariants as RS
@@ -16,7 +16,7 @@ use Rattle.oneshot_world.proofs.ReachedLeads.{left_as, sender_left_by_its_call, 
 abbrev pub sender_world : World → Step → Outcome SenderPos → World
 sender_world w step row =
     record {
-      state = sender_moved nothing_told w.state step row;
+      state = sender_moved no_input w.state step row;
       sender = left_by Sender (reply_of row) w.sender;
       receiver = w.receiver;
     }
@@ -53,12 +53,12 @@ control_by state sender receiver = record { state = state; sender = sender; rece
 
 -- the control of that world is the one that the step leads to
 pub sender_control_is : (w : World) (step : Step) (row : Outcome SenderPos)
-    → control_then Sender (first w.sender.calls) (control_of w) (sender_moved nothing_told w.state step row)
+    → control_then Sender (first w.sender.calls) (control_of w) (sender_moved no_input w.state step row)
     ≡ control_of (sender_world w step row)
 unfolding control_by
 sender_control_is w step (Goes next) = refl
 sender_control_is w step (Answers reply) =
-    ap (λ call. control_by (sender_moved nothing_told w.state step (Answers reply)) call (control_of w).receiver)
+    ap (λ call. control_by (sender_moved no_input w.state step (Answers reply)) call (control_of w).receiver)
     (sender_idles step reply (first w.sender.calls) (first (left_by Sender (Some reply) w.sender).calls))
 
 pub receiver_control_is : (t : Input) (w : World) (step : Step) (row : Outcome ReceiverPos)
@@ -131,7 +131,7 @@ same_error (Some _) left = refl
 pub sender_stays_reached : (w : World) (step : Step) (row : Outcome SenderPos) → IsReached w
     → (is_sender_script w.state.message w.sender.calls || is_error_script w.sender.calls) ≡ true
     → is_reached (as_control all_alike
-    (control_then Sender (first w.sender.calls) (control_of w) (sender_moved nothing_told w.state step row))) ≡ true
+    (control_then Sender (first w.sender.calls) (control_of w) (sender_moved no_input w.state step row))) ≡ true
     → sender_left_by_its_call (reply_of row) (sender_goes step row) (first w.sender.calls) ≡ true
     → IsReached (sender_world w step row)
 sender_stays_reached w step row h script on by =

@@ -2,7 +2,7 @@
 use Rattle.oneshot_world.proofs.Names.{◌≡◌, ℕ, Bool, true, Option, Some, None, refl, sym, ◌∙◌, ap, subst, option_map, IsSome, receiver_step, receiver_row, Outcome, sender_step, sender_row, Sender}
 use Rattle.oneshot_world.proofs.Names.{Receiver, Reply, ReceiverPos, SenderPos, Call, Poll, first, left_by, Classes, all_alike, as_call, control_of, as_begin, as_control, control_then, is_reached}
 use Rattle.oneshot_world.proofs.Names.{IsReached, sender_steps, receiver_steps, sender_moved, sender_stepped, receiver_moved, receiver_stepped, sender_fits, receiver_fits, reply_of, sender_goes}
-use Rattle.oneshot_world.proofs.Names.{receiver_goes, seen_by, World, nothing_told, receiver_told, ReceiverState, SenderState, State, Made, Input}
+use Rattle.oneshot_world.proofs.Names.{receiver_goes, seen_by, World, no_input, receiver_input, ReceiverState, SenderState, State, Made, Input}
 use Rattle.oneshot_machine.specs.declared.machine.Reply.TheVariants as Replies
 use Rattle.oneshot_world.specs.declared.state.ReceiverState.TheVariants as RS
 use Rattle.oneshot_world.specs.declared.state.SenderState.TheVariants as SS
@@ -43,20 +43,20 @@ receiver_left_class k (Some reply) s (Some _) h = h
 
 -- an end's position in a reached world has a step, and the world after it is reached
 pub sender_makes : (w : World) (position : SenderPos) → IsReached w → sender_at w ≡ Some position
-    → IsSome (sender_steps nothing_told w.state position)
+    → IsSome (sender_steps no_input w.state position)
 sender_makes w position h at =
-    made_if (as_begin all_alike (sender_begin w)) (after_sender w) (sender_steps nothing_told w.state position)
+    made_if (as_begin all_alike (sender_begin w)) (after_sender w) (sender_steps no_input w.state position)
     (sender_leads w position h at)
 
 pub receiver_makes : (answer : Bool) (entry : ℕ) (w : World) (position : ReceiverPos) → IsReached w
-    → receiver_at w ≡ Some position → IsSome (receiver_steps (receiver_told answer entry w) w.state position)
+    → receiver_at w ≡ Some position → IsSome (receiver_steps (receiver_input answer entry w) w.state position)
 receiver_makes answer entry w position h at =
     made_if (as_begin all_alike (receiver_begin answer entry w)) (after_receiver w)
-    (receiver_steps (receiver_told answer entry w) w.state position) (receiver_leads answer entry w position h at)
+    (receiver_steps (receiver_input answer entry w) w.state position) (receiver_leads answer entry w position h at)
 
 pub sender_row_reaches : (w : World) (position : SenderPos) (row : Outcome SenderPos) → IsReached w
-    → sender_at w ≡ Some position → sender_steps nothing_told w.state position
-    ≡ Some (sender_stepped nothing_told w.state (sender_step position) row)
+    → sender_at w ≡ Some position → sender_steps no_input w.state position
+    ≡ Some (sender_stepped no_input w.state (sender_step position) row)
     → IsReached (sender_world w (sender_step position) row)
 unfolding leads_on
 sender_row_reaches w position row h at steps =
@@ -68,23 +68,23 @@ sender_row_reaches w position row h at steps =
     (sender_left_class all_alike (reply_of row) (sender_goes (sender_step position) row) (first w.sender.calls)
     (and_right (is_reached
     (as_control all_alike (control_then Sender (first w.sender.calls) (control_of w)
-    (sender_moved nothing_told w.state (sender_step position) row)))) _ leads))
+    (sender_moved no_input w.state (sender_step position) row)))) _ leads))
 
 pub receiver_row_reaches : (answer : Bool) (entry : ℕ) (w : World) (position : ReceiverPos) (row : Outcome ReceiverPos)
-    → IsReached w → receiver_at w ≡ Some position → receiver_steps (receiver_told answer entry w) w.state position
-    ≡ Some (receiver_stepped (receiver_told answer entry w) w.state (receiver_step position) row)
-    → IsReached (receiver_world (receiver_told answer entry w) w (receiver_step position) row)
+    → IsReached w → receiver_at w ≡ Some position → receiver_steps (receiver_input answer entry w) w.state position
+    ≡ Some (receiver_stepped (receiver_input answer entry w) w.state (receiver_step position) row)
+    → IsReached (receiver_world (receiver_input answer entry w) w (receiver_step position) row)
 unfolding leads_on
 receiver_row_reaches answer entry w position row h at steps =
     let leads = rw steps at (receiver_leads answer entry w position h at) in
-    receiver_stays_reached (receiver_told answer entry w) w (receiver_step position) row h
+    receiver_stays_reached (receiver_input answer entry w) w (receiver_step position) row h
     (receiver_has_script w.state.receiver w.state.future _ position w.receiver.calls at h.receiver)
     (and_left _ (receiver_left_by_its_call (reply_of row) (receiver_goes (receiver_step position) row)
     (option_map (as_call all_alike) (first w.receiver.calls))) leads)
     (receiver_left_class all_alike (reply_of row) (receiver_goes (receiver_step position) row) (first w.receiver.calls)
     (and_right (is_reached
     (as_control all_alike (control_then Receiver (first w.receiver.calls) (control_of w)
-    (receiver_moved (receiver_told answer entry w) w.state (receiver_step position) row)))) _ leads))
+    (receiver_moved (receiver_input answer entry w) w.state (receiver_step position) row)))) _ leads))
 
 -- a step that is made is made by a row
 pub sender_made_by : (t : Input) (s : State) (position : SenderPos) (x : Made × State)
@@ -102,22 +102,22 @@ receiver_made_by t s position x h =
     (receiver_row position (seen_by t.answer s (receiver_step position))) x h
 
 pub sender_reaches : (w : World) (position : SenderPos) (e : Made) (s : State) → IsReached w
-    → sender_at w ≡ Some position → sender_steps nothing_told w.state position ≡ Some (e, s)
+    → sender_at w ≡ Some position → sender_steps no_input w.state position ≡ Some (e, s)
     → IsReached (record { state = s; sender = left_by Sender e.reply w.sender; receiver = w.receiver })
 sender_reaches w position e s h at steps =
-    let made = sender_made_by nothing_told w.state position (e, s) steps in
-    let same : sender_stepped nothing_told w.state (sender_step position) made.0 ≡ (e, s) = made.1 in
+    let made = sender_made_by no_input w.state position (e, s) steps in
+    let same : sender_stepped no_input w.state (sender_step position) made.0 ≡ (e, s) = made.1 in
     subst (λ (t : Made × State). IsReached
     (record { state = t.1; sender = left_by Sender t.0.reply w.sender; receiver = w.receiver })) same
     (sender_row_reaches w position made.0 h at (steps ∙ ap (λ (t : Made × State). Some t) (sym same)))
 
 pub receiver_reaches : (answer : Bool) (entry : ℕ) (w : World) (position : ReceiverPos) (e : Made) (s : State)
     → IsReached w → receiver_at w ≡ Some position
-    → receiver_steps (receiver_told answer entry w) w.state position ≡ Some (e, s)
+    → receiver_steps (receiver_input answer entry w) w.state position ≡ Some (e, s)
     → IsReached (record { state = s; sender = w.sender; receiver = left_by Receiver e.reply w.receiver })
 receiver_reaches answer entry w position e s h at steps =
-    let made = receiver_made_by (receiver_told answer entry w) w.state position (e, s) steps in
-    let same : receiver_stepped (receiver_told answer entry w) w.state (receiver_step position) made.0 ≡ (e, s) =
+    let made = receiver_made_by (receiver_input answer entry w) w.state position (e, s) steps in
+    let same : receiver_stepped (receiver_input answer entry w) w.state (receiver_step position) made.0 ≡ (e, s) =
     made.1 in
     subst (λ (t : Made × State). IsReached
     (record { state = t.1; sender = w.sender; receiver = left_by Receiver t.0.reply w.receiver })) same

@@ -35,8 +35,8 @@ as_wakers k w =
       taken = option_map (as_name k) w.taken;
     }
 
-abbrev pub as_told : Classes → Input → Input
-as_told k t = record t { copy = option_map (as_name k) t.copy; own = option_map k.polls t.own }
+abbrev pub as_input : Classes → Input → Input
+as_input k t = record t { copy = option_map (as_name k) t.copy; own = option_map k.polls t.own }
 
 abbrev pub as_state : Classes → State → State
 as_state k s = record s { wakers = as_wakers k s.wakers }

@@ -7,10 +7,10 @@ use Rattle.oneshot_machine.specs.declared.machine.End.{End}
 use Rattle.oneshot_world.specs.Calls.{Call, Of_sender, Of_receiver, Poll, first}
 use Rattle.oneshot_machine.specs.Sender.{all_sender_calls}
 use Rattle.oneshot_machine.specs.Receiver.{all_receiver_calls}
-use Rattle.oneshot_world.specs.Classes.{Classes, as_told, as_state, as_call, as_entry}
+use Rattle.oneshot_world.specs.Classes.{Classes, as_input, as_state, as_call, as_entry}
 use Rattle.oneshot_world.specs.Scripts.{begins_sender, begins_error, begins_receiver, begins_async}
 use Rattle.oneshot_world.specs.State.{turns}
-use Rattle.oneshot_world.specs.World.{World, nothing_told}
+use Rattle.oneshot_world.specs.World.{World, no_input}
 use Rattle.oneshot_world.specs.declared.state.ReceiverState.TheVariants as RS
 use Rattle.oneshot_world.specs.declared.state.ReceiverState.{ReceiverState}
 use Rattle.oneshot_world.specs.declared.state.SenderState.TheVariants as SS
@@ -50,31 +50,31 @@ control_of w =
 -- a move: the end that makes it, its input to the step, and the call that the end has under way or begins
 pub record Begin : Type 0 where
   pub side : End
-  pub told : Input
+  pub input : Input
   pub call : Option Call
 
 -- a move for each of these calls that the end may begin
 abbrev pub begins_with : End → Input → (Call → Bool) → List Call → List Begin
-begins_with side t may calls = map (λ call. record { side = side; told = t; call = Some call }) (filter may calls)
+begins_with side t may calls = map (λ call. record { side = side; input = t; call = Some call }) (filter may calls)
 
 -- the moves of an end: it continues the call under way, or begins any call
 abbrev pub sender_begins : Option Place → SenderState → Option Call → List Begin
 sender_begins message SS.Ready call =
-    begins_with Sender nothing_told (begins_sender message) (map Of_sender all_sender_calls)
-sender_begins message (SS.At position) call = record { side = Sender; told = nothing_told; call = call } ∷ []
-sender_begins message SS.Failed call = begins_with Sender nothing_told begins_error (map Of_sender all_sender_calls)
+    begins_with Sender no_input (begins_sender message) (map Of_sender all_sender_calls)
+sender_begins message (SS.At position) call = record { side = Sender; input = no_input; call = call } ∷ []
+sender_begins message SS.Failed call = begins_with Sender no_input begins_error (map Of_sender all_sender_calls)
 sender_begins message SS.Ended call = []
 
-abbrev pub plain_told : Bool → Input
-plain_told answer = record { answer = answer; copy = None; own = None }
+abbrev pub plain_input : Bool → Input
+plain_input answer = record { answer = answer; copy = None; own = None }
 
 -- the input of a move to a poll of a class, with the class of its copy
-abbrev pub poll_told : Bool → ℕ → ℕ → Input
-poll_told answer number copy = record { answer = answer; copy = Some (Copy copy 0); own = Some number }
+abbrev pub poll_input : Bool → ℕ → ℕ → Input
+poll_input answer number copy = record { answer = answer; copy = Some (Copy copy 0); own = Some number }
 
 abbrev pub poll_begin : Bool → ℕ → ℕ → Begin
 poll_begin answer number copy =
-    record { side = Receiver; told = poll_told answer number copy; call = Some (Poll number) }
+    record { side = Receiver; input = poll_input answer number copy; call = Some (Poll number) }
 
 -- `polls` are the classes of polls, and `copies` those of the copies that a poll of a class may make now
 abbrev pub begins_poll : (ℕ → List ℕ) → Bool → ℕ → List Begin
@@ -82,13 +82,13 @@ begins_poll copies answer number = map (λ copy. poll_begin answer number copy) 
 
 abbrev pub goes_on_with : (ℕ → List ℕ) → Bool → Option Call → List Begin
 goes_on_with copies answer (Some (Poll number)) = begins_poll copies answer number
-goes_on_with copies answer call = record { side = Receiver; told = plain_told answer; call = call } ∷ []
+goes_on_with copies answer call = record { side = Receiver; input = plain_input answer; call = call } ∷ []
 
 abbrev pub receiver_begins_at : List ℕ → (ℕ → List ℕ) → Bool → ReceiverState → Bool → Option Call → List Begin
 receiver_begins_at polls copies answer RS.Ready false call =
-    begins_with Receiver (plain_told answer) begins_receiver (map Of_receiver all_receiver_calls)
+    begins_with Receiver (plain_input answer) begins_receiver (map Of_receiver all_receiver_calls)
 receiver_begins_at polls copies answer RS.Ready true call =
-    begins_with Receiver (plain_told answer) begins_async (map Of_receiver all_receiver_calls)
+    begins_with Receiver (plain_input answer) begins_async (map Of_receiver all_receiver_calls)
     ++ flat_map (begins_poll copies answer) polls
 receiver_begins_at polls copies answer (RS.At position) future call = goes_on_with copies answer call
 receiver_begins_at polls copies answer RS.Ended future call = []
@@ -111,7 +111,7 @@ control_then Receiver call c s =
 
 abbrev pub control_turn : Control → Begin → Option (Entry × Control)
 control_turn c b =
-    option_map (λ turned. (turned.0, control_then b.side b.call c turned.1)) (turns b.side b.told c.state b.call)
+    option_map (λ turned. (turned.0, control_then b.side b.call c turned.1)) (turns b.side b.input c.state b.call)
 
 abbrev pub successors : List ℕ → (ℕ → List ℕ) → Control → List Control
 successors polls copies c =
@@ -119,7 +119,7 @@ successors polls copies c =
 
 -- moves and controls by classes
 abbrev pub as_begin : Classes → Begin → Begin
-as_begin k b = record { side = b.side; told = as_told k b.told; call = option_map (as_call k) b.call }
+as_begin k b = record { side = b.side; input = as_input k b.input; call = option_map (as_call k) b.call }
 
 abbrev pub as_control : Classes → Control → Control
 as_control k c =

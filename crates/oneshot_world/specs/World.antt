@@ -61,17 +61,17 @@ abbrev pub copies_at : Option ReceiverPos → Bool
 copies_at None = false
 copies_at (Some position) = is_copying (receiver_step position)
 
-abbrev pub answer_told : Option ReceiverPos → Bool → Bool → Bool
-answer_told position over refuse = if copies_at position then refuse else over
+abbrev pub receiver_answer : Option ReceiverPos → Bool → Bool → Bool
+receiver_answer position over refuse = if copies_at position then refuse else over
 
 -- the input to its step of the move that makes this entry: in a poll also the copy that it may make, and the
 -- poll's number
-abbrev pub told_with : Bool → ℕ → Option ℕ → Input
-told_with answer entry number =
+abbrev pub input_of : Bool → ℕ → Option ℕ → Input
+input_of answer entry number =
     record { answer = answer; copy = option_map (λ number. Copy number entry) number; own = number }
 
-abbrev pub nothing_told : Input
-nothing_told = record { answer = false; copy = None; own = None }
+abbrev pub no_input : Input
+no_input = record { answer = false; copy = None; own = None }
 
 abbrev pub by_end : {X : Type 0} → End → X → X → X
 by_end Sender sender receiver = sender
@@ -99,30 +99,30 @@ world_then side w turned = (
 )
 
 -- the input of a receiver's move to its step
-abbrev pub receiver_told : Bool → ℕ → World → Input
-receiver_told answer entry w = told_with answer entry (option_and_then number_of (first w.receiver.calls))
+abbrev pub receiver_input : Bool → ℕ → World → Input
+receiver_input answer entry w = input_of answer entry (option_and_then number_of (first w.receiver.calls))
 
 -- what an end of a world does
 abbrev pub turn_of : End → Input → World → Option (Entry × World)
 turn_of side t w = option_map (world_then side w) (turns side t w.state (first (by_end side w.sender w.receiver).calls))
 
-abbrev pub told_of : Move → ℕ → World → Input
-told_of M.Sender entry w = nothing_told
-told_of (M.Receiver over refuse) entry w =
-    receiver_told (answer_told (position_of_receiver w.state (first w.receiver.calls)) over refuse) entry w
+abbrev pub move_input : Move → ℕ → World → Input
+move_input M.Sender entry w = no_input
+move_input (M.Receiver over refuse) entry w =
+    receiver_input (receiver_answer (position_of_receiver w.state (first w.receiver.calls)) over refuse) entry w
 
 -- The move that makes entry `entry`, counted from 1: that entry, and the next world. None if the table
 -- of the moving end has no row for what the step sees, or the step does not fit the state.
 abbrev pub turn : ℕ → World → Move → Option (Entry × World)
-turn entry w move = turn_of (side_of move) (told_of move entry w) w
+turn entry w move = turn_of (side_of move) (move_input move entry w) w
 
 -- A run: entry k is that of move k, from world k to world k + 1. There is one more world than moves:
 -- `w`, and then these.
-abbrev pub Tells_from : ℕ → World → List World → List Move → List Entry → Type 0
-Tells_from k w [] [] [] = Unit {0}
-Tells_from k w (next ∷ worlds) (move ∷ moves) (entry ∷ entries) =
-    (turn k w move ≡ Some (entry, next)) × Tells_from (k + 1) next worlds moves entries
-Tells_from k w _ _ _ = ⊥
+abbrev pub IsRunFrom : ℕ → World → List World → List Move → List Entry → Type 0
+IsRunFrom k w [] [] [] = Unit {0}
+IsRunFrom k w (next ∷ worlds) (move ∷ moves) (entry ∷ entries) =
+    (turn k w move ≡ Some (entry, next)) × IsRunFrom (k + 1) next worlds moves entries
+IsRunFrom k w _ _ _ = ⊥
 
-abbrev pub Tells : World → List World → List Move → List Entry → Type 0
-Tells = Tells_from 1
+abbrev pub IsRun : World → List World → List Move → List Entry → Type 0
+IsRun = IsRunFrom 1

@@ -13,11 +13,11 @@ use oneshot_machine::states::Op;
 
 /// The number of the poll's own waker, if this step wakes it.
 #[inline(always)]
-pub(crate) fn own_of(told: Input, step: Step) -> Option<u64>
-    ensures { result ≡ own_of told step }
+pub(crate) fn own_of(input: Input, step: Step) -> Option<u64>
+    ensures { result ≡ own_of input step }
 {
     match step {
-        Step::WakeOwn => told.own,
+        Step::WakeOwn => input.own,
         _ => None,
     }
 }

@@ -71,36 +71,36 @@ impl State {
         }
     }
 
-    /// Makes and returns the sender's step at `position`, which must have a row. `told` is the
+    /// Makes and returns the sender's step at `position`, which must have a row. `input` is the
     /// move's input to it.
     #[inline(always)]
-    pub(crate) fn step_sender(&mut self, position: SenderPos, told: Input) -> Made
-        requires row { IsSome (sender_steps told self.old position) }
+    pub(crate) fn step_sender(&mut self, position: SenderPos, input: Input) -> Made
+        requires row { IsSome (sender_steps input self.old position) }
         requires code { self.old.word ≤ 4 }
-        ensures { sender_steps told self.old position ≡ Some (result, self.new) }
+        ensures { sender_steps input self.old position ≡ Some (result, self.new) }
     {
         let step = position.step();
-        let seen = seen_by(told.answer, *self, step);
+        let seen = seen_by(input.answer, *self, step);
         let (next, reply) = position.next(seen);
         let puts = sender_puts(step, reply);
-        let made = self.make(End::Sender, told, step, seen, reply, puts);
+        let made = self.make(End::Sender, input, step, seen, reply, puts);
         self.sender = sender_goes(step, next, reply);
         made
     }
 
-    /// Makes and returns the receiver's step at `position`, which must have a row. `told` is the
+    /// Makes and returns the receiver's step at `position`, which must have a row. `input` is the
     /// move's input to it.
     #[inline(always)]
-    pub(crate) fn step_receiver(&mut self, position: ReceiverPos, told: Input) -> Made
-        requires row { IsSome (receiver_steps told self.old position) }
+    pub(crate) fn step_receiver(&mut self, position: ReceiverPos, input: Input) -> Made
+        requires row { IsSome (receiver_steps input self.old position) }
         requires code { self.old.word ≤ 4 }
-        ensures { receiver_steps told self.old position ≡ Some (result, self.new) }
+        ensures { receiver_steps input self.old position ≡ Some (result, self.new) }
     {
         let step = position.step();
-        let seen = seen_by(told.answer, *self, step);
+        let seen = seen_by(input.answer, *self, step);
         let (next, reply) = position.next(seen);
         let puts = receiver_puts(step);
-        let made = self.make(End::Receiver, told, step, seen, reply, puts);
+        let made = self.make(End::Receiver, input, step, seen, reply, puts);
         self.receiver = receiver_goes(step, next, reply);
         self.future = future_left(self.future, reply);
         self.wakers.keep_hand(is_future(reply));
@@ -113,20 +113,20 @@ impl State {
     fn make(
         &mut self,
         side: End,
-        told: Input,
+        input: Input,
         step: Step,
         seen: Seen,
         reply: Option<Reply>,
         to: Option<Place>,
     ) -> Made
         requires { self.old.word ≤ 4 }
-        ensures tells { result ≡ record (made side told self.old step reply to) { seen = seen } }
-        ensures moves { self.new ≡ moved told self.old step to }
+        ensures made { result ≡ record (made side input self.old step reply to) { seen = seen } }
+        ensures moves { self.new ≡ moved input self.old step to }
     {
         let before = shown(self.freed, self.word);
         let message = move_of(self.message, to);
         let token_set = self.wakers.sets_token(step);
-        let waker = self.wakers.moved(told, self.word, step);
+        let waker = self.wakers.moved(input, self.word, step);
         self.word = word_left(self.word, step);
         self.freed = self.freed || step == Step::Free;
         self.message = place_left(self.message, to);
@@ -139,7 +139,7 @@ impl State {
             message,
             token_set,
             waker,
-            own: own_of(told, step),
+            own: own_of(input, step),
             reply,
         }
     }

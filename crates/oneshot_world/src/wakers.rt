@@ -50,12 +50,12 @@ impl Wakers {
         }
     }
 
-    /// Moves wakers as `step` does if it finds `word` with the input `told`. Returns the waker that it
+    /// Moves wakers as `step` does if it finds `word` with the input `input`. Returns the waker that it
     /// moved, with the places that this left and went to.
     #[inline(always)]
-    pub(crate) fn moved(&mut self, told: Input, word: u8, step: Step) -> Option<WakerMove>
-        ensures leaves { self.new ≡ wakers_left told word self.old step }
-        ensures tells { result ≡ waker_move told word self.old step }
+    pub(crate) fn moved(&mut self, input: Input, word: u8, step: Step) -> Option<WakerMove>
+        ensures leaves { self.new ≡ wakers_left input word self.old step }
+        ensures waker { result ≡ waker_move input word self.old step }
     {
         // Most steps move no waker, so the moves are not inlined.
         match step {
@@ -64,10 +64,10 @@ impl Wakers {
             Step::Withdraw => self.withdraw(),
             Step::Wake => self.wake(),
             Step::Copy => {
-                if told.answer {
+                if input.answer {
                     None
                 } else {
-                    self.copy(told.copy)
+                    self.copy(input.copy)
                 }
             }
             Step::Word(Op::Exchange(expected, _)) => {
@@ -89,7 +89,7 @@ impl Wakers {
     #[inline(never)]
     fn write(&mut self) -> Option<WakerMove>
         ensures leaves { self.new ≡ record self.old { cell = self.old.hand; hand = None } }
-        ensures tells { result ≡ option_map (λ name. (name, Places.Hand, Places.Cell)) self.old.hand }
+        ensures waker { result ≡ option_map (λ name. (name, Places.Hand, Places.Cell)) self.old.hand }
     {
         self.cell = self.hand.take();
         Some((self.cell?, WakerPlace::Hand, WakerPlace::Cell))
@@ -99,7 +99,7 @@ impl Wakers {
     #[inline(never)]
     fn take(&mut self) -> Option<WakerMove>
         ensures leaves { self.new ≡ record self.old { cell = None; taken = self.old.cell } }
-        ensures tells { result ≡ option_map (λ name. (name, Places.Cell, Places.SenderHand)) self.old.cell }
+        ensures waker { result ≡ option_map (λ name. (name, Places.Cell, Places.SenderHand)) self.old.cell }
     {
         self.taken = self.cell.take();
         Some((self.taken?, WakerPlace::Cell, WakerPlace::SenderHand))
@@ -109,7 +109,7 @@ impl Wakers {
     #[inline(never)]
     fn withdraw(&mut self) -> Option<WakerMove>
         ensures leaves { self.new ≡ record self.old { cell = None; hand = withdrawn self.old.cell self.old.hand } }
-        ensures tells { result ≡ option_map (λ name. (name, Places.Cell, back_to name)) self.old.cell }
+        ensures waker { result ≡ option_map (λ name. (name, Places.Cell, back_to name)) self.old.cell }
     {
         match self.cell.take()? {
             WakerName::Parker => {
@@ -127,7 +127,7 @@ impl Wakers {
           taken = None;
           token = self.old.token || is_parker self.old.taken;
         } }
-        ensures tells { result ≡ option_map (λ name. (name, Places.SenderHand, Places.Used)) self.old.taken }
+        ensures waker { result ≡ option_map (λ name. (name, Places.SenderHand, Places.Used)) self.old.taken }
     {
         let waker = self.taken.take()?;
         self.token = self.token || waker == WakerName::Parker;
@@ -138,7 +138,7 @@ impl Wakers {
     #[inline(never)]
     fn copy(&mut self, copy: Option<WakerName>) -> Option<WakerMove>
         ensures leaves { self.new ≡ record self.old { hand = copy } }
-        ensures tells { result ≡ option_map (λ name. (name, Places.New, Places.Hand)) copy }
+        ensures waker { result ≡ option_map (λ name. (name, Places.New, Places.Hand)) copy }
     {
         self.hand = copy;
         Some((copy?, WakerPlace::New, WakerPlace::Hand))
@@ -148,7 +148,7 @@ impl Wakers {
     #[inline(never)]
     fn drop_hand(&mut self) -> Option<WakerMove>
         ensures leaves { self.new ≡ record self.old { hand = None } }
-        ensures tells { result ≡ option_map (λ name. (name, Places.Hand, Places.Dropped)) self.old.hand }
+        ensures waker { result ≡ option_map (λ name. (name, Places.Hand, Places.Dropped)) self.old.hand }
     {
         Some((self.hand.take()?, WakerPlace::Hand, WakerPlace::Dropped))
     }

@@ -5,7 +5,7 @@ ghost use Rattle.std.specs.Option.{option_and_then};
 ghost use Rattle.oneshot_machine.specs.declared.machine.End.TheVariants as Ends;
 ghost use Rattle.oneshot_world.specs.Calls.{first, as_sender_call, as_receiver_call};
 ghost use Rattle.oneshot_world.specs.State.{position_of_sender, position_of_receiver};
-ghost use Rattle.oneshot_world.specs.World.{opening, opening_place, turn, turn_of, nothing_told, answer_told, told_with};
+ghost use Rattle.oneshot_world.specs.World.{opening, opening_place, turn, turn_of, no_input, receiver_answer, input_of};
 ghost use Rattle.oneshot_world.specs.declared.script.Move.TheVariants as Moves;
 
 use crate::calls::receiver::ReceiverCalls;
@@ -115,17 +115,17 @@ impl World {
 
     #[inline(always)]
     fn step_sender(&mut self) -> Entry
-        ensures { turn_of Ends.Sender nothing_told self.old ≡ Some (result, self.new) }
+        ensures { turn_of Ends.Sender no_input self.old ≡ Some (result, self.new) }
     {
         let Some(position) = self.sender_position() else {
             return Entry::Idle(End::Sender);
         };
-        let told = Input {
+        let input = Input {
             answer: false,
             copy: None,
             own: None,
         };
-        let made = self.state.step_sender(position, told);
+        let made = self.state.step_sender(position, input);
         self.sender.advance(made.reply);
         Entry::Made(made)
     }
@@ -138,8 +138,8 @@ impl World {
             return Entry::Idle(End::Receiver);
         };
         let answer = answer_at(position, over, refuse);
-        let told = told_with(answer, entry, self.receiver.number());
-        let made = self.state.step_receiver(position, told);
+        let input = input_of(answer, entry, self.receiver.number());
+        let made = self.state.step_receiver(position, input);
         self.receiver.advance(made.reply);
         Entry::Made(made)
     }
@@ -148,7 +148,7 @@ impl World {
 /// What a move decides at a position: whether a copy, which only a poll makes, is refused, or whether a
 /// clock is past the deadline.
 fn answer_at(position: ReceiverPos, over: bool, refuse: bool) -> bool
-    ensures { result ≡ answer_told (Some position) over refuse }
+    ensures { result ≡ receiver_answer (Some position) over refuse }
 {
     match position {
         ReceiverPos::Future(FuturePos::PollCopy | FuturePos::AgainCopy) => refuse,
@@ -157,8 +157,8 @@ fn answer_at(position: ReceiverPos, over: bool, refuse: bool) -> bool
 }
 
 /// The input that a move with this answer and entry gives its step. `own` is the number of the poll's own waker.
-fn told_with(answer: bool, entry: usize, own: Option<u64>) -> Input
-    ensures { result ≡ told_with answer entry own }
+fn input_of(answer: bool, entry: usize, own: Option<u64>) -> Input
+    ensures { result ≡ input_of answer entry own }
 {
     let copy = match own {
         Some(number) => Some(WakerName::Copy { number, entry }),

@@ -1,6 +1,5 @@
 //! The texts that `{:?}` prints.
 
-use crate::asserts::assert_same;
 use oneshot_channel::{RecvError, RecvTimeoutError, TryRecvError};
 use std::alloc::Global;
 use std::fmt::Debug;
@@ -14,7 +13,7 @@ fn debug_is<E: Debug>(
     expected: &str,
 ) -> Result<(), Fail> {
     let text = format!(in alloc; "{error:?}")?;
-    assert_same(rt, text.as_str(), expected);
+    assert_eq!(rt; text.as_str(), expected);
     Ok(())
 }
 

@@ -1,6 +1,5 @@
 //! The texts that `{}` prints of each error, through the trait `Error`.
 
-use crate::asserts::assert_same;
 use oneshot_channel::{RecvError, RecvTimeoutError, TryRecvError};
 use std::alloc::Global;
 use std::error::Error;
@@ -14,7 +13,7 @@ fn display_is<E: Error>(
     expected: &str,
 ) -> Result<(), Fail> {
     let text = format!(in alloc; "{error}")?;
-    assert_same(rt, text.as_str(), expected);
+    assert_eq!(rt; text.as_str(), expected);
     Ok(())
 }
 

@@ -2,7 +2,6 @@
 
 ghost use Rattle.std.specs.Prelude.{◌≡◌, ◌<◌, IfOk};
 
-use crate::asserts::{assert_same, assert_that};
 use futures::executor::block_on;
 use futures::future::{Either, select};
 use oneshot_channel::{AsyncReceiver, Promise, RecvError, TryRecvError, async_channel_for};
@@ -43,16 +42,16 @@ fn the_other_message_is_not_lost(rt: HostRuntime) -> Result<(), Fail> {
     for left_sends in [true, false] {
         let (left, left_future) = async_channel_for((), rt.alloc(), &Below(9))?;
         let (right, right_future) = async_channel_for((), rt.alloc(), &Below(9))?;
-        assert_that(&rt, right.send_kept(7).is_ok());
+        assert!(rt; right.send_kept(7).is_ok());
         if left_sends {
-            assert_that(&rt, left.send_kept(5).is_ok());
+            assert!(rt; left.send_kept(5).is_ok());
             let both = first_of(&rt, left_future, right_future)?;
-            assert_same(&rt, both, (Ok(5), Ok(7)));
+            assert_eq!(rt; both, (Ok(5), Ok(7)));
         } else {
             let both = first_of(&rt, left_future, right_future)?;
-            assert_same(&rt, both, (Ok(7), Err(TryRecvError::Empty)));
+            assert_eq!(rt; both, (Ok(7), Err(TryRecvError::Empty)));
             let back = left.send_kept(5).map_err(|error| error.into_inner());
-            assert_same(&rt, back, Err(5));
+            assert_eq!(rt; back, Err(5));
         }
     }
     Ok(())

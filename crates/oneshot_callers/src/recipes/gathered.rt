@@ -2,7 +2,6 @@
 
 ghost use Rattle.std.specs.Prelude.{◌≡◌, ◌≤◌, IfSome};
 
-use crate::asserts::assert_same;
 use oneshot_channel::{Promise, Receiver, Sender, channel_for};
 use std::alloc::Global;
 use std::sync::Wait;
@@ -71,7 +70,7 @@ fn all_counts_add_up(rt: HostRuntime) -> Result<(), Fail> {
                 let _ = scope.spawn(move || count_large(part));
             })
         });
-        assert_same(&rt, counted, wanted);
+        assert_eq!(rt; counted, wanted);
     }
     Ok(())
 }

@@ -5,7 +5,6 @@ ghost use Rattle.std.specs.Prelude.{◌≡◌, ⊤, IfOk};
 mod deadline;
 mod pending;
 
-use crate::asserts::assert_same;
 use oneshot_channel::RecvTimeoutError;
 use oneshot_channel::reply::{Answer, Request, Ticket, request};
 use std::alloc::AllocError;
@@ -52,8 +51,8 @@ fn serve(request: Request<u32, Price>, cents: Option<u64>) -> bool {
 fn a_price_names_its_article(rt: HostRuntime) -> Result<(), Fail> {
     for (article, cents) in [(7, Some(250)), (8, None)] {
         let (request, ticket) = request(&rt, rt.alloc(), article).map_err(|_| AllocError)?;
-        assert_same(&rt, serve(request, cents), true);
-        assert_same(&rt, price_of(ticket), Ok(Price { article, cents }));
+        assert_eq!(rt; serve(request, cents), true);
+        assert_eq!(rt; price_of(ticket), Ok(Price { article, cents }));
     }
     Ok(())
 }

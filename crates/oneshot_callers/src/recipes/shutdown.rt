@@ -3,7 +3,6 @@
 ghost use Rattle.std.specs.Prelude.{◌≤◌, ◌<◌};
 ghost use Rattle.oneshot_channel.specs.Ends.{IsClosed};
 
-use crate::asserts::{assert_same, assert_that};
 use oneshot_channel::{Receiver, RecvTimeoutError, Sender, TryRecvError, channel};
 use std::sync::Wait;
 use std::test::Fail;
@@ -38,7 +37,7 @@ fn shut_down<Rt: Wait + Clock + Drop>(
 #[test]
 fn a_worker_works_until_it_is_told_or_left(rt: HostRuntime) -> Result<(), Fail> {
     let (stop, mut stopped) = channel((), rt.alloc())?;
-    assert_same(&rt, work(&mut stopped, 5, || {}), 5);
+    assert_eq!(rt; work(&mut stopped, 5, || {}), 5);
     let mut stop = Some(stop);
     let mut made = 0u64;
     let turns = work(&mut stopped, u64::MAX, || {
@@ -47,10 +46,10 @@ fn a_worker_works_until_it_is_told_or_left(rt: HostRuntime) -> Result<(), Fail> 
             let _ = stop.take().map(|stop| stop.send(()));
         }
     });
-    assert_same(&rt, turns, 3);
+    assert_eq!(rt; turns, 3);
     let (stop, mut stopped) = channel((), rt.alloc())?;
     drop(stop);
-    assert_same(&rt, work(&mut stopped, 5, || {}), 0);
+    assert_eq!(rt; work(&mut stopped, 5, || {}), 0);
     Ok(())
 }
 
@@ -67,7 +66,7 @@ fn a_worker_reports_the_turns_that_it_made(rt: HostRuntime) -> Result<(), Fail> 
         },
         || shut_down(stop, report),
     );
-    assert_that(&rt, sent);
-    assert_same(&rt, turns, Ok(made));
+    assert!(rt; sent);
+    assert_eq!(rt; turns, Ok(made));
     Ok(())
 }

@@ -16,8 +16,8 @@ use oneshot_word::laws::a_sender_is_in_an_order;
 use oneshot_word::{AnyWaker, Promise, SenderSide};
 use std::marker::Model;
 
-// It has no `Drop`, so that an error's last call runs on its ground.
 /// A refused message, with the side of its sender, whose `send` found the receiver gone.
+// It has no `Drop`, so that an error's last call runs on its ground.
 pub(crate) struct Refused<T, H, K, P: Promise<T>> {
     message: T,
     side: SenderSide<T, H, K, P>,
@@ -26,9 +26,9 @@ pub(crate) struct Refused<T, H, K, P: Promise<T>> {
 impl<T, H, K, P: Promise<T>> Model for Refused<T, H, K, P> {
     ghost use Rattle.oneshot_machine.specs.Phases.{sender_at};
     ghost use Rattle.oneshot_machine.specs.Over.{IsLate};
-    ghost use Rattle.oneshot_ends.specs.Ends.{Failed, WasRefused, channel_at};
+    ghost use Rattle.oneshot_ends.specs.Ends.{RefusedView, WasRefused, channel_at};
 
-    ghost Value = { Failed T P };
+    ghost Value = { RefusedView T P };
 
     ghost view = { λ e. record { message = e.message; channel = channel_at e.side; log = e.side.log } };
 

@@ -18,8 +18,8 @@ use std::marker::Model;
 /// The ground of a channel's receiver.
 pub type ChannelReceiver<T, P> = SharedReceiver<T, WakingHalf, Waker, P>;
 
-// It has no `Drop`: it is released by `received` or `dropped`, which require that the last call is over.
 /// The receiver's ground, between its calls too: its side, with whether it has freed the block.
+/// It has no `Drop`: `received` or `dropped` releases it, and both require that the last call is over.
 pub struct SharedReceiver<T, H, K, P: Promise<T>> {
     pub(super) side: ReceiverSide<T, H, K, P>,
     freed: Freed,

@@ -44,17 +44,17 @@ impl<T, H, K, P: Promise<T>> Unsent<T, H, K, P> {
 
 impl<T, P: Promise<T>> Unsent<T, WakingHalf, Waker, P> {
     /// The ground of the sender's one call.
-    pub(crate) fn into_ground(self) -> SharedSender<T, P>
+    pub(crate) fn into_ground(self) -> SenderBackend<T, P>
         ensures { result.side ≡ self }
     {
         let Unsent { side } = self;
-        SharedSender::new(side)
+        SenderBackend::new(side)
     }
 }
 
-// It has no `Drop`: it is released by `sent`, by `dropped` or as an error, which require that the call is over.
 /// The ground of the sender's one call: its side, with evidence of whom the call has woken.
-pub struct SharedSender<T, P: Promise<T>> {
+/// It has no `Drop`: `sent`, `dropped` or `into_refused` releases it, and all require that the call is over.
+pub struct SenderBackend<T, P: Promise<T>> {
     side: SenderSide<T, WakingHalf, Waker, P>,
     // Whether `free` was called, for proofs alone: the block is freed with the last of both shares.
     freed: Freed,
@@ -62,7 +62,7 @@ pub struct SharedSender<T, P: Promise<T>> {
     given: Option<Given>,
 }
 
-impl<T, P: Promise<T>> Model for SharedSender<T, P> {
+impl<T, P: Promise<T>> Model for SenderBackend<T, P> {
     ghost use Rattle.oneshot_word.specs.declared.any_waker.AnyWaker.{AnyWaker};
     ghost use Rattle.oneshot_ends.specs.declared.token.WakingHalf.{WakingHalf};
     ghost use Rattle.futures.specs.declared.task.waker.Waker.{Waker};
@@ -74,13 +74,13 @@ impl<T, P: Promise<T>> Model for SharedSender<T, P> {
     ghost view = { λ s. record { side = left_of s.freed.value s.side; given = s.given } };
 }
 
-impl<T, P: Promise<T>> SharedSender<T, P> {
+impl<T, P: Promise<T>> SenderBackend<T, P> {
     /// The ground of a sender that has freed nothing.
-    fn new(side: SenderSide<T, WakingHalf, Waker, P>) -> SharedSender<T, P>
+    fn new(side: SenderSide<T, WakingHalf, Waker, P>) -> SenderBackend<T, P>
         ensures { result.side ≡ side }
     {
         let freed = Freed::of(false);
-        SharedSender {
+        SenderBackend {
             side,
             freed,
             given: None,
@@ -88,7 +88,7 @@ impl<T, P: Promise<T>> SharedSender<T, P> {
     }
 }
 
-impl<T: Drop, P: Promise<T>> SharedSender<T, P> {
+impl<T: Drop, P: Promise<T>> SenderBackend<T, P> {
     ghost use Rattle.oneshot_ends.specs.Woken.{HasEnded, phase};
 
     /// Releases the sender after a `send` to a receiver that was there.
@@ -96,7 +96,7 @@ impl<T: Drop, P: Promise<T>> SharedSender<T, P> {
         requires ended { HasEnded sending self }
         requires sent { phase self ≡ finished sending }
     {
-        let SharedSender {
+        let SenderBackend {
             side,
             freed: _,
             given: _,
@@ -108,7 +108,7 @@ impl<T: Drop, P: Promise<T>> SharedSender<T, P> {
     pub(crate) fn dropped(self)
         requires { HasEnded dropping self }
     {
-        let SharedSender {
+        let SenderBackend {
             side,
             freed: _,
             given: _,
@@ -117,7 +117,7 @@ impl<T: Drop, P: Promise<T>> SharedSender<T, P> {
     }
 }
 
-impl<T, P: Promise<T>> SharedSender<T, P> {
+impl<T, P: Promise<T>> SenderBackend<T, P> {
     ghost use Rattle.oneshot_ends.specs.Woken.{HasEnded};
 
     /// Takes the message out of its slot, and returns it with the side.
@@ -129,7 +129,7 @@ impl<T, P: Promise<T>> SharedSender<T, P> {
         ensures table { result.1.table ≡ self.side.table }
         ensures log { result.1.log ≡ self.side.log }
     {
-        let SharedSender {
+        let SenderBackend {
             mut side,
             freed: _,
             given: _,
@@ -139,7 +139,7 @@ impl<T, P: Promise<T>> SharedSender<T, P> {
     }
 }
 
-impl<T, P: Promise<T>> SenderGround<T, AnyWaker<WakingHalf, Waker>> for SharedSender<T, P> {
+impl<T, P: Promise<T>> SenderGround<T, AnyWaker<WakingHalf, Waker>> for SenderBackend<T, P> {
     ghost use Rattle.oneshot_ends.specs.Grounds.{state_of};
     ghost use Rattle.oneshot_ends.specs.Woken.{IsWoken, HasEnded};
     ghost use Rattle.std.proofs.Common.{◌∙◌};
@@ -167,8 +167,8 @@ impl<T, P: Promise<T>> SenderGround<T, AnyWaker<WakingHalf, Waker>> for SharedSe
         self.side.add()
     }
 
-    fn flip(&mut self) -> u8 {
-        self.side.flip()
+    fn xor(&mut self) -> u8 {
+        self.side.xor()
     }
 
     fn swap(&mut self, last: u8) -> u8 {

@@ -16,12 +16,13 @@ use oneshot_drive::{ReceiverGround, TaskGround, WaitGround};
 use oneshot_word::Promise;
 
 /// Stands for a copy of a waker that the ground keeps. Dropping it drops no copy.
+// A driver has a `Copied` for each copy. A copy whose `Copied` it drops stays among the copies.
 #[derive(Drop)]
 pub(crate) struct Copied;
 
-// A driver has a `Copied` for each copy. A copy whose `Copied` it drops stays among the copies.
-/// The ground of a future, lent for one poll, with the poll's task. All borrows of the future share one
-/// lifetime, or the borrow checker would not cover its `poll`.
+/// The ground of a future, lent for one poll, with the poll's task.
+// All borrows of the future share one lifetime: with two, the borrow checker would give up on its `poll`, and leave the
+// whole proof to be written by hand.
 #[derive(Drop)]
 pub(crate) struct Polling<'g, 'c, 'x, G> {
     pub(crate) ground: &'g mut G,
@@ -134,6 +135,7 @@ impl<'g, 'c, 'x, T: Drop, P: Promise<T>> TaskGround<T, Copied>
     }
 
     fn wake_own(&mut self) {
+        // Always `Pending`: the driver decides what the poll returns.
         let _again: Poll<()> = self.cx.yield_now();
     }
 }
@@ -149,6 +151,7 @@ fn register(copies: &mut Copies<Waker>, cx: &mut Context<'_>, source: &Source) -
 {
     let task = cx.task();
     let mut place = copies.take_of(task);
+    // Always `Pending`: the driver decides what the poll returns.
     let _registered: Poll<()> = cx.register(source, &mut place);
     copies.keep_made(task, place)
 }

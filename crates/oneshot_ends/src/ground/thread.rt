@@ -12,9 +12,9 @@ use oneshot_word::Promise;
 use std::sync::Wait;
 use std::time::Clock;
 
+/// The ground of a receiver, lent for one call that blocks, with what it parks by.
 // The ground's type is one parameter `G`: a derived `Drop` requires `Drop` of each parameter, and a channel
 // holds no value of its `P`.
-/// The ground of a receiver, lent for one call that blocks, with what it parks by.
 #[derive(Drop)]
 pub(crate) struct Blocking<'g, 'p, 'r, G, Rt> {
     ground: &'g mut G,
@@ -132,6 +132,7 @@ impl<'g, 'p, 'r, T, Rt: Wait + Clock, P: Promise<T>> BlockGround<T, ChannelWaker
         }
         match self.patience.deadline() {
             Deadline::At(end) => {
+                // Whether it was in time, the driver learns by its next load.
                 let _in_time = self.parker.park_until(self.rt, end, self.ground);
             },
             Deadline::Passed => {}

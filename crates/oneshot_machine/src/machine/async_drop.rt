@@ -38,7 +38,6 @@ impl AsyncDropPos {
         }
     }
 
-    // One arm for each row of the table, in the written order.
     pub(crate) fn row(&self, seen: Seen) -> Option<RowEnd<ReceiverPos>>
         ensures { option_map leads result ≡ row_for seen (async_drop_rows self.now) }
     {

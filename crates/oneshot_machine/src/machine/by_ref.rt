@@ -56,7 +56,6 @@ impl RefPos {
         }
     }
 
-    // One arm for each row of the table, in the written order.
     pub(crate) fn row(&self, seen: Seen) -> Option<RowEnd<ReceiverPos>>
         ensures { option_map leads result ≡ row_for seen (ref_rows self.now) }
     {

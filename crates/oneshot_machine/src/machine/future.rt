@@ -61,7 +61,6 @@ impl FuturePos {
         }
     }
 
-    // One arm for each row of the table, in the written order.
     pub(crate) fn row(&self, seen: Seen) -> Option<RowEnd<ReceiverPos>>
         ensures { option_map leads result ≡ row_for seen (future_rows self.now) }
     {

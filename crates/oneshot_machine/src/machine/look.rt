@@ -29,7 +29,6 @@ impl LookPos {
         }
     }
 
-    // One arm for each row of the table, in the written order.
     pub(crate) fn row(&self, seen: Seen) -> Option<RowEnd<ReceiverPos>>
         ensures { option_map leads result ≡ row_for seen (look_rows self.now) }
     {

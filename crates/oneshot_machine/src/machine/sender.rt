@@ -129,7 +129,6 @@ impl SenderPos {
         }
     }
 
-    // One arm for each row of the table, in the written order.
     fn row(&self, seen: Seen) -> Option<RowEnd<SenderPos>>
         ensures { option_map leads result ≡ sender_row self.now seen }
     {

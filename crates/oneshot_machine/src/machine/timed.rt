@@ -29,7 +29,7 @@ pub enum TimedPos {
     TimedLoad,
     /// Its deadline is over, and it is about to swap `EMPTY` in.
     EndSwap,
-    /// It found its waker in the cell, and is about to take it back.
+    /// It found its waker in the slot, and is about to take it back.
     EndBack,
     /// It found a sender that is about to finish, and is about to park for it.
     LatePark,
@@ -53,7 +53,6 @@ impl TimedPos {
         }
     }
 
-    // One arm for each row of the table, in the written order.
     pub(crate) fn row(&self, seen: Seen) -> Option<RowEnd<ReceiverPos>>
         ensures { option_map leads result ≡ row_for seen (timed_rows self.now) }
     {

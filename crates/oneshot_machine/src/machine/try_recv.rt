@@ -36,7 +36,6 @@ impl TryPos {
         }
     }
 
-    // One arm for each row of the table, in the written order.
     pub(crate) fn row(&self, seen: Seen) -> Option<RowEnd<ReceiverPos>>
         ensures { option_map leads result ≡ row_for seen (try_rows self.now) }
     {

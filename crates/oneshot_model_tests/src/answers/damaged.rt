@@ -8,8 +8,7 @@ mod pieces;
 mod place;
 mod reading;
 
-use crate::answers::told;
-use crate::asserts::assert_same;
+use crate::answers::output_of;
 use reading::{Asked, Kind, read};
 use std::process::{Abort, Termination};
 use std::test::Fail;
@@ -17,7 +16,7 @@ use std::test::Fail;
 /// Asserts that the program's output for `input` agrees with the second reading: the trace of the run that
 /// it asks for, or its first fault.
 fn assert_as_read(rt: &(impl Abort + AllocGlobal), input: &[u8]) -> Result<Kind, Fail> {
-    assert_output(rt, input, &told(rt, input))
+    assert_output(rt, input, &output_of(rt, input))
 }
 
 /// Asserts that this output for `input` agrees with the second reading.
@@ -53,7 +52,7 @@ fn assert_trace(
     assert_rest(rt, lines.next().expect(rt, "a rest"), asked.message)?;
     let block = lines.next().expect(rt, "a block");
     assert!(rt; block == "block here" || block == "block freed", "{block}");
-    assert_same(rt, lines.next(), None);
+    assert_eq!(rt; lines.next(), None);
     Ok(())
 }
 
@@ -77,7 +76,7 @@ fn assert_rest(
     message: Option<&str>,
 ) -> Result<(), Fail> {
     let Some(message) = message else {
-        assert_same(rt, rest, "rest none");
+        assert_eq!(rt; rest, "rest none");
         return Ok(());
     };
     let end = format!(in rt.alloc(); "({message})")?;

@@ -1,8 +1,7 @@
 //! Tests of the faults of an input, with their status: those of the whole input are reported before those of
 //! its lines.
 
-use crate::answers::told;
-use crate::asserts::assert_same;
+use crate::answers::output_of;
 use std::test::Fail;
 
 /// Inputs with a fault of a line, each with what the program reports. Other faults of a line are among the
@@ -36,36 +35,36 @@ const OF_A_LINE: &[(&str, &str); 14] = &[
 #[test]
 fn faults_of_a_line(rt: HostRuntime) {
     for (input, fault) in OF_A_LINE {
-        assert_eq!(rt; told(&rt, input.as_bytes()).as_str(), *fault, "{input:?}");
+        assert_eq!(rt;
+            output_of(&rt, input.as_bytes()).as_str(),
+            *fault,
+            "{input:?}"
+        );
     }
 }
 
 #[test]
 fn bytes_above_127_are_not_ascii(rt: HostRuntime) {
-    assert_same(
-        &rt,
-        told(&rt, b"S\nR\nX\n\x80").as_str(),
-        "2 input is not ASCII",
+    assert_eq!(rt;
+        output_of(&rt, b"S\nR\nX\n\x80").as_str(),
+        "2 input is not ASCII"
     );
-    assert_same(
-        &rt,
-        told(&rt, "S é\nR\nX\n".as_bytes()).as_str(),
-        "2 input is not ASCII",
+    assert_eq!(rt;
+        output_of(&rt, "S é\nR\nX\n".as_bytes()).as_str(),
+        "2 input is not ASCII"
     );
-    assert_same(
-        &rt,
-        told(&rt, b"S \x7f\nR\nX\n").as_str(),
-        "2 line 1: unknown word 1",
+    assert_eq!(rt;
+        output_of(&rt, b"S \x7f\nR\nX\n").as_str(),
+        "2 line 1: unknown word 1"
     );
 }
 
 #[test]
 fn a_byte_above_127_is_told_before_any_line(rt: HostRuntime) {
-    assert_same(&rt, told(&rt, b"\xff").as_str(), "2 input is not ASCII");
-    assert_same(
-        &rt,
-        told(&rt, b"Q\nR\nX\n\xff").as_str(),
-        "2 input is not ASCII",
+    assert_eq!(rt; output_of(&rt, b"\xff").as_str(), "2 input is not ASCII");
+    assert_eq!(rt;
+        output_of(&rt, b"Q\nR\nX\n\xff").as_str(),
+        "2 input is not ASCII"
     );
 }
 
@@ -79,9 +78,13 @@ const FITTING: &[(u8, &str); 2] = &[
 fn a_long_input_is_told_before_all_else(rt: HostRuntime) -> Result<(), Fail> {
     for (byte, fault) in FITTING {
         let mut input = vec![in rt.alloc(); *byte; 1_048_577]?;
-        assert_same(&rt, told(&rt, &input).as_str(), "2 input too long");
+        assert_eq!(rt;
+            output_of(&rt, &input).as_str(),
+            "2 input too long",
+            "of {byte}"
+        );
         input.pop();
-        assert_same(&rt, told(&rt, &input).as_str(), *fault);
+        assert_eq!(rt; output_of(&rt, &input).as_str(), *fault, "of {byte}");
     }
     Ok(())
 }

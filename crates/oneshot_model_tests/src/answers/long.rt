@@ -1,7 +1,6 @@
 //! Tests of long inputs: the output is whole, and the time grows with the length.
 
-use crate::answers::{receives, told};
-use crate::asserts::{assert_same, assert_that};
+use crate::answers::{output_of, receives};
 use std::process::Abort;
 use std::test::Fail;
 use std::time::{Clock, Duration, Instant};
@@ -9,8 +8,8 @@ use std::time::{Clock, Duration, Instant};
 #[test]
 fn as_many_bytes_as_an_input_may_have(rt: HostRuntime) -> Result<(), Fail> {
     let (input, output) = receives(rt.alloc(), 260_000, 8_563)?;
-    assert_same(&rt, input.len(), 1_048_576);
-    assert_that(&rt, told(&rt, input.as_bytes()) == output);
+    assert_eq!(rt; input.len(), 1_048_576);
+    assert!(rt; output_of(&rt, input.as_bytes()) == output);
     Ok(())
 }
 
@@ -23,7 +22,7 @@ fn time_of(
     let (input, output) = receives(rt.alloc(), calls, calls)?;
     let begin = Instant::now(rt)?;
     for _ in 0..times {
-        assert!(rt; told(rt, input.as_bytes()) == output, "{calls} calls");
+        assert!(rt; output_of(rt, input.as_bytes()) == output, "{calls} calls");
     }
     Ok(Instant::now(rt)?.duration_since(begin))
 }

@@ -1,6 +1,6 @@
 //! Tests of inputs that are run, each with its trace.
 
-use crate::answers::{SENT, SENT_TRACE, assert_traces, told};
+use crate::answers::{SENT, SENT_TRACE, assert_traces, output_of};
 use std::test::Fail;
 
 const OF_EACH_CALL: &[(&str, &str); 11] = &[
@@ -662,7 +662,7 @@ rest none
 block here
 ";
     for input in SCHEDULES {
-        assert_eq!(rt; told(&rt, input.as_bytes()).as_str(), trace, "{input}");
+        assert_eq!(rt; output_of(&rt, input.as_bytes()).as_str(), trace, "{input}");
     }
 }
 
@@ -688,7 +688,7 @@ fn traces_of_fronts_of_a_schedule(rt: HostRuntime) -> Result<(), Fail> {
             writeln!(output, "{line}")?;
         }
         writeln!(output, "rest {rest}\n{block}")?;
-        assert_eq!(rt; told(&rt, input.as_bytes()), output, "{moves}");
+        assert_eq!(rt; output_of(&rt, input.as_bytes()), output, "{moves}");
     }
     Ok(())
 }

@@ -1,6 +1,5 @@
 //! Lines of entries that no script's trace shows.
 
-use crate::asserts::assert_same;
 use oneshot_machine::machine::{End, Seen, Step};
 use oneshot_machine::states::Op;
 use oneshot_replay::{Entry, Made, WakerName, WakerPlace};
@@ -32,10 +31,9 @@ fn a_copy_shows_as_its_number_and_its_entry(rt: HostRuntime) -> Result<(), Fail>
         sender_call: None,
         message: 0,
     };
-    assert_same(
-        &rt,
+    assert_eq!(rt;
         line.to_string(rt.alloc())?.as_str(),
-        "13 R exchange 1>1 w18446744073709551615@12:New>Dropped",
+        "13 R exchange 1>1 w18446744073709551615@12:New>Dropped"
     );
     Ok(())
 }

@@ -7,7 +7,6 @@ ghost use Rattle.oneshot_machine.specs.Logs.{receiver_of};
 ghost use Rattle.oneshot_drive.specs.BetweenCalls.{AtRest, IsReady};
 ghost use Rattle.oneshot_drive.specs.Polls.{IsPolled};
 
-use crate::asserts::assert_same;
 use crate::drive::steps::steps_of;
 use oneshot_calls::{Ask, Bare, Call, ReceiverCall, Reply, SenderCall, Task};
 use oneshot_drive::{
@@ -252,7 +251,7 @@ fn assert_life<R: Wait + Abort + AllocGlobal>(rt: &R, life: &Life) -> Result<(),
         "async_channel" => poll_all(rt, lines, last)?,
         _ => return Err(Fail::new("a life of no channel")),
     };
-    assert_same(rt, made.as_str(), steps);
+    assert_eq!(rt; made.as_str(), steps);
     Ok(())
 }
 

@@ -1,6 +1,5 @@
 //! Messages and wakers over grounds in memory that count their drops.
 
-use crate::asserts::{assert_same, assert_that};
 use oneshot_drive::{drop_error, drop_receiver, recv, send};
 use oneshot_memory::{MemoryReceiver, MemorySender};
 use std::cell::Cell;
@@ -20,12 +19,12 @@ fn the_errors_drop_drops_the_message_once(rt: HostRuntime) {
     let drops = Cell::new(0);
     let mut g = MemorySender::<Counted, (), _>::new(&rt, rt.alloc(), false);
     if !send(&mut g, Counted(&drops)) {
-        assert_same(&rt, drops.get(), 0);
+        assert_eq!(rt; drops.get(), 0);
         drop_error(&mut g);
     }
-    assert_same(&rt, drops.get(), 1);
+    assert_eq!(rt; drops.get(), 1);
     drop(g);
-    assert_same(&rt, drops.get(), 1);
+    assert_eq!(rt; drops.get(), 1);
 }
 
 #[test]
@@ -38,11 +37,11 @@ fn a_receiver_that_left_meanwhile_costs_its_waker_and_the_message_once(rt: HostR
     if send(&mut g, Counted(&messages)) {
         panic!(rt; "the receiver left")
     }
-    assert_same(&rt, (messages.get(), wakers.get()), (0, 1));
+    assert_eq!(rt; (messages.get(), wakers.get()), (0, 1));
     drop_error(&mut g);
-    assert_same(&rt, (messages.get(), wakers.get()), (1, 1));
+    assert_eq!(rt; (messages.get(), wakers.get()), (1, 1));
     drop(g);
-    assert_same(&rt, (messages.get(), wakers.get()), (1, 1));
+    assert_eq!(rt; (messages.get(), wakers.get()), (1, 1));
 }
 
 #[test]
@@ -50,8 +49,8 @@ fn send_uses_the_waker_up(rt: HostRuntime) {
     let drops = Cell::new(0);
     let waker = Counted(&drops);
     let mut g = MemorySender::<u64, Counted, _>::with_waiting_receiver(&rt, rt.alloc(), waker);
-    assert_that(&rt, send(&mut g, 7));
-    assert_same(&rt, drops.get(), 1);
+    assert!(rt; send(&mut g, 7));
+    assert_eq!(rt; drops.get(), 1);
 }
 
 #[test]
@@ -60,9 +59,9 @@ fn the_receivers_drop_drops_the_message_once(rt: HostRuntime) {
     let mut g = MemoryReceiver::<Counted, (), _>::new(&rt, rt.alloc());
     g.sender_sends(Counted(&drops));
     drop_receiver(&mut g);
-    assert_same(&rt, drops.get(), 1);
+    assert_eq!(rt; drops.get(), 1);
     drop(g);
-    assert_same(&rt, drops.get(), 1);
+    assert_eq!(rt; drops.get(), 1);
 }
 
 #[test]
@@ -71,9 +70,9 @@ fn recv_gives_the_message_out(rt: HostRuntime) {
     let mut g = MemoryReceiver::<Counted, u8, _>::new(&rt, rt.alloc());
     g.sender_sends(Counted(&drops));
     let received = recv(&mut g, &rt, &mut Some(9));
-    assert_that(&rt, received.is_ok());
-    assert_same(&rt, drops.get(), 0);
+    assert!(rt; received.is_ok());
+    assert_eq!(rt; drops.get(), 0);
     drop(received);
     drop(g);
-    assert_same(&rt, drops.get(), 1);
+    assert_eq!(rt; drops.get(), 1);
 }

@@ -2,7 +2,6 @@
 
 ghost use Rattle.oneshot_drive.specs.BetweenCalls.{IsFresh};
 
-use crate::asserts::assert_same;
 use crate::drive::steps::steps_of;
 use oneshot_drive::{drop_error, drop_sender, into_inner, send};
 use oneshot_memory::MemorySender;
@@ -77,9 +76,9 @@ fn send_makes_its_steps(rt: HostRuntime) -> Result<(), Fail> {
             assert!(rt; *sent, "not {steps}");
         } else {
             assert!(rt; !*sent, "not {steps}");
-            assert_same(&rt, into_inner(&mut g), 7);
+            assert_eq!(rt; into_inner(&mut g), 7);
         }
-        assert_same(&rt, steps_of(rt.alloc(), g.events())?.as_str(), *steps);
+        assert_eq!(rt; steps_of(rt.alloc(), g.events())?.as_str(), *steps);
     }
     Ok(())
 }
@@ -90,16 +89,14 @@ fn the_error_of_a_receiver_that_left_meanwhile_frees_once(rt: HostRuntime) -> Re
     if send(&mut g, 7) {
         panic!(rt; "the receiver left")
     }
-    assert_same(
-        &rt,
+    assert_eq!(rt;
         steps_of(rt.alloc(), g.events())?.as_str(),
-        "write-message, add:0, take-waker, swap 4:2, wake",
+        "write-message, add:0, take-waker, swap 4:2, wake"
     );
     drop_error(&mut g);
-    assert_same(
-        &rt,
+    assert_eq!(rt;
         steps_of(rt.alloc(), g.events())?.as_str(),
-        "write-message, add:0, take-waker, swap 4:2, wake, drop-message, free",
+        "write-message, add:0, take-waker, swap 4:2, wake, drop-message, free"
     );
     Ok(())
 }
@@ -117,7 +114,7 @@ fn the_senders_drop_makes_its_steps(rt: HostRuntime) -> Result<(), Fail> {
     for (receiver, steps) in DROPS {
         let mut g = ground(&rt, rt.alloc(), *receiver);
         drop_sender(&mut g);
-        assert_same(&rt, steps_of(rt.alloc(), g.events())?.as_str(), *steps);
+        assert_eq!(rt; steps_of(rt.alloc(), g.events())?.as_str(), *steps);
     }
     Ok(())
 }

@@ -1,6 +1,5 @@
 //! Receives by clocks that return written readings, count them, or have the sender act at one.
 
-use crate::asserts::{assert_same, assert_that};
 use oneshot_calls::{SenderCall, Sending};
 use oneshot_channel::{Receiver, RecvTimeoutError, Sender, channel};
 use std::alloc::{AllocError, AllocGlobal, Global};
@@ -87,8 +86,8 @@ fn a_deadline_ends_a_receive_once_the_clock_is_past_it(rt: HostRuntime) -> Resul
         let clock = Written::new(&rt, written);
         let (_sender, mut receiver) = by_clock(&clock, rt.alloc())?;
         let received = receiver.recv_deadline(instant_at(&rt, 5)?);
-        assert_same(&rt, received, Err(RecvTimeoutError::Timeout));
-        assert_same(&rt, clock.made(), made);
+        assert_eq!(rt; received, Err(RecvTimeoutError::Timeout), "by {written:?}");
+        assert_eq!(rt; clock.made(), made, "by {written:?}");
     }
     Ok(())
 }
@@ -120,8 +119,8 @@ fn a_timeout_counts_from_one_reading(rt: HostRuntime) -> Result<(), Fail> {
         let clock = Written::new(&rt, written);
         let (_sender, mut receiver) = by_clock(&clock, rt.alloc())?;
         let received = receiver.recv_timeout(Duration::from_nanos(timeout));
-        assert_same(&rt, received, Err(RecvTimeoutError::Timeout));
-        assert_same(&rt, clock.made(), made);
+        assert_eq!(rt; received, Err(RecvTimeoutError::Timeout), "by {written:?}");
+        assert_eq!(rt; clock.made(), made, "by {written:?}");
     }
     Ok(())
 }
@@ -168,7 +167,7 @@ impl Limit {
             Limit::Timeout => receiver.recv_timeout(Duration::from_nanos(SECOND)),
             Limit::Deadline => receiver.recv_deadline(instant_at(rt, SECOND)?),
         };
-        assert_same(rt, received, Err(RecvTimeoutError::Timeout));
+        assert_eq!(rt; received, Err(RecvTimeoutError::Timeout));
         // That for the deadline.
         let first = same.saturating_sub(turns);
         Ok(clock.made().saturating_sub(first))
@@ -180,9 +179,9 @@ impl Limit {
 pub(super) fn assert_spins(rt: &(impl Wait + AllocGlobal + Abort)) -> Result<(), Fail> {
     for limit in [Limit::Timeout, Limit::Deadline] {
         for turns in 0..=SPINS {
-            assert_same(rt, limit.readings(rt, turns)?, turns.saturating_add(1));
+            assert_eq!(rt; limit.readings(rt, turns)?, turns.saturating_add(1));
         }
-        assert_same(rt, limit.readings(rt, SPINS + 1)?, SPINS + 3);
+        assert_eq!(rt; limit.readings(rt, SPINS + 1)?, SPINS + 3);
     }
     Ok(())
 }
@@ -197,8 +196,8 @@ fn a_receive_spins_only_with_a_far_deadline(rt: HostRuntime) -> Result<(), Fail>
         let clock = Written::new(&rt, &[1, 1, 2 * FAR, 2 * FAR]);
         let (_sender, mut receiver) = by_clock(&clock, rt.alloc())?;
         let received = receiver.recv_timeout(Duration::from_nanos(timeout));
-        assert_same(&rt, received, Err(RecvTimeoutError::Timeout));
-        assert_same(&rt, clock.made(), made);
+        assert_eq!(rt; received, Err(RecvTimeoutError::Timeout), "with {timeout}");
+        assert_eq!(rt; clock.made(), made, "with {timeout}");
     }
     Ok(())
 }
@@ -207,12 +206,11 @@ fn a_receive_spins_only_with_a_far_deadline(rt: HostRuntime) -> Result<(), Fail>
 fn a_clock_that_fails_hides_no_message(rt: HostRuntime) -> Result<(), Fail> {
     let clock = Written::new(&rt, &[]);
     let (sender, mut receiver) = by_clock(&clock, rt.alloc())?;
-    assert_that(&rt, sender.send(19).is_ok());
-    assert_same(&rt, receiver.recv_timeout(Duration::from_nanos(5)), Ok(19));
-    assert_same(
-        &rt,
+    assert!(rt; sender.send(19).is_ok());
+    assert_eq!(rt; receiver.recv_timeout(Duration::from_nanos(5)), Ok(19));
+    assert_eq!(rt;
         receiver.recv_timeout(Duration::from_nanos(5)),
-        Err(RecvTimeoutError::Disconnected),
+        Err(RecvTimeoutError::Disconnected)
     );
     Ok(())
 }
@@ -246,12 +244,12 @@ fn a_receive_that_waits_reads_the_clock_few_times(rt: HostRuntime) -> Result<(),
     };
     let (_sender, mut receiver) = channel::<u8, _>(&counting, rt.alloc())?;
     let received = receiver.recv_timeout(Duration::from_millis(20));
-    assert_same(&rt, received, Err(RecvTimeoutError::Timeout));
-    assert_that(&rt, counting.readings.get() < 100);
+    assert_eq!(rt; received, Err(RecvTimeoutError::Timeout));
+    assert!(rt; counting.readings.get() < 100);
     let end = Instant::now(&rt)?.checked_add(Duration::from_millis(20));
     let received = receiver.recv_deadline(end.ok_or("an instant can hold it")?);
-    assert_same(&rt, received, Err(RecvTimeoutError::Timeout));
-    assert_that(&rt, counting.readings.get() < 200);
+    assert_eq!(rt; received, Err(RecvTimeoutError::Timeout));
+    assert!(rt; counting.readings.get() < 200);
     Ok(())
 }
 
@@ -271,14 +269,14 @@ fn a_receive_spins_few_times_before_it_sleeps(rt: HostRuntime) -> Result<(), Fai
     };
     let (_sender, mut receiver) = channel::<u8, _>(&counting, rt.alloc())?;
     let received = receiver.recv_timeout(Duration::from_millis(150));
-    assert_same(&rt, received, Err(RecvTimeoutError::Timeout));
-    assert_that(&rt, counting.readings.get() < READINGS);
+    assert_eq!(rt; received, Err(RecvTimeoutError::Timeout));
+    assert!(rt; counting.readings.get() < READINGS);
     counting.readings.set(0);
     // With less than a tenth of a second left it does not spin: it reads the clock for the sum, before its
     // sleep, twice in it, and after it.
     let received = receiver.recv_timeout(Duration::from_millis(5));
-    assert_same(&rt, received, Err(RecvTimeoutError::Timeout));
-    assert_that(&rt, counting.readings.get() < SPINLESS);
+    assert_eq!(rt; received, Err(RecvTimeoutError::Timeout));
+    assert!(rt; counting.readings.get() < SPINLESS);
     Ok(())
 }
 
@@ -327,8 +325,8 @@ fn a_message_that_comes_at_the_deadline_is_found(rt: HostRuntime) -> Result<(), 
     let clock = Meanwhile::new(&rt);
     let (sender, mut receiver) = channel::<u64, _>(&clock, rt.alloc())?;
     clock.will(sender, SenderCall::Send);
-    assert_same(&rt, receiver.recv_deadline(instant_at(&rt, 5)?), Ok(19));
-    assert_that(&rt, receiver.is_closed());
+    assert_eq!(rt; receiver.recv_deadline(instant_at(&rt, 5)?), Ok(19));
+    assert!(rt; receiver.is_closed());
     Ok(())
 }
 
@@ -338,7 +336,7 @@ fn a_drop_at_the_deadline_is_found(rt: HostRuntime) -> Result<(), Fail> {
     let (sender, mut receiver) = channel::<u64, _>(&clock, rt.alloc())?;
     clock.will(sender, SenderCall::Drop);
     let received = receiver.recv_deadline(instant_at(&rt, 5)?);
-    assert_same(&rt, received, Err(RecvTimeoutError::Disconnected));
-    assert_that(&rt, receiver.is_closed());
+    assert_eq!(rt; received, Err(RecvTimeoutError::Disconnected));
+    assert!(rt; receiver.is_closed());
     Ok(())
 }

@@ -1,6 +1,5 @@
 //! Receives with a timeout: how long they take, and two threads that wait for each other.
 
-use crate::asserts::{assert_same, assert_that};
 use oneshot_calls::{is_overdue, limit};
 use oneshot_channel::{Receiver, RecvTimeoutError, channel};
 use std::io;
@@ -16,8 +15,8 @@ fn a_timeout_that_runs_out_takes_its_time(rt: HostRuntime) -> Result<(), Fail> {
     let short = Duration::from_millis(2);
     let start = Instant::now(&rt)?;
     let received = receiver.recv_timeout(short);
-    assert_that(&rt, start.elapsed(&rt)? > short);
-    assert_same(&rt, received, Err(RecvTimeoutError::Timeout));
+    assert!(rt; start.elapsed(&rt)? > short);
+    assert_eq!(rt; received, Err(RecvTimeoutError::Timeout));
     Ok(())
 }
 
@@ -54,8 +53,8 @@ fn two_threads_answer_each_other(rt: HostRuntime) -> Result<(), Fail> {
             (to_left.send(2).is_ok(), received)
         },
     );
-    assert_same(&rt, (left.0, left.1?), (true, Ok(2)));
-    assert_same(&rt, (right.0, right.1?), (true, Ok(1)));
+    assert_eq!(rt; (left.0, left.1?), (true, Ok(2)));
+    assert_eq!(rt; (right.0, right.1?), (true, Ok(1)));
     Ok(())
 }
 

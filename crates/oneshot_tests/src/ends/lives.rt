@@ -1,7 +1,6 @@
 //! Lives of a channel, line by line: what each step returns, and what the looks of both ends return after it.
 
 use super::steps::{Ends, Life, read};
-use crate::asserts::assert_same;
 use oneshot_calls::{Fault, Tasks, shows};
 use std::alloc::AllocGlobal;
 use std::io;
@@ -355,7 +354,7 @@ fn a_line_with_an_unknown_word_is_no_step(rt: HostRuntime) {
             .ok()
             .expect(&rt, "memory");
         let fault = read(rt.alloc(), &text).err();
-        assert_same(&rt, fault, Some(Fault::Unknown(line)));
+        assert_eq!(rt; fault, Some(Fault::Unknown(line)));
     }
 }
 

@@ -1,6 +1,5 @@
 //! A channel whose message is the sender of another channel.
 
-use crate::asserts::{assert_same, assert_that};
 use oneshot_channel::{Receiver, Sender, TryRecvError, channel};
 use std::alloc::{AllocError, AllocGlobal};
 use std::test::Fail;
@@ -32,15 +31,11 @@ fn a_sender_that_nobody_receives_is_dropped(rt: HostRuntime) -> Result<(), Fail>
         inner_sender,
         mut inner_receiver,
     } = make_nest(&rt)?;
-    assert_that(&rt, outer_sender.send(inner_sender).is_ok());
-    assert_that(&rt, !inner_receiver.is_closed());
+    assert!(rt; outer_sender.send(inner_sender).is_ok());
+    assert!(rt; !inner_receiver.is_closed());
     drop(outer_receiver);
-    assert_that(&rt, inner_receiver.is_closed());
-    assert_same(
-        &rt,
-        inner_receiver.try_recv(),
-        Err(TryRecvError::Disconnected),
-    );
+    assert!(rt; inner_receiver.is_closed());
+    assert_eq!(rt; inner_receiver.try_recv(), Err(TryRecvError::Disconnected));
     Ok(())
 }
 
@@ -54,14 +49,10 @@ fn a_sender_that_is_refused_lives_as_long_as_the_error(rt: HostRuntime) -> Resul
     } = make_nest(&rt)?;
     drop(outer_receiver);
     let refused = outer_sender.send(inner_sender);
-    assert_that(&rt, refused.is_err());
-    assert_same(&rt, inner_receiver.try_recv(), Err(TryRecvError::Empty));
+    assert!(rt; refused.is_err());
+    assert_eq!(rt; inner_receiver.try_recv(), Err(TryRecvError::Empty));
     drop(refused);
-    assert_same(
-        &rt,
-        inner_receiver.try_recv(),
-        Err(TryRecvError::Disconnected),
-    );
+    assert_eq!(rt; inner_receiver.try_recv(), Err(TryRecvError::Disconnected));
     Ok(())
 }
 
@@ -73,11 +64,11 @@ fn a_sender_that_is_received_sends(rt: HostRuntime) -> Result<(), Fail> {
         inner_sender,
         mut inner_receiver,
     } = make_nest(&rt)?;
-    assert_that(&rt, outer_sender.send(inner_sender).is_ok());
+    assert!(rt; outer_sender.send(inner_sender).is_ok());
     let Ok(sender) = outer_receiver.recv() else {
         panic!(rt; "the sender was sent")
     };
-    assert_that(&rt, sender.send(5).is_ok());
-    assert_same(&rt, inner_receiver.try_recv(), Ok(5));
+    assert!(rt; sender.send(5).is_ok());
+    assert_eq!(rt; inner_receiver.try_recv(), Ok(5));
     Ok(())
 }

@@ -2,7 +2,6 @@
 
 ghost use Rattle.std.specs.Prelude.{◌≡◌};
 
-use crate::asserts::{assert_same, assert_that};
 use futures::Future;
 use futures::executor::block_on;
 use futures::future::join;
@@ -69,8 +68,8 @@ fn a_send_of_another_thread_wakes_the_task(rt: HostRuntime) -> Result<(), Fail> 
             sender.send(19u8).is_ok()
         },
     );
-    assert_that(&rt, sent);
-    assert_same(&rt, received?, Ok(19));
+    assert!(rt; sent);
+    assert_eq!(rt; received?, Ok(19));
     let polls = polls.load(Ordering::SeqCst);
     assert!(rt; 1 < polls && polls <= MOST_POLLS, "{polls} polls");
     Ok(())
@@ -118,8 +117,8 @@ fn polls_of_two<R: thread::Threads + Wait + Clock + RandomSource + AllocGlobal +
             first && sender.send(19u8).is_ok()
         },
     );
-    assert_that(rt, sent);
-    assert_same(rt, received?, (Ok(19), Ok(1)));
+    assert!(rt; sent);
+    assert_eq!(rt; received?, (Ok(19), Ok(1)));
     Ok(polls.load(Ordering::SeqCst))
 }
 
@@ -153,8 +152,8 @@ fn two_threads_and_two_executors_poll_one_receiver(rt: HostRuntime) -> Result<()
     let (sender, receiver) = async_channel(&rt, rt.alloc())?;
     let receiver = polled_there(&rt, receiver).expect(&rt, "it is given back");
     let receiver = polled_there(&rt, receiver).expect(&rt, "it is given back");
-    assert_that(&rt, sender.send(19u8).is_ok());
-    assert_same(&rt, block_on(&rt, receiver)?, Ok(19));
+    assert!(rt; sender.send(19u8).is_ok());
+    assert_eq!(rt; block_on(&rt, receiver)?, Ok(19));
     Ok(())
 }
 
@@ -162,12 +161,12 @@ fn two_threads_and_two_executors_poll_one_receiver(rt: HostRuntime) -> Result<()
 fn a_message_that_was_sent_before_is_ready_at_once(rt: HostRuntime) -> Result<(), Fail> {
     let polls = AtomicU64::new(0);
     let (sender, receiver) = async_channel(&rt, rt.alloc())?;
-    assert_that(&rt, sender.send(19u8).is_ok());
+    assert!(rt; sender.send(19u8).is_ok());
     let counted = Counted {
         receiver,
         polls: &polls,
     };
-    assert_same(&rt, block_on(&rt, counted)?, Ok(19));
-    assert_same(&rt, polls.load(Ordering::SeqCst), 1);
+    assert_eq!(rt; block_on(&rt, counted)?, Ok(19));
+    assert_eq!(rt; polls.load(Ordering::SeqCst), 1);
     Ok(())
 }

@@ -2,7 +2,6 @@
 
 ghost use Rattle.std.specs.Prelude.{◌≡◌};
 
-use crate::asserts::{assert_same, assert_that};
 use futures::executor::block_on;
 use oneshot_channel::{Promise, TryRecvError, async_channel_for, channel_for};
 use std::test::Fail;
@@ -18,18 +17,18 @@ impl Promise<u32> for Only {
 #[test]
 fn a_channel_under_a_promise_carries_its_message(rt: HostRuntime) -> Result<(), Fail> {
     let (sender, mut receiver) = channel_for((), rt.alloc(), &Only(5))?;
-    assert_same(&rt, receiver.try_recv(), Err(TryRecvError::Empty));
-    assert_that(&rt, sender.send_kept(5).is_ok());
-    assert_same(&rt, receiver.try_recv(), Ok(5));
+    assert_eq!(rt; receiver.try_recv(), Err(TryRecvError::Empty));
+    assert!(rt; sender.send_kept(5).is_ok());
+    assert_eq!(rt; receiver.try_recv(), Ok(5));
     Ok(())
 }
 
 #[test]
 fn a_future_under_a_promise_carries_its_message(rt: HostRuntime) -> Result<(), Fail> {
     let (sender, receiver) = async_channel_for((), rt.alloc(), &Only(5))?;
-    assert_that(&rt, !receiver.is_closed());
-    assert_that(&rt, sender.send_kept(5).is_ok());
-    assert_same(&rt, block_on(&rt, receiver)?, Ok(5));
+    assert!(rt; !receiver.is_closed());
+    assert!(rt; sender.send_kept(5).is_ok());
+    assert_eq!(rt; block_on(&rt, receiver)?, Ok(5));
     Ok(())
 }
 
@@ -38,6 +37,6 @@ fn a_send_to_a_dropped_future_is_refused(rt: HostRuntime) -> Result<(), Fail> {
     let (sender, receiver) = async_channel_for::<u32, (), Only>((), rt.alloc(), &Only(5))?;
     drop(receiver);
     let refused = sender.send_kept(5);
-    assert_same(&rt, refused.map_err(|error| error.into_inner()), Err(5));
+    assert_eq!(rt; refused.map_err(|error| error.into_inner()), Err(5));
     Ok(())
 }

@@ -1,6 +1,5 @@
 //! Raw ends that go to other threads.
 
-use crate::asserts::{assert_same, assert_that};
 use oneshot_channel::{RawReceiver, RawSender, Receiver, Sender, channel};
 use std::test::Fail;
 use std::thread::{Threads, join};
@@ -24,7 +23,7 @@ fn both_there_and_back<T: Send + Drop, Rt: Send + Drop>(
 fn raw_ends_go_to_other_threads_and_back(rt: HostRuntime) -> Result<(), Fail> {
     let (sender, receiver) = channel::<u32, ()>((), rt.alloc())?;
     let (sender, receiver) = both_there_and_back(&rt, sender.into_raw(), receiver.into_raw());
-    assert_that(&rt, Sender::from_raw(sender).send(100).is_ok());
-    assert_same(&rt, Receiver::from_raw(receiver).try_recv(), Ok(100));
+    assert!(rt; Sender::from_raw(sender).send(100).is_ok());
+    assert_eq!(rt; Receiver::from_raw(receiver).try_recv(), Ok(100));
     Ok(())
 }

@@ -1,6 +1,5 @@
 //! The texts of the error that carries a refused message.
 
-use crate::asserts::assert_same;
 use oneshot_channel::channel;
 use std::test::Fail;
 
@@ -12,10 +11,10 @@ fn the_errors_texts_are_printed(rt: HostRuntime) -> Result<(), Fail> {
         panic!(rt; "the receiver is gone")
     };
     let shown = format!(in rt.alloc(); "{error}")?;
-    assert_same(&rt, shown.as_str(), "sending on a closed channel");
+    assert_eq!(rt; shown.as_str(), "sending on a closed channel");
     let wide = format!(in rt.alloc(); "{error:>30}")?;
-    assert_same(&rt, wide.as_str(), "   sending on a closed channel");
+    assert_eq!(rt; wide.as_str(), "   sending on a closed channel");
     let debugged = format!(in rt.alloc(); "{error:?}")?;
-    assert_same(&rt, debugged.as_str(), "SendError(_)");
+    assert_eq!(rt; debugged.as_str(), "SendError(_)");
     Ok(())
 }

@@ -1,6 +1,5 @@
 //! What threads share: a sender, a raw sender, and the error of a refused message.
 
-use crate::asserts::{assert_same, assert_that};
 use oneshot_channel::{RawSender, SendError, Sender, channel};
 use std::mem::size_of_val;
 use std::test::Fail;
@@ -14,9 +13,9 @@ fn two_looks<T: Send + Sync>(rt: &impl Threads, sender: &Sender<T>) -> (bool, bo
 #[test]
 fn two_threads_look_at_one_sender(rt: HostRuntime) -> Result<(), Fail> {
     let (sender, receiver) = channel::<u8, ()>((), rt.alloc())?;
-    assert_same(&rt, two_looks(&rt, &sender), (false, false));
+    assert_eq!(rt; two_looks(&rt, &sender), (false, false));
     drop(receiver);
-    assert_same(&rt, two_looks(&rt, &sender), (true, true));
+    assert_eq!(rt; two_looks(&rt, &sender), (true, true));
     Ok(())
 }
 
@@ -38,8 +37,8 @@ fn an_error_is_read_and_emptied_by_other_threads(rt: HostRuntime) -> Result<(), 
     let Err(error) = sender.send(5) else {
         panic!(rt; "the receiver is gone")
     };
-    assert_same(&rt, two_readings(&rt, &error), (5, 5));
-    assert_same(&rt, taken_there(&rt, error), 5);
+    assert_eq!(rt; two_readings(&rt, &error), (5, 5));
+    assert_eq!(rt; taken_there(&rt, error), 5);
     Ok(())
 }
 
@@ -53,8 +52,8 @@ fn two_threads_share_a_raw_sender(rt: HostRuntime) -> Result<(), Fail> {
     let (sender, receiver) = channel::<u8, ()>((), rt.alloc())?;
     let raw = sender.into_raw();
     let size = size_of_val(&raw);
-    assert_same(&rt, two_sights(&rt, &raw), (size, size));
-    assert_that(&rt, Sender::from_raw(raw).send(5).is_ok());
-    assert_that(&rt, receiver.has_message());
+    assert_eq!(rt; two_sights(&rt, &raw), (size, size));
+    assert!(rt; Sender::from_raw(raw).send(5).is_ok());
+    assert!(rt; receiver.has_message());
     Ok(())
 }

@@ -1,6 +1,5 @@
 //! Two tasks of one executor that wait for one future and for something else, and how often each is woken.
 
-use crate::asserts::assert_that;
 use futures::Future;
 use futures::executor::LocalPool;
 use futures::task::{Context, Poll, Source, Waker};
@@ -212,7 +211,7 @@ fn a_task_that_waits_beside_others_is_woken_by_the_sender_alone(
 ) -> Result<(), Fail> {
     for waits in WAITS {
         let (sender, future) = async_channel(&rt, rt.alloc())?;
-        let act = || assert_that(&rt, sender.send(19u64).is_ok());
+        let act = || assert!(rt; sender.send(19u64).is_ok());
         waited_for(&rt, waits, Receiving::of_future(future), act, "Ok(19)")?;
         let (sender, future) = async_channel::<u64, _>(&rt, rt.alloc())?;
         let future = Receiving::of_future(future);

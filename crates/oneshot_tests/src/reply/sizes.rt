@@ -2,7 +2,6 @@
 
 ghost use Rattle.std.specs.Prelude.{◌≡◌};
 
-use crate::asserts::{assert_same, assert_that};
 use futures::executor::block_on;
 use oneshot_channel::async_channel;
 use oneshot_channel::reply::{Answer, Ticket, request};
@@ -49,7 +48,7 @@ fn answered<'r, R: AllocGlobal + Abort, Q: Copy + Eq + Send + Drop>(
     let echo = Echo {
         question: *request.question(),
     };
-    assert_that(rt, request.fits(&echo) && request.answer(echo).is_ok());
+    assert!(rt; request.fits(&echo) && request.answer(echo).is_ok());
     Ok(ticket)
 }
 
@@ -59,18 +58,18 @@ fn assert_comes<
     Q: Copy + Debug + Eq + Send + Drop,
 >(rt: &R, question: Q, wanted: Q) -> Result<(), Fail> {
     let (sender, mut receiver) = async_channel((), rt.alloc())?;
-    assert_that(rt, sender.send(question).is_ok());
-    assert_same(rt, receiver.try_recv(), Ok(wanted));
+    assert!(rt; sender.send(question).is_ok());
+    assert_eq!(rt; receiver.try_recv(), Ok(wanted));
     let taken = answered(rt, question)?.try_take();
-    assert_same(rt, taken.map(question_of), Ok(wanted));
+    assert_eq!(rt; taken.map(question_of), Ok(wanted));
     let waited = answered(rt, question)?.wait();
-    assert_same(rt, waited.map(question_of), Ok(wanted));
+    assert_eq!(rt; waited.map(question_of), Ok(wanted));
     let waited = answered(rt, question)?.wait_for(Duration::ZERO);
-    assert_same(rt, waited.map(question_of), Ok(wanted));
+    assert_eq!(rt; waited.map(question_of), Ok(wanted));
     let tried = answered(rt, question)?.into_future().try_recv();
-    assert_same(rt, tried.map(question_of), Ok(wanted));
+    assert_eq!(rt; tried.map(question_of), Ok(wanted));
     let awaited = block_on(rt, answered(rt, question)?.into_future())?;
-    assert_same(rt, awaited.map(question_of), Ok(wanted));
+    assert_eq!(rt; awaited.map(question_of), Ok(wanted));
     Ok(())
 }
 

@@ -1,7 +1,6 @@
 //! Requests, tickets and replies on threads other than their makers'.
 
 use super::{TEXT, ask, bytes_of};
-use crate::asserts::{assert_same, assert_that};
 use oneshot_channel::TryRecvError;
 use oneshot_channel::reply::{Answer, Length, Request, Ticket};
 use std::test::Fail;
@@ -34,8 +33,8 @@ fn answered_there<Q: Eq + Send + Drop, A: Answer<Q> + Send + Drop>(
 fn a_request_and_its_ticket_go_to_other_threads(rt: HostRuntime) -> Result<(), Fail> {
     let (request, ticket) = ask((), rt.alloc())?;
     let length = Length::of(String::from_str(rt.alloc(), TEXT)?);
-    assert_that(&rt, answered_there(&rt, request, length));
-    assert_same(&rt, taken_there(&rt, ticket).map(bytes_of), Ok(21));
+    assert!(rt; answered_there(&rt, request, length));
+    assert_eq!(rt; taken_there(&rt, ticket).map(bytes_of), Ok(21));
     Ok(())
 }
 
@@ -50,8 +49,8 @@ fn two_looks<Q: Eq + Send + Sync, A: Answer<Q> + Send + Sync>(
 #[test]
 fn two_threads_look_at_one_request(rt: HostRuntime) -> Result<(), Fail> {
     let (request, ticket) = ask((), rt.alloc())?;
-    assert_same(&rt, two_looks(&rt, &request), (false, false));
+    assert_eq!(rt; two_looks(&rt, &request), (false, false));
     drop(ticket);
-    assert_same(&rt, two_looks(&rt, &request), (true, true));
+    assert_eq!(rt; two_looks(&rt, &request), (true, true));
     Ok(())
 }

@@ -1,7 +1,6 @@
 //! Waits for a reply: by a task that waits for something else too, and with a timeout by a written clock.
 
 use super::{answer, ask, bytes_of};
-use crate::asserts::{assert_same, assert_that};
 use crate::ends::clocks::{TIMEOUTS, Written};
 use crate::ends::wakes::{WAITS, waited_for};
 use oneshot_calls::Receiving;
@@ -15,7 +14,7 @@ fn a_task_that_waits_for_a_reply_is_woken_by_the_request_alone(
 ) -> Result<(), Fail> {
     for waits in WAITS {
         let (request, ticket) = ask(&rt, rt.alloc())?;
-        let act = || assert_that(&rt, matches!(answer(request), Ok(Ok(()))));
+        let act = || assert!(rt; matches!(answer(request), Ok(Ok(()))));
         waited_for(
             &rt,
             waits,
@@ -41,18 +40,17 @@ fn a_ticket_waits_to_the_nanosecond(rt: HostRuntime) -> Result<(), Fail> {
     for (timeout, written, made) in TIMEOUTS {
         let clock = Written::new(&rt, written);
         let (_request, mut ticket) = ask(&clock, rt.alloc())?;
-        assert_same(
-            &rt,
+        assert_eq!(rt;
             ticket.wait_for(Duration::from_nanos(timeout)).map(bytes_of),
-            Err(RecvTimeoutError::Timeout),
+            Err(RecvTimeoutError::Timeout)
         );
-        assert_same(&rt, clock.made(), made);
+        assert_eq!(rt; clock.made(), made);
     }
     // A reply that has come is taken even if the clock fails.
     let clock = Written::new(&rt, &[]);
     let (request, mut ticket) = ask(&clock, rt.alloc())?;
-    assert_that(&rt, answer(request)?.is_ok());
+    assert!(rt; answer(request)?.is_ok());
     let waited = ticket.wait_for(Duration::from_nanos(5));
-    assert_same(&rt, waited.map(bytes_of), Ok(21));
+    assert_eq!(rt; waited.map(bytes_of), Ok(21));
     Ok(())
 }

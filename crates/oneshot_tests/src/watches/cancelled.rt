@@ -1,7 +1,6 @@
 //! Requests whose server is told when nobody waits: each call of both ends, and when the server is told.
 
 use super::MOMENT;
-use crate::asserts::{assert_same, assert_that};
 use crate::reply::{TEXT, bytes_of};
 use futures::executor::block_on;
 use futures::task::Poll;
@@ -43,16 +42,16 @@ fn answer(
 #[test]
 fn a_reply_is_taken_once(rt: HostRuntime) -> Result<(), Fail> {
     let (request, mut ticket) = ask((), rt.alloc())?;
-    assert_same(&rt, request.question().as_str(), TEXT);
-    assert_that(&rt, !request.is_cancelled() && !ticket.is_closed());
+    assert_eq!(rt; request.question().as_str(), TEXT);
+    assert!(rt; !request.is_cancelled() && !ticket.is_closed());
     let early = ticket.try_take().map(bytes_of);
-    assert_same(&rt, early, Err(TryRecvError::Empty));
-    assert_that(&rt, answer(request)?.is_ok());
-    assert_that(&rt, !ticket.is_closed());
-    assert_same(&rt, ticket.try_take().map(bytes_of), Ok(21));
+    assert_eq!(rt; early, Err(TryRecvError::Empty));
+    assert!(rt; answer(request)?.is_ok());
+    assert!(rt; !ticket.is_closed());
+    assert_eq!(rt; ticket.try_take().map(bytes_of), Ok(21));
     let again = ticket.try_take().map(bytes_of);
-    assert_same(&rt, again, Err(TryRecvError::Disconnected));
-    assert_that(&rt, ticket.is_closed());
+    assert_eq!(rt; again, Err(TryRecvError::Disconnected));
+    assert!(rt; ticket.is_closed());
     Ok(())
 }
 
@@ -61,15 +60,15 @@ fn a_reply_is_waited_for(rt: HostRuntime) -> Result<(), Fail> {
     let (request, mut ticket) = ask(&rt, rt.alloc())?;
     let moment = Duration::from_millis(1);
     let early = ticket.wait_for(moment).map(bytes_of);
-    assert_same(&rt, early, Err(RecvTimeoutError::Timeout));
-    assert_that(&rt, answer(request)?.is_ok());
-    assert_same(&rt, ticket.wait_for(moment).map(bytes_of), Ok(21));
+    assert_eq!(rt; early, Err(RecvTimeoutError::Timeout));
+    assert!(rt; answer(request)?.is_ok());
+    assert_eq!(rt; ticket.wait_for(moment).map(bytes_of), Ok(21));
     let (request, ticket) = ask(&rt, rt.alloc())?;
-    assert_that(&rt, answer(request)?.is_ok());
-    assert_same(&rt, ticket.wait().map(bytes_of), Ok(21));
+    assert!(rt; answer(request)?.is_ok());
+    assert_eq!(rt; ticket.wait().map(bytes_of), Ok(21));
     let (request, ticket) = ask(&rt, rt.alloc())?;
     drop(request);
-    assert_same(&rt, ticket.wait().map(bytes_of), Err(RecvError));
+    assert_eq!(rt; ticket.wait().map(bytes_of), Err(RecvError));
     Ok(())
 }
 
@@ -78,19 +77,19 @@ fn a_reply_is_awaited(rt: HostRuntime) -> Result<(), Fail> {
     let task = MockTask::new(&rt)?;
     let (request, ticket) = ask((), rt.alloc())?;
     let mut reply = ticket.into_future();
-    assert_that(&rt, matches!(task.poll(&mut reply), Poll::Pending));
+    assert!(rt; matches!(task.poll(&mut reply), Poll::Pending));
     let early = reply.try_recv().map(bytes_of);
-    assert_same(&rt, early, Err(TryRecvError::Empty));
-    assert_that(&rt, !reply.has_message() && !task.is_woken());
-    assert_that(&rt, answer(request)?.is_ok());
-    assert_that(&rt, reply.has_message() && task.is_woken());
-    assert_same(&rt, block_on(&rt, reply)?.map(bytes_of), Ok(21));
+    assert_eq!(rt; early, Err(TryRecvError::Empty));
+    assert!(rt; !reply.has_message() && !task.is_woken());
+    assert!(rt; answer(request)?.is_ok());
+    assert!(rt; reply.has_message() && task.is_woken());
+    assert_eq!(rt; block_on(&rt, reply)?.map(bytes_of), Ok(21));
     let (request, ticket) = ask((), rt.alloc())?;
     let reply = ticket.into_future();
-    assert_that(&rt, !reply.is_closed());
+    assert!(rt; !reply.is_closed());
     drop(request);
-    assert_that(&rt, reply.is_closed());
-    assert_same(&rt, block_on(&rt, reply)?.map(bytes_of), Err(RecvError));
+    assert!(rt; reply.is_closed());
+    assert_eq!(rt; block_on(&rt, reply)?.map(bytes_of), Err(RecvError));
     Ok(())
 }
 
@@ -98,16 +97,16 @@ fn a_reply_is_awaited(rt: HostRuntime) -> Result<(), Fail> {
 fn a_ticket_that_goes_is_told_and_its_reply_comes_back(rt: HostRuntime) -> Result<(), Fail> {
     let (request, ticket) = ask((), rt.alloc())?;
     drop(ticket);
-    assert_that(&rt, request.is_cancelled());
+    assert!(rt; request.is_cancelled());
     let Err(length) = answer(request)? else {
         return Err(Fail::new("an answer without a ticket"));
     };
-    assert_same(&rt, length.bytes(), 21);
+    assert_eq!(rt; length.bytes(), 21);
     let (request, ticket) = ask((), rt.alloc())?;
     let (request, mut watch) = request.into_parts();
-    assert_that(&rt, !watch.is_gone() && !request.is_cancelled());
+    assert!(rt; !watch.is_gone() && !request.is_cancelled());
     drop(ticket);
-    assert_that(&rt, watch.is_gone() && request.is_cancelled());
+    assert!(rt; watch.is_gone() && request.is_cancelled());
     Ok(())
 }
 
@@ -116,9 +115,9 @@ fn an_awaited_reply_that_goes_is_told(rt: HostRuntime) -> Result<(), Fail> {
     let (request, ticket) = ask((), rt.alloc())?;
     let (request, mut watch) = request.into_parts();
     let reply = ticket.into_future();
-    assert_that(&rt, !watch.is_gone());
+    assert!(rt; !watch.is_gone());
     drop(reply);
-    assert_that(&rt, watch.is_gone() && request.is_cancelled());
+    assert!(rt; watch.is_gone() && request.is_cancelled());
     Ok(())
 }
 
@@ -136,8 +135,8 @@ fn a_ticket_that_waits_is_there(rt: HostRuntime) -> Result<(), Fail> {
             was_there
         },
     );
-    assert_same(&rt, reply, Err(RecvError));
-    assert_that(&rt, was_there);
-    assert_that(&rt, watch.is_gone());
+    assert_eq!(rt; reply, Err(RecvError));
+    assert!(rt; was_there);
+    assert!(rt; watch.is_gone());
     Ok(())
 }

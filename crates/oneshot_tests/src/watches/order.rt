@@ -1,6 +1,5 @@
 //! A ticket is gone before its server is told: what the ticket drops sees that the guard is still there.
 
-use crate::asserts::assert_same;
 use crate::reply::TEXT;
 use oneshot_channel::reply::Length;
 use oneshot_watch::{CancellableTicket, Watch, cancellable_request};
@@ -60,8 +59,8 @@ fn ticket_of<'a>(
 
 /// Stops the test unless the server was told, and only after the ticket was gone.
 fn assert_told_last(rt: &impl Abort, server: &Server) {
-    assert_same(rt, server.was_told.get(), Some(false));
-    assert_same(rt, server.is_told(), Some(true));
+    assert_eq!(rt; server.was_told.get(), Some(false));
+    assert_eq!(rt; server.is_told(), Some(true));
 }
 
 #[test]
@@ -76,7 +75,7 @@ fn a_ticket_is_gone_before_its_server_is_told(rt: HostRuntime) -> Result<(), Fai
 fn an_awaited_reply_is_gone_before_its_server_is_told(rt: HostRuntime) -> Result<(), Fail> {
     let server = Server::new();
     let reply = ticket_of(rt.alloc(), &server)?.into_future();
-    assert_same(&rt, server.is_told(), Some(false));
+    assert_eq!(rt; server.is_told(), Some(false));
     drop(reply);
     assert_told_last(&rt, &server);
     Ok(())

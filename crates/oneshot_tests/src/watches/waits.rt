@@ -1,7 +1,6 @@
 //! Waits of a watch: by another thread, and to the nanosecond by a written clock.
 
 use super::MOMENT;
-use crate::asserts::{assert_same, assert_that};
 use crate::ends::clocks::{TIMEOUTS, UNTIL_FIVE, Written, instant_at};
 use oneshot_watch::{Watch, watch};
 use std::process::Abort;
@@ -35,7 +34,7 @@ where
             drop(guard);
         },
     );
-    assert_that(rt, start.elapsed(rt)? < Duration::from_secs(MOST));
+    assert!(rt; start.elapsed(rt)? < Duration::from_secs(MOST));
     Ok(gone)
 }
 
@@ -45,20 +44,16 @@ fn a_wait_ends_once_the_guard_is_gone(rt: HostRuntime) -> Result<(), Fail> {
         watch.wait();
         watch.is_gone()
     })?;
-    assert_that(&rt, gone);
-    assert_that(
-        &rt,
+    assert!(rt; gone);
+    assert!(rt;
         sees_it_go(
             &rt,
             |mut watch| watch.wait_timeout(Duration::from_secs(LIMIT)),
-        )?,
+        )?
     );
     let deadline = Instant::now(&rt)?.checked_add(Duration::from_secs(LIMIT));
     let deadline = deadline.expect(&rt, "an instant in ten seconds");
-    assert_that(
-        &rt,
-        sees_it_go(&rt, |mut watch| watch.wait_deadline(deadline))?,
-    );
+    assert!(rt; sees_it_go(&rt, |mut watch| watch.wait_deadline(deadline))?);
     Ok(())
 }
 
@@ -68,10 +63,10 @@ fn a_wait_for_a_guard_that_is_gone_ends_at_once(rt: HostRuntime) -> Result<(), F
     let clock = Written::new(&rt, &[]);
     let (guard, mut watch) = watch(&clock, rt.alloc())?;
     drop(guard);
-    assert_that(&rt, watch.wait_deadline(instant_at(&rt, 5)?));
-    assert_that(&rt, watch.wait_timeout(Duration::ZERO));
+    assert!(rt; watch.wait_deadline(instant_at(&rt, 5)?));
+    assert!(rt; watch.wait_timeout(Duration::ZERO));
     watch.wait();
-    assert_that(&rt, watch.is_gone());
+    assert!(rt; watch.is_gone());
     Ok(())
 }
 
@@ -80,8 +75,8 @@ fn a_deadline_ends_a_wait_once_the_clock_is_past_it(rt: HostRuntime) -> Result<(
     for (written, made) in UNTIL_FIVE {
         let clock = Written::new(&rt, written);
         let (_guard, mut watch) = watch(&clock, rt.alloc())?;
-        assert_that(&rt, !watch.wait_deadline(instant_at(&rt, 5)?));
-        assert_same(&rt, clock.made(), made);
+        assert!(rt; !watch.wait_deadline(instant_at(&rt, 5)?));
+        assert_eq!(rt; clock.made(), made);
     }
     Ok(())
 }
@@ -91,8 +86,8 @@ fn a_timeout_of_a_wait_counts_from_one_reading(rt: HostRuntime) -> Result<(), Fa
     for (timeout, written, made) in TIMEOUTS {
         let clock = Written::new(&rt, written);
         let (_guard, mut watch) = watch(&clock, rt.alloc())?;
-        assert_that(&rt, !watch.wait_timeout(Duration::from_nanos(timeout)));
-        assert_same(&rt, clock.made(), made);
+        assert!(rt; !watch.wait_timeout(Duration::from_nanos(timeout)));
+        assert_eq!(rt; clock.made(), made);
     }
     Ok(())
 }

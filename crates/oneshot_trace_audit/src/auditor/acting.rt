@@ -19,7 +19,7 @@ pub(crate) fn acts(call: Call, made: &Made, later: &[Entry]) -> bool {
     }
 }
 
-/// A `send` or a sender's drop acts at its add or flip if that finds no waiting receiver, and otherwise at
+/// A `send` or a sender's drop acts at its add or xor if that finds no waiting receiver, and otherwise at
 /// its swap.
 fn finishes(made: &Made) -> bool {
     match made.step {

@@ -182,7 +182,7 @@ pub(crate) const POLLED_ONCE: Damaged = (
             ),
         ),
         (
-            "another message is told",
+            "another message is trace",
             "rrrrrssssrrrrs",
             &[Edit::Rest(Some((Place::Dropped, 8)))],
             (

@@ -112,13 +112,13 @@ pub(crate) const TAKEN: Damaged = (
             (2, Fault::MessagePut { to: Place::InError }),
         ),
         (
-            "the rest is told as none",
+            "the rest is trace as none",
             "ssrrrrr",
             &[Edit::Rest(None)],
             (7, Fault::ToldRest { rest: None }),
         ),
         (
-            "the rest is told at another place",
+            "the rest is trace at another place",
             "ssrrrrr",
             &[Edit::Rest(Some((Place::Dropped, 7)))],
             (
@@ -224,13 +224,13 @@ pub(crate) const TAKEN: Damaged = (
             (1, Fault::IdleTooEarly(End::Sender)),
         ),
         (
-            "the end of the block is not told",
+            "the end of the block is not trace",
             "ssrrrrr",
             &[Edit::BlockFreed(false)],
             (7, Fault::ToldFreed { block_freed: false }),
         ),
         (
-            "the end of the block is told too early",
+            "the end of the block is trace too early",
             "ssrrrr",
             &[Edit::BlockFreed(true)],
             (6, Fault::ToldFreed { block_freed: true }),

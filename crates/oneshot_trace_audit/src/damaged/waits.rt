@@ -111,7 +111,7 @@ pub(crate) const WOKEN: Damaged = (
             ),
         ),
         (
-            "a rest is told where none was sent",
+            "a rest is trace where none was sent",
             "rrrssssrrr",
             &[Edit::Rest(Some((Place::Dropped, 7)))],
             (

@@ -3,7 +3,6 @@
 ghost use Rattle.std.specs.Prelude.{◌≡◌, IfOk};
 
 use super::{Price, serve};
-use crate::asserts::{assert_same, assert_that};
 use futures::executor::block_on;
 use futures::task::{Doorbell, Solo};
 use oneshot_channel::reply::{Ticket, request};
@@ -95,7 +94,7 @@ fn a_price_comes_in_time_or_not(rt: HostRuntime) -> Result<(), Fail> {
         Err(RecvTimeoutError::Timeout),
         Err(RecvTimeoutError::Disconnected),
     ];
-    assert_same(&rt, prices, wanted);
-    assert_that(&rt, !was_late);
+    assert_eq!(rt; prices, wanted);
+    assert!(rt; !was_late);
     Ok(())
 }

@@ -5,7 +5,6 @@ ghost use Rattle.std.specs.Ordering.{nat_cmp};
 ghost use Rattle.std.specs.BTreeMap.{get};
 
 use super::Price;
-use crate::asserts::{assert_same, assert_that};
 use oneshot_channel::TryRecvError;
 use oneshot_channel::reply::{Request, Ticket, request};
 use std::alloc::{AllocError, Global};
@@ -46,14 +45,14 @@ fn each_price_reaches_its_ticket(rt: HostRuntime) -> Result<(), Fail> {
     let mut pending = BTreeMap::new(rt.alloc());
     let mut seven = ask((), rt.alloc(), &mut pending, 7)?;
     let mut eight = ask((), rt.alloc(), &mut pending, 8)?;
-    assert_that(&rt, settle(&mut pending, price(8, 90)));
-    assert_same(&rt, seven.try_take(), Err(TryRecvError::Empty));
-    assert_that(&rt, settle(&mut pending, price(7, 250)));
-    assert_that(&rt, !settle(&mut pending, price(7, 251)));
-    assert_that(&rt, !settle(&mut pending, price(9, 10)));
-    assert_same(&rt, seven.try_take(), Ok(price(7, 250)));
-    assert_same(&rt, eight.try_take(), Ok(price(8, 90)));
-    assert_same(&rt, pending.len(), 0);
+    assert!(rt; settle(&mut pending, price(8, 90)));
+    assert_eq!(rt; seven.try_take(), Err(TryRecvError::Empty));
+    assert!(rt; settle(&mut pending, price(7, 250)));
+    assert!(rt; !settle(&mut pending, price(7, 251)));
+    assert!(rt; !settle(&mut pending, price(9, 10)));
+    assert_eq!(rt; seven.try_take(), Ok(price(7, 250)));
+    assert_eq!(rt; eight.try_take(), Ok(price(8, 90)));
+    assert_eq!(rt; pending.len(), 0);
     Ok(())
 }
 

@@ -1,13 +1,13 @@
 -- Proofs of the goals that `examples_are_so` leaves.
-use Rattle.oneshot_contract_examples.proofs.DriverExamples.{ends_that_are, ends_that_are_not, calls_that_leave, calls_that_do_not, replies_that_are, hands_that_are, hands_that_are_not}
+use Rattle.oneshot_contract_examples.proofs.DriverExamples.{phases_that_are, phases_that_are_not, calls_that_leave, calls_that_do_not, replies_that_are, hands_that_are, hands_that_are_not}
 use Rattle.oneshot_contract_examples.proofs.GroundExamples.{grounds_that_are, grounds_that_are_not, wakers_that_are, wakers_that_are_not}
 use Rattle.oneshot_contract_examples.proofs.drivers.examples_are_so.Goals as goal
 
 pub returns : goal.returns
 returns c =
     record {
-      ends = ends_that_are;
-      no_ends = ends_that_are_not;
+      ends = phases_that_are;
+      no_ends = phases_that_are_not;
       calls = calls_that_leave;
       no_calls = calls_that_do_not;
       replies = replies_that_are;

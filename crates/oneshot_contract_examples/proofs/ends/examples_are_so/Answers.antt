@@ -1,8 +1,8 @@
 -- Proofs of the goals that `examples_are_so` leaves.
-use Rattle.oneshot_contract_examples.proofs.TokenExamples.{states_that_are_not, lives_that_are, lives_that_are_not, steps_that_wake, steps_that_do_not, wakers_that_woke, wakers_that_did_not}
-use Rattle.oneshot_contract_examples.proofs.EndExamples.{ends_that_are, ends_that_are_not, calls_that_grow, calls_that_do_not, copies_that_are}
+use Rattle.oneshot_contract_examples.proofs.TokenExamples.{tokens_that_are_not, lives_that_are, lives_that_are_not, steps_that_wake, steps_that_do_not, wakers_that_woke, wakers_that_did_not}
+use Rattle.oneshot_contract_examples.proofs.EndExamples.{ends_that_are, ends_that_are_not, calls_that_grow, calls_that_do_not_grow, copies_that_are}
 use Rattle.oneshot_contract_examples.proofs.EndExamples.{copies_that_are_not}
-use Rattle.oneshot_contract_examples.proofs.EndExamples.{grounds_that_are, grounds_that_are_not, orders_that_are, orders_that_are_not}
+use Rattle.oneshot_contract_examples.proofs.EndExamples.{real_grounds_that_are, real_grounds_that_are_not, ordered_logs, unordered_logs}
 use Rattle.oneshot_contract_examples.proofs.OwnExamples.{uses_that_are, uses_that_are_not}
 use Rattle.oneshot_contract_examples.proofs.TakenExamples.{takes_that_are, takes_that_are_not}
 use Rattle.oneshot_contract_examples.proofs.ends.examples_are_so.Goals as goal
@@ -13,20 +13,20 @@ returns g c =
       ends = ends_that_are;
       no_ends = ends_that_are_not;
       calls = calls_that_grow;
-      no_calls = calls_that_do_not;
+      no_calls = calls_that_do_not_grow;
       copies = copies_that_are;
       no_copies = copies_that_are_not;
-      grounds = grounds_that_are;
-      no_grounds = grounds_that_are_not;
-      no_states = states_that_are_not;
+      grounds = real_grounds_that_are;
+      no_grounds = real_grounds_that_are_not;
+      no_states = tokens_that_are_not;
       lives = lives_that_are;
       no_lives = lives_that_are_not;
       wakes = steps_that_wake;
       no_wakes = steps_that_do_not;
       woken = wakers_that_woke;
       unwoken = wakers_that_did_not;
-      orders = orders_that_are;
-      no_orders = orders_that_are_not;
+      orders = ordered_logs;
+      no_orders = unordered_logs;
       uses = uses_that_are;
       no_uses = uses_that_are_not;
       takes = takes_that_are;

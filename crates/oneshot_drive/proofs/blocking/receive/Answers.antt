@@ -58,27 +58,28 @@ returns-in-Closed g c =
       keeps = c.find.ensures.keeps;
     }
 
-pub store-requires-in-Unclosed : goal.store-requires-in-Unclosed
-store-requires-in-Unclosed g c =
-    (let ends = rw c.in-Unclosed.is at c.find.ensures.ends in asks (Store DISCONNECTED) ends.1 refl)
+pub store-requires-in-Overwritten : goal.store-requires-in-Overwritten
+store-requires-in-Overwritten g c =
+    (let ends = rw c.in-Overwritten.is at c.find.ensures.ends in asks (Store DISCONNECTED) ends.1 refl)
 
-pub returns-in-Unclosed : goal.returns-in-Unclosed
-returns-in-Unclosed g c =
-    let ends = rw c.in-Unclosed.is at c.find.ensures.ends in
+pub returns-in-Overwritten : goal.returns-in-Overwritten
+returns-in-Overwritten g c =
+    let ends = rw c.in-Overwritten.is at c.find.ensures.ends in
     let over =
-    shut c.store-in-Unclosed.result ends.1 c.store-in-Unclosed.ensures.finds c.store-in-Unclosed.ensures.log in
+    shut c.store-in-Overwritten.result ends.1 c.store-in-Overwritten.ensures.finds c.store-in-Overwritten.ensures.log in
     record {
-      run = shut_ran c.store-in-Unclosed.result (rw c.in-Unclosed.is at (c.find.ensures.path (by_ref c.args.timed)))
-          c.store-in-Unclosed.ensures.log;
+      run = shut_ran c.store-in-Overwritten.result
+          (rw c.in-Overwritten.is at (c.find.ensures.path (by_ref c.args.timed)))
+          c.store-in-Overwritten.ensures.log;
       rests = rests_over over;
       leaves = over_leaves over;
       stays = λ is_closed. refl;
-      hand = hands (rw c.in-Unclosed.is at c.find.ensures.hand) closed_itself over.phase;
+      hand = hands (rw c.in-Overwritten.is at c.find.ensures.hand) closed_itself over.phase;
       endless = search rules;
       given = search rules;
-      has = g.met.G.BlockGround.has_on _ _ _ c.store-in-Unclosed.ensures.keeps c.find.ensures.has;
+      has = g.met.G.BlockGround.has_on _ _ _ c.store-in-Overwritten.ensures.keeps c.find.ensures.has;
       had = search rules;
-      keeps = g.G.ReceiverGround.keeps_on _ _ _ c.find.ensures.keeps c.store-in-Unclosed.ensures.keeps;
+      keeps = g.G.ReceiverGround.keeps_on _ _ _ c.find.ensures.keeps c.store-in-Overwritten.ensures.keeps;
     }
 
 pub returns-in-Nothing : goal.returns-in-Nothing

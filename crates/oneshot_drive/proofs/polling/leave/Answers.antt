@@ -1,6 +1,6 @@
 -- Proofs of the goals that `leave` leaves.
 use Rattle.oneshot_drive.proofs.Names.{inl, is_in}
-use Rattle.oneshot_drive.proofs.LeftCopies.{leave_asks, left, left_waits, left_phase, left_there, none_left, withdrew_full, withdrew_over, leave_waits, leave_full, leave_over}
+use Rattle.oneshot_drive.proofs.LeftCopies.{leave_asks, copy_left, left_waits, left_phase, left_there, none_left, withdrew_full, withdrew_over, leave_waits, leave_full, leave_over}
 use Rattle.oneshot_drive.proofs.OwnCopies.{wrote_none, on_word, on_withdraw, on_write}
 use Rattle.oneshot_drive.proofs.polling.leave.Goals as goal
 
@@ -16,13 +16,13 @@ returns-then-word-eq-EMPTY-clause-path g c =
 
 pub returns-then-word-eq-EMPTY-clause-ends : goal.returns-then-word-eq-EMPTY-clause-ends
 returns-then-word-eq-EMPTY-clause-ends g c =
-    left_waits (left c.exchange-word.result c.exchange-word.ensures.finds c.exchange-word.ensures.log)
+    left_waits (copy_left c.exchange-word.result c.exchange-word.ensures.finds c.exchange-word.ensures.log)
     c.if-word-eq-EMPTY.true
 
 pub returns-then-word-eq-EMPTY-clause-task : goal.returns-then-word-eq-EMPTY-clause-task
 returns-then-word-eq-EMPTY-clause-task g c = λ nothing.
     inl (
-      left_phase (left c.exchange-word.result c.exchange-word.ensures.finds c.exchange-word.ensures.log)
+      left_phase (copy_left c.exchange-word.result c.exchange-word.ensures.finds c.exchange-word.ensures.log)
           c.if-word-eq-EMPTY.true,
       c.exchange-word.ensures.has _ c.write_waker.ensures.has,
     )
@@ -34,13 +34,13 @@ returns-then-word-eq-EMPTY-clause-own g c =
 
 pub withdraw-requires : goal.withdraw-requires
 withdraw-requires g c =
-    is_in (left_there (left c.exchange-word.result c.exchange-word.ensures.finds c.exchange-word.ensures.log)
+    is_in (left_there (copy_left c.exchange-word.result c.exchange-word.ensures.finds c.exchange-word.ensures.log)
     c.if-word-eq-EMPTY.false)
 
 pub returns-then-word-eq-MESSAGE : goal.returns-then-word-eq-MESSAGE
 returns-then-word-eq-MESSAGE g c =
     let on = g.G.ReceiverGround.keeps_on in
-    let found = left c.exchange-word.result c.exchange-word.ensures.finds c.exchange-word.ensures.log in
+    let found = copy_left c.exchange-word.result c.exchange-word.ensures.finds c.exchange-word.ensures.log in
     record {
       path = leave_full c.args.copy c.withdraw.result c.exchange-word.result c.if-word-eq-MESSAGE.true
           c.write_waker.ensures.log c.exchange-word.ensures.log c.withdraw.ensures.log;
@@ -56,7 +56,7 @@ returns-then-word-eq-MESSAGE g c =
 pub returns-else-word-eq-MESSAGE : goal.returns-else-word-eq-MESSAGE
 returns-else-word-eq-MESSAGE g c =
     let on = g.G.ReceiverGround.keeps_on in
-    let found = left c.exchange-word.result c.exchange-word.ensures.finds c.exchange-word.ensures.log in
+    let found = copy_left c.exchange-word.result c.exchange-word.ensures.finds c.exchange-word.ensures.log in
     record {
       path = leave_over c.args.copy c.withdraw.result c.exchange-word.result
           (none_left found c.if-word-eq-EMPTY.false c.if-word-eq-MESSAGE.false)

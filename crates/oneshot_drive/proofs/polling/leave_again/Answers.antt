@@ -7,7 +7,7 @@ use Rattle.oneshot_machine.specs.declared.machine.Seen.TheVariants.{Word}
 use Rattle.oneshot_drive.specs.declared.found.Found.TheVariants as F
 use Rattle.oneshot_drive.specs.Polls.{WritesItsCopy, LeavesTask}
 use Rattle.oneshot_drive.proofs.AfterOperations.{Lands, asks, withdrew_waker}
-use Rattle.oneshot_drive.proofs.LeftCopies.{refused, copied_on, owned_ends, may_leave, again_backed, backed_copy, backed_full, backed_none, backed_sender, backed_other, again_to, again_left}
+use Rattle.oneshot_drive.proofs.LeftCopies.{copy_refused, copied_on, owned_ends, may_leave, again_backed, backed_copy, backed_full, backed_none, backed_sender, backed_other, again_to, again_left}
 use Rattle.oneshot_drive.proofs.LeftCopies.{again_late}
 use Rattle.oneshot_drive.proofs.OwnCopies.{wrote_none, on_word, on_withdraw, on_own, on_copy, on_refusal}
 use Rattle.oneshot_drive.proofs.polling.leave_again.Given as given
@@ -17,7 +17,7 @@ use Rattle.oneshot_drive.proofs.polling.leave_again.Goals.{After-exchange}
 pub returns-in_default : goal.returns-in_default
 returns-in_default g c =
     record {
-      path = refused c.copy.result (search rules) refl refl c.copy.ensures.log c.wake_own.ensures.log;
+      path = copy_refused c.copy.result (search rules) refl refl c.copy.ensures.log c.wake_own.ensures.log;
       ends = owned_ends leaves_its_copy (copied_on c.copy.result c.requires c.copy.ensures.log
           c.copy.ensures.message
           c.copy.ensures.waker) c.wake_own.ensures.log c.wake_own.ensures.message c.wake_own.ensures.waker;

@@ -1,13 +1,13 @@
 -- Proofs of the goals that `leave_first` leaves.
 use Rattle.std.specs.Prelude.{IfSome}
 use Rattle.oneshot_drive.proofs.Names.{Some, rules, refl, subst, inr, leaves_uncopied}
-use Rattle.oneshot_drive.proofs.LeftCopies.{refused, copied_on, owned_ends, may_leave, first_left}
+use Rattle.oneshot_drive.proofs.LeftCopies.{copy_refused, copied_on, owned_ends, may_leave, first_left}
 use Rattle.oneshot_drive.proofs.OwnCopies.{wrote_none, on_own, on_copy, on_refusal}
 use Rattle.oneshot_drive.proofs.polling.leave_first.Goals as goal
 
 pub returns-in_default-clause-path : goal.returns-in_default-clause-path
 returns-in_default-clause-path g c =
-    refused c.copy.result (search rules) refl refl c.copy.ensures.log c.wake_own.ensures.log
+    copy_refused c.copy.result (search rules) refl refl c.copy.ensures.log c.wake_own.ensures.log
 
 pub returns-in_default-clause-ends : goal.returns-in_default-clause-ends
 returns-in_default-clause-ends g c =

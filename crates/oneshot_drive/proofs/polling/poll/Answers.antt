@@ -3,7 +3,7 @@ use Rattle.oneshot_drive.proofs.Names.{rules, sym, ◌∙◌, is_disconnected, i
 use Rattle.oneshot_drive.proofs.AfterOperations.{took_message}
 use Rattle.oneshot_drive.proofs.Stretches.{whole}
 use Rattle.oneshot_drive.proofs.Receives.{full_asks, closed_over}
-use Rattle.oneshot_drive.proofs.PollLoads.{taken_rests, taken_leaves, poll_ran, pending_rests, pending_leaves, gone, gone_rests, gone_leaves}
+use Rattle.oneshot_drive.proofs.PollLoads.{taken_rests, taken_leaves, poll_ran, pending_rests, pending_leaves, poll_gone, gone_rests, gone_leaves}
 use Rattle.oneshot_drive.proofs.OwnCopies.{then_word, then_took}
 use Rattle.oneshot_drive.proofs.polling.poll.Goals as goal
 
@@ -58,7 +58,7 @@ returns-in-Nothing g c =
 
 pub returns-in-Closed : goal.returns-in-Closed
 returns-in-Closed g c =
-    let over = gone (g.G.ReceiverGround.state c.meet.new.g) c.meet.result c.meet.ensures.ends (search rules)
+    let over = poll_gone (g.G.ReceiverGround.state c.meet.new.g) c.meet.result c.meet.ensures.ends (search rules)
     (search rules) in
     let run = whole (rw over.0 at c.meet.ensures.path) in
     record {

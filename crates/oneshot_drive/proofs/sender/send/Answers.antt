@@ -2,7 +2,7 @@
 use Rattle.oneshot_drive.proofs.Names.{[], ◌∷◌, rules, refl, Send, Add, sender_of, sending, fresh, none, filled, Reply, StandsWith, SenderWoke, message_kept, send_few}
 use Rattle.oneshot_machine.specs.Over.{SenderIsOver, over_finished}
 use Rattle.oneshot_drive.proofs.AfterOperations.{sender_asks}
-use Rattle.oneshot_drive.proofs.SenderCalls.{left, written, send_owes, added_here, added_waiting, added, added_none, refused, overtaken_error, is_too_late}
+use Rattle.oneshot_drive.proofs.SenderCalls.{slot_left, written, send_owes, added_here, added_waiting, added, added_none, refused_error, overtaken_error, is_too_late}
 use Rattle.oneshot_drive.proofs.SenderRuns.{send_ran, send_refused, send_woke}
 use Rattle.oneshot_drive.proofs.EndsOver.{over_at, last_is_over, last_found, late_over, woken_by}
 use Rattle.oneshot_drive.proofs.sender.send.Given as given
@@ -52,7 +52,7 @@ returns-in-3 g c =
       sent = λ _. here.stands.phase;
       ended = let_go g c'.After-add over did;
       bounded = send_few did.ran;
-      gave = λ sent. c.add.ensures.gave c.args.message c.write_message.ensures.message (left here.stands.message);
+      gave = λ sent. c.add.ensures.gave c.args.message c.write_message.ensures.message (slot_left here.stands.message);
       keeps = keeps_both g c'.After-add;
     }
 
@@ -88,7 +88,7 @@ returns-in-2 g c =
     record {
       run = did.ran;
       woke = did;
-      refused = λ _. refused c.args.message gone.stands
+      refused = λ _. refused_error c.args.message gone.stands
           (message_kept c.add.ensures.finds c.write_message.ensures.message gone.stands.message);
       late = λ _. is_too_late gone.stands;
       over = late_over gone.stands;

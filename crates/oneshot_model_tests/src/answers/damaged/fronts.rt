@@ -2,8 +2,7 @@
 
 use crate::answers::damaged::assert_as_read;
 use crate::answers::damaged::reading::Kind;
-use crate::answers::told;
-use crate::asserts::assert_same;
+use crate::answers::output_of;
 use std::alloc::AllocGlobal;
 use std::process::{Abort, Termination};
 use std::test::Fail;
@@ -41,11 +40,11 @@ fn each_front_of_an_input(rt: HostRuntime) -> Result<(), Fail> {
     }
     for (index, letter) in SCHEDULE.as_bytes().iter().enumerate() {
         front.push(*letter)?;
-        assert_same(&rt, assert_as_read(&rt, &front)?, Kind::Trace);
-        let lines = told(&rt, &front).lines().count();
-        assert_same(&rt, lines, index.saturating_add(3));
+        assert_eq!(rt; assert_as_read(&rt, &front)?, Kind::Trace);
+        let lines = output_of(&rt, &front).lines().count();
+        assert_eq!(rt; lines, index.saturating_add(3));
     }
-    let trace = told(&rt, &front);
+    let trace = output_of(&rt, &front);
     front.push(b'\n')?;
     assert_told(&rt, &front, &trace)
 }
@@ -53,7 +52,7 @@ fn each_front_of_an_input(rt: HostRuntime) -> Result<(), Fail> {
 /// Asserts the program's output for `input`, and that the second reading agrees.
 fn assert_told(rt: &(impl Abort + AllocGlobal), input: &[u8], output: &str) -> Result<(), Fail> {
     assert_eq!(rt;
-        told(rt, input).as_str(),
+        output_of(rt, input).as_str(),
         output,
         "{}",
         input.escape_ascii()

@@ -2,7 +2,6 @@
 
 use super::{FAILURES, Failures, INTERRUPTS, Reader, ending};
 use crate::answers::{SENT, SENT_TRACE, assert_trace, idle};
-use crate::asserts::assert_that;
 use oneshot_streams::fault::Fault;
 use oneshot_streams::run::run;
 use std::io;
@@ -74,10 +73,7 @@ fn an_endless_input_is_too_long(rt: HostRuntime) {
     let mut reader = Endless { given: 0 };
     let mut written = Vec::new(rt.alloc());
     let ended = run(rt.alloc(), &mut reader, &mut written);
-    assert_that(&rt, matches!(ended, Err(Fault::InputTooLong)));
-    assert_that(&rt, written.is_empty());
-    assert_that(
-        &rt,
-        reader.given > 1_048_576 && reader.given <= 1_048_576 + 4096,
-    );
+    assert!(rt; matches!(ended, Err(Fault::InputTooLong)));
+    assert!(rt; written.is_empty());
+    assert!(rt; reader.given > 1_048_576 && reader.given <= 1_048_576 + 4096);
 }

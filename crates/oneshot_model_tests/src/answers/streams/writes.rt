@@ -2,7 +2,6 @@
 
 use super::{FAILURES, Failures, INTERRUPTS, Reader, Writer, ending};
 use crate::answers::{SENT, SENT_TRACE, idle};
-use crate::asserts::{assert_same, assert_that};
 use oneshot_streams::answer::answer;
 use std::io::ErrorKind;
 use std::test::Fail;
@@ -30,8 +29,12 @@ fn short_reads_and_writes_move_all(rt: HostRuntime) {
     for &(input, trace) in TRACES {
         let mut writer = Writer::new(rt.alloc(), 1, Failures::none());
         let mut reader = Reader::new(input, Failures::none());
-        assert_same(&rt, ending(&rt, &mut reader, &mut writer).as_str(), "0 ");
-        assert_same(&rt, writer.written.as_slice(), trace.as_bytes());
+        assert_eq!(rt;
+            ending(&rt, &mut reader, &mut writer).as_str(),
+            "0 ",
+            "{input}"
+        );
+        assert_eq!(rt; writer.written.as_slice(), trace.as_bytes(), "{input}");
     }
 }
 
@@ -50,7 +53,7 @@ fn a_failed_write_ends_the_output(rt: HostRuntime) {
                     "{kind:?} after {before} writes"
                 );
                 assert_eq!(rt; writer.written.len(), before, "{kind:?}");
-                assert_that(&rt, trace.as_bytes().starts_with(&writer.written));
+                assert!(rt; trace.as_bytes().starts_with(&writer.written));
                 assert_eq!(rt;
                     writer.failures.after,
                     0,
@@ -88,7 +91,7 @@ fn a_long_output_ends_where_a_write_fails(rt: HostRuntime) -> Result<(), Fail> {
         let mut writer = Writer::new(rt.alloc(), 1000, failures);
         let ended = ending(&rt, &mut input.as_bytes(), &mut writer);
         if ended.as_str() == "0 " {
-            assert_same(&rt, writer.written.as_slice(), output.as_bytes());
+            assert_eq!(rt; writer.written.as_slice(), output.as_bytes());
             return Ok(());
         }
         assert_eq!(rt; ended.as_str(), "1 write failed\n", "after {before} writes");
@@ -109,7 +112,7 @@ fn a_long_output_ends_where_a_write_fails(rt: HostRuntime) -> Result<(), Fail> {
 fn a_writer_that_takes_nothing_has_failed(rt: HostRuntime) {
     let mut writer = Writer::new(rt.alloc(), 0, Failures::none());
     let ended = ending(&rt, &mut SENT.as_bytes(), &mut writer);
-    assert_same(&rt, ended.as_str(), "1 write failed\n");
+    assert_eq!(rt; ended.as_str(), "1 write failed\n");
 }
 
 #[test]
@@ -118,6 +121,6 @@ fn where_a_fault_cannot_be_told_the_status_tells(rt: HostRuntime) {
     let mut errors = Writer::new(rt.alloc(), 100, broken);
     let mut written = Vec::new(rt.alloc());
     let status = answer(rt.alloc(), &mut &b"Q"[..], &mut written, &mut errors);
-    assert_same(&rt, status, 2);
-    assert_that(&rt, written.is_empty() && errors.written.is_empty());
+    assert_eq!(rt; status, 2);
+    assert!(rt; written.is_empty() && errors.written.is_empty());
 }

@@ -2,7 +2,7 @@
 use Rattle.std.proofs.Common.{rules, ◌≡◌, ℕ, refl}
 use Rattle.oneshot_machine.specs.declared.states.Op.TheVariants.{Load, Swap}
 use Rattle.oneshot_machine.specs.declared.states.TheConstants.{RECEIVING, EMPTY}
-use Rattle.oneshot_machine.specs.Phases.{blocked, waits, here, between, receiver_at}
+use Rattle.oneshot_machine.specs.Phases.{blocked, waits, idle, after_timeout, receiver_at}
 use Rattle.oneshot_machine.specs.Slots.{Held, away, vacant, held, is_away, is_vacant, stays_away, stays_vacant, gets_thing, head, tail, may, finds, ReceiverFinds}
 use Rattle.oneshot_word.specs.Side.{ReceiverDid}
 use Rattle.oneshot_part_tests.proofs.Shown.{Plain, stops_only, ReceiverIs, receiver_can, receiver_told, receiver_went, receiver_is, receiver_changed}
@@ -14,12 +14,12 @@ module _ {T W : Type 0} where
   found_waiting (finds (tail (tail (tail (tail head)))) stays_away (gets_thing k)) = (k, refl, refl)
   found_waiting (finds (tail (tail (tail (tail (tail (tail (tail (tail there)))))))) _ _) = elim there [ ]
 
-  found_none : {m : Held T} {w : Held W} → ReceiverFinds (here between) Load EMPTY away vacant m w → w ≡ vacant
+  found_none : {m : Held T} {w : Held W} → ReceiverFinds (idle after_timeout) Load EMPTY away vacant m w → w ≡ vacant
   found_none (finds head stays_away stays_vacant) = refl
   found_none (finds (tail (tail (tail (tail (tail (tail there)))))) _ _) = elim there [ ]
 
   stops : {s t : Plain T W} {found : ℕ} → receiver_at s.log ≡ waits blocked → ReceiverDid s (Swap EMPTY) found t
-      → found ≡ RECEIVING → (k : W) × ReceiverIs t (here between) away (held k)
+      → found ≡ RECEIVING → (k : W) × ReceiverIs t (idle after_timeout) away (held k)
   stops {s} at did same =
       let it = found_waiting (receiver_told (Swap EMPTY) RECEIVING (receiver_is s at) did same) in (
         it.0,
@@ -27,7 +27,7 @@ module _ {T W : Type 0} where
       )
 
   takes : {s t u : Plain T W} {found : ℕ} → receiver_at s.log ≡ waits blocked → ReceiverDid s (Swap EMPTY) found t
-      → found ≡ RECEIVING → u ≡ record t { waker = vacant } → ReceiverIs u (here between) away vacant
+      → found ≡ RECEIVING → u ≡ record t { waker = vacant } → ReceiverIs u (idle after_timeout) away vacant
   takes {t} {u} at did same e = receiver_changed t u vacant (stops at did same).1 e
 
 pub take_waker-waker-requires : goal.take_waker-waker-requires

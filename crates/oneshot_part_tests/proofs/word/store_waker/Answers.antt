@@ -2,24 +2,25 @@
 use Rattle.std.proofs.Common.{rules, ◌≡◌, ℕ, refl, subst}
 use Rattle.oneshot_machine.specs.declared.states.Op.TheVariants.{Load, Swap}
 use Rattle.oneshot_machine.specs.declared.states.TheConstants.{RECEIVING, EMPTY}
-use Rattle.oneshot_machine.specs.Phases.{here, looked, blocked, waits, receiver_at}
+use Rattle.oneshot_machine.specs.Phases.{idle, after_load, blocked, waits, receiver_at}
 use Rattle.oneshot_machine.specs.Slots.{Held, away, vacant, held, is_away, is_held, stays_away, gives_thing, head, tail, may, finds, ReceiverFinds, not_its_own, owns, ReceiverOwns}
 use Rattle.oneshot_word.specs.Side.{ReceiverDid}
 use Rattle.oneshot_part_tests.proofs.Shown.{Plain, ReceiverIs, receiver_can, receiver_told, receiver_went, receiver_changed}
 use Rattle.oneshot_part_tests.proofs.word.store_waker.Goals as goal
 
 module _ {T W : Type 0} where
-  owns_no_message : {m : Held T} {w : Held W} → ReceiverOwns (here looked) m w → m ≡ away
+  owns_no_message : {m : Held T} {w : Held W} → ReceiverOwns (idle after_load) m w → m ≡ away
   owns_no_message (owns not_its_own own) = refl
 
-  gave_both : {k : W} {m : Held T} {w : Held W} → ReceiverFinds (here looked) (Swap RECEIVING) EMPTY away (held k) m w
+  gave_both : {k : W} {m : Held T} {w : Held W} → ReceiverFinds (idle after_load) (Swap RECEIVING) EMPTY away
+      (held k) m w
       → (m ≡ away) × (w ≡ away)
   gave_both (finds (tail (tail (tail head))) stays_away (gives_thing k)) = (refl, refl)
   gave_both (finds (tail (tail (tail (tail (tail (tail (tail (tail (tail (tail (tail (tail there)))))))))))) _ _) =
       elim there [ ]
 
-  begins : (s : Plain T W) → receiver_at s.log ≡ here looked → s.waker ≡ vacant
-      → ReceiverOwns (receiver_at s.log) s.message s.waker → ReceiverIs s (here looked) away vacant
+  begins : (s : Plain T W) → receiver_at s.log ≡ idle after_load → s.waker ≡ vacant
+      → ReceiverOwns (receiver_at s.log) s.message s.waker → ReceiverIs s (idle after_load) away vacant
   begins s at waker its =
       record {
         at = at;
@@ -27,7 +28,7 @@ module _ {T W : Type 0} where
         waker = waker;
       }
 
-  stores : {s t u : Plain T W} {k : W} {found : ℕ} → ReceiverIs s (here looked) away vacant
+  stores : {s t u : Plain T W} {k : W} {found : ℕ} → ReceiverIs s (idle after_load) away vacant
       → t ≡ record s { waker = held k } → ReceiverDid t (Swap RECEIVING) found u → found ≡ EMPTY
       → ReceiverIs u (waits blocked) away away
   stores {s} {t} {k} is e did same =

@@ -4,7 +4,7 @@ use Rattle.oneshot_text.specs.Future.{words_of_future_call, words_of_future_call
 use Rattle.oneshot_text.specs.Grammar.{AsksForFuture}
 use Rattle.oneshot_text.specs.Words.{words_left, IsSameLine}
 use Rattle.oneshot_text.proofs.FutureFaults.{calls_to, calls_from, numbers_more}
-use Rattle.oneshot_text.proofs.FutureWords.{written_more, takes_one, takes_none, no_fault}
+use Rattle.oneshot_text.proofs.FutureWords.{future_written_more, takes_one, takes_none, no_fault}
 use Rattle.oneshot_text.proofs.LineFaults.{fault_turned, fault_behind, same_line_on}
 use Rattle.oneshot_text.proofs.future.parse_calls.Goals as goal
 
@@ -23,7 +23,7 @@ loop-calls-preserved c =
     let small : HasNumber c.in-Some.call = rw is at next.numbers in
     let line : IsSameLine c.loop-calls.words c.next_call.new.words = rw is at next.line in
     rw c.in_ok-push.ensures.items (record {
-      written = written_more _ _ _ c.loop-calls.calls.items c.in-Some.call c.loop-calls.invariant.written taken;
+      written = future_written_more _ _ _ c.loop-calls.calls.items c.in-Some.call c.loop-calls.invariant.written taken;
       each = takes_one _ _ _ _ c.in-Some.call c.next_call.result c.loop-calls.invariant.each is taken next.each;
       numbers = numbers_more c.loop-calls.calls.items c.in-Some.call c.loop-calls.invariant.numbers small;
       line = same_line_on _ _ _ c.loop-calls.invariant.line line;

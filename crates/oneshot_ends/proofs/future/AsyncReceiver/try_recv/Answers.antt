@@ -5,8 +5,8 @@ use Rattle.oneshot_drive.specs.Polls.{LeavesTried}
 use Rattle.oneshot_ends.proofs.CallsAnswered.{one_answered}
 use Rattle.oneshot_ends.proofs.EndViews.{future_steps, future_about, future_took, future_registered, kept_about}
 use Rattle.oneshot_ends.proofs.GrewByRuns.{words_of, grew_by, closed_before, at_end, async_try_recv_few}
-use Rattle.oneshot_ends.proofs.PolledEnds.{closed_tried, open_tried, registered_by}
-use Rattle.oneshot_ends.proofs.Taken.{polled_so, taken_by, tried_takes}
+use Rattle.oneshot_ends.proofs.PolledEnds.{closed_tried, open_tried, registered_as_tried}
+use Rattle.oneshot_ends.proofs.Taken.{polled_so, took_by, tried_takes}
 use Rattle.oneshot_ends.proofs.TaskWakers.{same_registered}
 use Rattle.oneshot_ends.proofs.future.AsyncReceiver.try_recv.Goals as goal
 
@@ -37,14 +37,14 @@ returns-clause-stays_closed g c closed =
 
 pub returns-clause-registered : goal.returns-clause-registered
 returns-clause-registered g c =
-    registered_by c.async_try_recv.result (words_of _ _ c.self.inside.ground.log ∙ future_steps c.self.view_is)
+    registered_as_tried c.async_try_recv.result (words_of _ _ c.self.inside.ground.log ∙ future_steps c.self.view_is)
     (words_of _ _ c.async_try_recv.new.g.log) c.async_try_recv.ensures.registered
 
 pub returns-clause-same_waker : goal.returns-clause-same_waker
 returns-clause-same_waker g c nothing =
     same_registered c.self.inside.ground c.async_try_recv.new.g c.self.invariant.rests c.self.invariant.no_thread
     c.async_try_recv.ensures.keeps
-    (registered_by c.async_try_recv.result (words_of _ _ c.self.inside.ground.log)
+    (registered_as_tried c.async_try_recv.result (words_of _ _ c.self.inside.ground.log)
     (words_of _ _ c.async_try_recv.new.g.log) c.async_try_recv.ensures.registered nothing)
     ∙ future_registered c.self.view_is
 
@@ -60,14 +60,14 @@ returns-clause-bounded g c = async_try_recv_few (returns-clause-run g c)
 pub returns-clause-about : goal.returns-clause-about
 returns-clause-about g c = c.async_try_recv.ensures.keeps.about ∙ future_about c.self.view_is
 
-pub returns-clause-kept : goal.returns-clause-kept
-returns-clause-kept g c =
+pub returns-clause-promise : goal.returns-clause-promise
+returns-clause-promise g c =
     kept_about g.P.Promise.keeps c.async_try_recv.result (future_about c.self.view_is) c.async_try_recv.ensures.given
 
 pub returns-clause-took : goal.returns-clause-took
 returns-clause-took g c =
     tried_takes
-    (taken_by {own = c.self.inside.ground} refl (future_steps c.self.view_is) (future_took c.self.view_is)
+    (took_by {own = c.self.inside.ground} refl (future_steps c.self.view_is) (future_took c.self.view_is)
     c.async_try_recv.new.g c.async_try_recv.ensures.keeps.taken
     c.self.invariant.took (polled_so c.self.inside.ground c.self.invariant.rests))
     AsyncTryRecv refl c.async_try_recv.result (returns-clause-run g c)

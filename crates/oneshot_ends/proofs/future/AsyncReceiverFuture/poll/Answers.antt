@@ -7,7 +7,7 @@ use Rattle.oneshot_ends.proofs.EndViews.{future_steps, future_about, future_took
 use Rattle.oneshot_ends.proofs.GrewByRuns.{grew_by, closed_before, at_end, poll_few}
 use Rattle.oneshot_ends.proofs.PolledEnds.{closed_polled, open_polled}
 use Rattle.oneshot_ends.proofs.PollingTokens.{stands_by_tokens, stands_as_told}
-use Rattle.oneshot_ends.proofs.Taken.{polled_so, taken_by, poll_takes}
+use Rattle.oneshot_ends.proofs.Taken.{polled_so, took_by, poll_takes}
 use Rattle.oneshot_ends.proofs.TaskWakers.{woken_by}
 use Rattle.oneshot_ends.proofs.future.AsyncReceiverFuture.poll.Goals as goal
 
@@ -65,7 +65,7 @@ returns-clause-same g c =
 pub returns-clause-took : goal.returns-clause-took
 returns-clause-took g c =
     poll_takes
-    (taken_by {own = c.self.inside.ground} refl (future_steps c.self.view_is) (future_took c.self.view_is)
+    (took_by {own = c.self.inside.ground} refl (future_steps c.self.view_is) (future_took c.self.view_is)
     c.poll.new.g.ground.now c.poll.ensures.keeps.taken
     c.self.invariant.took (polled_so c.self.inside.ground c.self.invariant.rests))
     c.poll.result (returns-clause-run g c) (returns-clause-stays_closed g c) c.poll.ensures.had

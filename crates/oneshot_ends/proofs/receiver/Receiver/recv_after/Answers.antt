@@ -11,7 +11,7 @@ use Rattle.oneshot_ends.proofs.GrewByRuns.{grew_by, closed_before, at_end}
 use Rattle.oneshot_ends.proofs.OwnWakers.{has_lent}
 use Rattle.oneshot_ends.proofs.LentGrounds.{as_lent, given_back, hand_lent}
 use Rattle.oneshot_ends.proofs.TimeoutEnds.{ends_where_held}
-use Rattle.oneshot_ends.proofs.Taken.{rests_so, lent_found, taken_by, timed_takes}
+use Rattle.oneshot_ends.proofs.Taken.{rests_so, lent_found, took_by, timed_takes}
 use Rattle.oneshot_ends.proofs.receiver.Receiver.recv_after.Goals as goal
 
 pub recv_timeout-requires-clause-rests : goal.recv_timeout-requires-clause-rests
@@ -59,8 +59,8 @@ returns-clause-about g c =
     c.recv_timeout.ensures.keeps.about
     ∙ lent_about (ap (λ r. r.now) c.lend-lent.ensures.ground) (same_about c.self.view_is)
 
-pub returns-clause-kept : goal.returns-clause-kept
-returns-clause-kept g c =
+pub returns-clause-promise : goal.returns-clause-promise
+returns-clause-promise g c =
     kept_about g.P.Promise.keeps c.recv_timeout.result
     (lent_about (ap (λ r. r.now) c.lend-lent.ensures.ground) (same_about c.self.view_is)) c.recv_timeout.ensures.given
 
@@ -73,7 +73,7 @@ recv_timeout-requires-clause-has g c =
 pub returns-clause-took : goal.returns-clause-took
 returns-clause-took g c =
     timed_takes
-    (taken_by (ap (λ r. r.now) c.lend-lent.ensures.ground) (same_steps c.self.view_is) (same_took c.self.view_is)
+    (took_by (ap (λ r. r.now) c.lend-lent.ensures.ground) (same_steps c.self.view_is) (same_took c.self.view_is)
     c.recv_timeout.new.g.ground.now c.recv_timeout.ensures.keeps.taken c.self.invariant.took
     (rests_so c.self.inside.ground c.self.invariant.rests))
     (RecvTimeout (returns-clause-run g c).has_end) refl c.recv_timeout.result (returns-clause-run g c).grew

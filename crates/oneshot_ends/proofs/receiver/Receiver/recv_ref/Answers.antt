@@ -8,7 +8,7 @@ use Rattle.oneshot_ends.proofs.EndViews.{same_steps, same_about, same_took, lent
 use Rattle.oneshot_ends.proofs.GrewByRuns.{grew_by, closed_before, at_end}
 use Rattle.oneshot_ends.proofs.OwnWakers.{has_lent}
 use Rattle.oneshot_ends.proofs.LentGrounds.{as_lent, given_back}
-use Rattle.oneshot_ends.proofs.Taken.{rests_so, lent_found, taken_by, recv_takes}
+use Rattle.oneshot_ends.proofs.Taken.{rests_so, lent_found, took_by, recv_takes}
 use Rattle.oneshot_ends.proofs.receiver.Receiver.recv_ref.Goals as goal
 
 pub recv_ref-requires-clause-rests : goal.recv_ref-requires-clause-rests
@@ -50,8 +50,8 @@ pub returns-clause-about : goal.returns-clause-about
 returns-clause-about g c =
     c.recv_ref.ensures.keeps.about ∙ lent_about (ap (λ r. r.now) c.lend-lent.ensures.ground) (same_about c.self.view_is)
 
-pub returns-clause-kept : goal.returns-clause-kept
-returns-clause-kept g c =
+pub returns-clause-promise : goal.returns-clause-promise
+returns-clause-promise g c =
     kept_about g.P.Promise.keeps c.recv_ref.result
     (lent_about (ap (λ r. r.now) c.lend-lent.ensures.ground) (same_about c.self.view_is)) c.recv_ref.ensures.given
 
@@ -64,7 +64,7 @@ recv_ref-requires-clause-has g c =
 pub returns-clause-took : goal.returns-clause-took
 returns-clause-took g c =
     recv_takes
-    (taken_by (ap (λ r. r.now) c.lend-lent.ensures.ground) (same_steps c.self.view_is) (same_took c.self.view_is)
+    (took_by (ap (λ r. r.now) c.lend-lent.ensures.ground) (same_steps c.self.view_is) (same_took c.self.view_is)
     c.recv_ref.new.g.ground.now c.recv_ref.ensures.keeps.taken c.self.invariant.took
     (rests_so c.self.inside.ground c.self.invariant.rests))
     RecvRef refl c.recv_ref.result (returns-clause-run g c) (returns-clause-stays_closed g c) c.recv_ref.ensures.had

@@ -6,7 +6,7 @@ use Rattle.oneshot_drive.proofs.ReadyHands.{closed_tried, open_tried, ready_stil
 use Rattle.oneshot_ends.proofs.CallsAnswered.{one_answered}
 use Rattle.oneshot_ends.proofs.EndViews.{same_steps, same_about, same_took, kept_about}
 use Rattle.oneshot_ends.proofs.GrewByRuns.{grew_by, closed_before, at_end, try_recv_few}
-use Rattle.oneshot_ends.proofs.Taken.{rests_so, taken_by, tried_takes}
+use Rattle.oneshot_ends.proofs.Taken.{rests_so, took_by, tried_takes}
 use Rattle.oneshot_ends.proofs.receiver.Receiver.try_recv.Goals as goal
 
 pub invariant_of-self : goal.invariant_of-self
@@ -46,14 +46,14 @@ returns-clause-bounded g c = try_recv_few (returns-clause-run g c)
 pub returns-clause-about : goal.returns-clause-about
 returns-clause-about g c = c.try_recv.ensures.keeps.about ∙ same_about c.self.view_is
 
-pub returns-clause-kept : goal.returns-clause-kept
-returns-clause-kept g c =
+pub returns-clause-promise : goal.returns-clause-promise
+returns-clause-promise g c =
     kept_about g.P.Promise.keeps c.try_recv.result (same_about c.self.view_is) c.try_recv.ensures.given
 
 pub returns-clause-took : goal.returns-clause-took
 returns-clause-took g c =
     tried_takes
-    (taken_by {own = c.self.inside.ground} refl (same_steps c.self.view_is) (same_took c.self.view_is)
+    (took_by {own = c.self.inside.ground} refl (same_steps c.self.view_is) (same_took c.self.view_is)
     c.try_recv.new.g c.try_recv.ensures.keeps.taken c.self.invariant.took
     (rests_so c.self.inside.ground c.self.invariant.rests))
     TryRecv refl c.try_recv.result (returns-clause-run g c) (returns-clause-stays_closed g c) c.try_recv.ensures.had

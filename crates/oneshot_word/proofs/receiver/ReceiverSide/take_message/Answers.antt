@@ -4,8 +4,8 @@ use Rattle.oneshot_word.proofs.MessagePasses.{holds_so}
 use Rattle.oneshot_word.proofs.SlotReads.{message_reads}
 use Rattle.oneshot_word.proofs.receiver.ReceiverSide.take_message.Goals as goal
 
-pub trade_message-requires-clause-kept : goal.trade_message-requires-clause-kept
-trade_message-requires-clause-kept g c = vacant_keeps
+pub trade_message-requires-clause-promise : goal.trade_message-requires-clause-promise
+trade_message-requires-clause-promise g c = vacant_keeps
 
 pub trade_message-requires-clause-passed : goal.trade_message-requires-clause-passed
 trade_message-requires-clause-passed g c = holds_none

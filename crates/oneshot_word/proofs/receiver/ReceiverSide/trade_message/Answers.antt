@@ -20,7 +20,7 @@ traded g c =
     receiver_message_traded c.self.inside.seat.me c.exchange.new.seat.me c.self.invariant.0
     (subst (λ s. s.message ≢ away) (sym c.self.view_is) c.requires.its_own)
     (fits_message c.args.new c.requires.no_waker
-    (subst (λ s. Keeps (g.P.Promise.keeps s.about) (message_of c.args.new)) (sym c.self.view_is) c.requires.kept))
+    (subst (λ s. Keeps (g.P.Promise.keeps s.about) (message_of c.args.new)) (sym c.self.view_is) c.requires.promise))
     (subst (λ s. HoldsTaken s.passed (message_of c.args.new)) (sym c.self.view_is) c.requires.passed)
     c.exchange.ensures.2 c.exchange.ensures.3
 

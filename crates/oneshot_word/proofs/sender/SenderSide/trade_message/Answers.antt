@@ -21,7 +21,7 @@ traded g c =
     sender_message_traded c.self.inside.seat.me c.turn.new.self.me c.exchange-old.new.seat.me c.turn-2.new.self.me
     c.self.invariant.0 (subst (λ s. s.message ≢ away) (sym c.self.view_is) c.requires.its_own)
     (fits_message c.args.new c.requires.no_waker
-    (subst (λ s. Keeps (g.P.Promise.keeps s.about) (message_of c.args.new)) (sym c.self.view_is) c.requires.kept))
+    (subst (λ s. Keeps (g.P.Promise.keeps s.about) (message_of c.args.new)) (sym c.self.view_is) c.requires.promise))
     record {
       turn = c.turn.ensures.2;
       front = c.exchange-old.ensures.2;

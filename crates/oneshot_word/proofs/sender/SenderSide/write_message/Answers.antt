@@ -2,5 +2,5 @@
 use Rattle.oneshot_word.proofs.Names.{held_keeps}
 use Rattle.oneshot_word.proofs.sender.SenderSide.write_message.Goals as goal
 
-pub trade_message-old-requires-clause-kept : goal.trade_message-old-requires-clause-kept
-trade_message-old-requires-clause-kept g c = held_keeps _ c.requires.kept
+pub trade_message-old-requires-clause-promise : goal.trade_message-old-requires-clause-promise
+trade_message-old-requires-clause-promise g c = held_keeps _ c.requires.promise

@@ -5,14 +5,14 @@ use Rattle.oneshot_world.proofs.state.State.step_sender.Goals as goal
 
 pub returns : goal.returns
 returns c =
-    let row : sender_row c.args.position (seen_by c.args.told.answer c.args.self.now (sender_step c.args.position))
+    let row : sender_row c.args.position (seen_by c.args.input.answer c.args.self.now (sender_step c.args.position))
     ≡ Some (outcome c.next-next.result) = cc in
     rw (
-      c.make-made.ensures.tells,
+      c.make-made.ensures.made,
       c.make-made.ensures.moves,
       c.sender_goes-self.ensures,
       c.sender_puts-puts.ensures,
       c.seen_by-seen.ensures,
       c.step-step.ensures,
     )
-    (sender_made_of c.args.told c.args.self.now c.args.position c.next-next.result c.requires.row row)
+    (sender_made_of c.args.input c.args.self.now c.args.position c.next-next.result c.requires.row row)

@@ -1,0 +1,76 @@
+//! A caller that tries a future before it awaits it.
+
+ghost use Rattle.std.specs.Prelude.{◌≡◌, ◌≢◌, None};
+ghost use Rattle.oneshot_channel.specs.Ends.{IsDone, IsUnfinished};
+ghost use Rattle.oneshot_channel.specs.Phases.{receiver_at};
+ghost use Rattle.oneshot_channel.specs.Polls.{is_registered};
+
+use futures::executor::block_on;
+use futures::task::Poll;
+use futures::test::MockTask;
+use oneshot_channel::{AsyncReceiver, RecvError, TryRecvError, async_channel};
+use std::io;
+use std::random::RandomSource;
+use std::sync::Wait;
+use std::test::Fail;
+use std::thread::join;
+
+/// Returns the message, or an error if none can come. `None`: try or poll again; a waiting task still waits.
+fn try_once<T: Drop, Rt: Drop>(receiver: &mut AsyncReceiver<T, Rt>) -> Option<Result<T, RecvError>>
+    ensures open { result ≡ None → IsUnfinished receiver.new }
+    ensures done { result ≢ None → IsDone receiver.new }
+    ensures registered { result ≡ None
+        → is_registered (receiver_at receiver.new.log) ≡ is_registered (receiver_at receiver.old.log) }
+{
+    match receiver.try_recv() {
+        Ok(message) => Some(Ok(message)),
+        Err(TryRecvError::Disconnected) => Some(Err(RecvError)),
+        Err(TryRecvError::Empty) => None,
+    }
+}
+
+/// Receives at once if the message is there, and makes an executor only if it has to wait.
+fn at_once_or_awaited<R: Wait + RandomSource + AllocGlobal, T: Drop, Rt: Drop>(
+    rt: &R,
+    mut receiver: AsyncReceiver<T, Rt>,
+) -> io::Result<Result<T, RecvError>> {
+    match try_once(&mut receiver) {
+        Some(received) => Ok(received),
+        None => block_on(rt, receiver),
+    }
+}
+
+#[test]
+fn a_message_that_is_there_is_received_at_once(rt: HostRuntime) -> Result<(), Fail> {
+    let (sender, receiver) = async_channel(&rt, rt.alloc())?;
+    assert!(rt; sender.send(19u64).is_ok());
+    assert_eq!(rt; at_once_or_awaited(&rt, receiver)?, Ok(19));
+    Ok(())
+}
+
+#[test]
+fn a_message_that_is_not_there_is_awaited(rt: HostRuntime) -> Result<(), Fail> {
+    let (sender, receiver) = async_channel(&rt, rt.alloc())?;
+    let (received, sent) = join(
+        &rt,
+        || at_once_or_awaited(&rt, receiver),
+        || sender.send(20u64).is_ok(),
+    );
+    assert_eq!(rt; received?, Ok(20));
+    assert!(rt; sent);
+    Ok(())
+}
+
+#[test]
+fn a_try_leaves_the_task_to_be_woken(rt: HostRuntime) -> Result<(), Fail> {
+    let task = MockTask::new(&rt)?;
+    let (sender, mut receiver) = async_channel(&rt, rt.alloc())?;
+    assert_eq!(rt; task.poll(&mut receiver), Poll::Pending);
+    assert_eq!(rt; try_once(&mut receiver), None);
+    assert!(rt; !task.is_woken());
+    assert!(rt; sender.send(19u64).is_ok());
+    assert!(rt; task.is_woken());
+    assert_eq!(rt; try_once(&mut receiver), Some(Ok(19)));
+    assert_eq!(rt; try_once(&mut receiver), Some(Err(RecvError)));
+    Ok(())
+}

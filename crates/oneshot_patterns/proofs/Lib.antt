@@ -1,0 +1,2 @@
+-- This crate has no lemma of its own. The folders have the invariants of its loops, one for each loop of a function of
+-- `src/`.

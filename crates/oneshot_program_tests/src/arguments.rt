@@ -1,0 +1,160 @@
+//! Tests of the arguments that are read and refused, and of the text of each fault.
+
+use oneshot_loops::channels::Channel;
+use oneshot_loops::command::fault::Fault;
+use oneshot_loops::command::{Command, parse_command, parse_count};
+use oneshot_loops::fault as rounds;
+use oneshot_loops::loops::{Awaited, Loop};
+use std::alloc::{AllocError, Global};
+use std::test::Fail;
+
+fn parsed(alloc: Global, words: &[&str]) -> Result<Option<Command>, AllocError> {
+    let mut owned = Vec::new(alloc);
+    for word in words {
+        owned.push(String::from_str(alloc, word)?)?;
+    }
+    Ok(parse_command(owned.as_slice()))
+}
+
+const NAMES: &[(&str, Loop); 15] = &[
+    ("make_send_receive_drop", Loop::MakeSendReceiveDrop),
+    ("make_drop", Loop::MakeDrop),
+    ("make_send_recv", Loop::MakeSendRecv),
+    ("make_poll_send_poll", Loop::MakePollSendPoll),
+    (
+        "make_send_receive_drop_4096",
+        Loop::MakeSendReceiveDropLarge,
+    ),
+    ("make_drop_4096", Loop::MakeDropLarge),
+    ("make_send_recv_4096", Loop::MakeSendRecvLarge),
+    ("make_poll_send_poll_4096", Loop::MakePollSendPollLarge),
+    ("make_answer_wait", Loop::MakeAnswerWait),
+    ("round_trip", Loop::RoundTrip),
+    (
+        "make_send_block_on",
+        Loop::Awaited(Awaited::MakeSendBlockOn),
+    ),
+    ("make_send_await", Loop::Awaited(Awaited::MakeSendAwait)),
+    ("poll_pending", Loop::Awaited(Awaited::PollPending)),
+    ("join_two", Loop::Awaited(Awaited::JoinTwo)),
+    ("round_trip_await", Loop::Awaited(Awaited::RoundTripAwait)),
+];
+
+#[test]
+fn each_name_is_read(rt: HostRuntime) -> Result<(), Fail> {
+    for (name, kind) in NAMES {
+        let command = Command::Measure {
+            channel: Channel::Oneshot,
+            kind: *kind,
+            count: 12,
+        };
+        assert_eq!(rt; parsed(rt.alloc(), &[name, "12"])?, Some(command), "{name}");
+    }
+    Ok(())
+}
+
+const CHANNELS: &[(&str, Channel); 3] = &[
+    ("oneshot", Channel::Oneshot),
+    ("futures", Channel::Futures),
+    ("crossbeam", Channel::Crossbeam),
+];
+
+#[test]
+fn each_channel_is_read(rt: HostRuntime) -> Result<(), Fail> {
+    for (name, channel) in CHANNELS {
+        let command = Command::Measure {
+            channel: *channel,
+            kind: Loop::MakeDrop,
+            count: 12,
+        };
+        let read = parsed(rt.alloc(), &[name, "make_drop", "12"])?;
+        assert_eq!(rt; read, Some(command), "{name}");
+    }
+    Ok(())
+}
+
+const NO_CHANNELS: &[&str; 5] = &["", "one", "oneshot ", "Futures", "make_drop"];
+
+const NO_LOOPS: &[&str; 6] = &["", "make", "make_drop_", "make_drop ", "Make_drop", "4096"];
+
+#[test]
+fn other_names_are_refused(rt: HostRuntime) {
+    for name in NO_CHANNELS {
+        assert!(rt; Channel::named(name).is_none(), "{name}");
+    }
+    for name in NO_LOOPS {
+        assert!(rt; Loop::named(name).is_none(), "{name}");
+    }
+}
+
+const COUNTS: &[(&str, Option<u64>); 14] = &[
+    ("0", Some(0)),
+    ("7", Some(7)),
+    ("007", Some(7)),
+    ("+7", Some(7)),
+    ("18446744073709551615", Some(18_446_744_073_709_551_615)),
+    ("18446744073709551616", None),
+    ("100000000000000000000", None),
+    ("", None),
+    ("+", None),
+    ("-1", None),
+    ("1.5", None),
+    ("1 ", None),
+    ("1_000", None),
+    ("ten", None),
+];
+
+#[test]
+fn counts_of_64_bits_are_read(rt: HostRuntime) {
+    for (word, count) in COUNTS {
+        assert_eq!(rt; parse_count(word), *count, "{word}");
+    }
+}
+
+const NO_COMMANDS: &[&[&str]; 6] = &[
+    &["make_drop"],
+    &["1", "make_drop"],
+    &["make_drop", "1", "1"],
+    &["make_drop", "futures", "1"],
+    &["futures", "make_drop"],
+    &["futures", "make_drop", "1", "1"],
+];
+
+#[test]
+fn two_words_or_three_or_none(rt: HostRuntime) -> Result<(), Fail> {
+    assert_eq!(rt; parsed(rt.alloc(), &[])?, Some(Command::Usage));
+    for words in NO_COMMANDS {
+        assert!(rt; parsed(rt.alloc(), words)?.is_none(), "{words:?}");
+    }
+    Ok(())
+}
+
+#[test]
+fn a_fault_is_one_line_and_a_status(rt: HostRuntime) -> Result<(), Fail> {
+    let faults = [
+        (Fault::Rounds(rounds::Fault::ClockFailed), "1 clock failed"),
+        (Fault::WriteFailed, "1 write failed"),
+        (Fault::Rounds(rounds::Fault::MessageLost), "1 message lost"),
+        (
+            Fault::Rounds(rounds::Fault::CannotRun),
+            "2 channel cannot run this loop",
+        ),
+        (Fault::Rounds(rounds::Fault::TaskFailed), "1 task failed"),
+        (
+            Fault::Rounds(rounds::Fault::OutOfMemory(AllocError)),
+            "3 out of memory",
+        ),
+        (Fault::OutOfMemory(AllocError), "3 out of memory"),
+    ];
+    for (fault, text) in faults {
+        let told = format!(in rt.alloc(); "{} {fault}", fault.status())?;
+        assert_eq!(rt; told.as_str(), text);
+    }
+    let told = format!(in rt.alloc(); "{}", Fault::BadArguments)?;
+    assert!(rt;
+        told.as_str()
+            .starts_with("usage: oneshot_bench [CHANNEL] LOOP COUNT")
+    );
+    assert_eq!(rt; Fault::BadArguments.status(), 2);
+    Ok(())
+}

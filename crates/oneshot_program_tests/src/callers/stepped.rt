@@ -1,0 +1,63 @@
+//! A caller that makes the moves of a `Replayer` one by one, proved and tested.
+
+ghost use Rattle.std.specs.Prelude.{IfOk, IsTrue};
+ghost use Rattle.oneshot_world.specs.Scripts.{calls_of};
+ghost use Rattle.oneshot_laws.specs.MessagePlaces.{is_message_followed};
+ghost use Rattle.oneshot_laws.specs.Unwoken.{NeverUnwoken};
+
+use oneshot::machine::{End, Reply, Step};
+use oneshot::replay::laws::a_run_is_right;
+use oneshot::replay::{
+    CallList, Entry, ErrorLast, ErrorScript, Move, ReceiverLast, ReceiverScript, Replayer,
+    SenderLast, SenderScript,
+};
+use std::alloc::{AllocError, Global};
+use std::test::Fail;
+
+/// Makes these moves one by one, and returns their entries.
+fn stepped(
+    alloc: Global,
+    s: SenderScript<u64>,
+    r: ReceiverScript,
+    moves: &[Move],
+) -> Result<Vec<Entry>, AllocError>
+    ensures message_followed { IfOk result (λ entries. IsTrue (is_message_followed (calls_of s r) entries.items)) }
+    ensures never_unwoken { IfOk result (λ entries. NeverUnwoken s r moves.now entries.items) }
+{
+    a_run_is_right::<u64>();
+    let mut replayer = Replayer::new(s, r);
+    let mut entries = Vec::new(alloc);
+    for m in moves {
+        entries.push(replayer.step(*m))?;
+    }
+    Ok(entries)
+}
+
+#[test]
+fn a_send_is_two_steps_and_the_sender_is_idle_then(rt: HostRuntime) -> Result<(), Fail> {
+    let error = ErrorScript {
+        looks: 0,
+        last: ErrorLast::Stop,
+    };
+    let sender = SenderScript {
+        looks: 0,
+        last: SenderLast::Send(7, error),
+    };
+    let receiver = ReceiverScript {
+        calls: CallList::from(Vec::new(rt.alloc())),
+        last: ReceiverLast::Stop,
+    };
+    let moves = [Move::Sender, Move::Sender, Move::Sender];
+    let entries = stepped(rt.alloc(), sender, receiver, &moves)?;
+    let [
+        Entry::Made(write),
+        Entry::Made(add),
+        Entry::Idle(End::Sender),
+    ] = entries.as_slice()
+    else {
+        panic!(rt; "the send ends with its second step")
+    };
+    assert_eq!(rt; write.step, Step::WriteMessage);
+    assert_eq!(rt; add.reply, Some(Reply::Sent));
+    Ok(())
+}

@@ -1,0 +1,13 @@
+//! Tests of what uses the channel and its model: the uses, the loops of the benchmark and its
+//! arguments, and the callers of the model's contracts.
+#![tactic(auto)]
+
+#[cfg(test)]
+mod arguments;
+#[cfg(test)]
+#[cfg(test)]
+mod callers;
+#[cfg(test)]
+mod loops;
+#[cfg(test)]
+mod uses;

@@ -1,0 +1,452 @@
+//! Tests that each loop does what its name says, and that those of this channel report a lost message.
+
+use futures::future::ready;
+use futures::task::Context;
+use oneshot::{async_channel, channel};
+use oneshot_loops::awaited_trips;
+use oneshot_loops::channels::Channel;
+use oneshot_loops::fault::Fault;
+use oneshot_loops::loops::{Awaited, Loop};
+use oneshot_loops::measure::{measure, timed};
+use oneshot_loops::polled::{PolledRound, pend, repeat_in_task};
+use oneshot_loops::queues::queue;
+use oneshot_loops::round_trip::{Request, ask, serve};
+use oneshot_loops::rounds::repeat;
+use oneshot_loops::tally::Tally;
+use std::alloc::{Alloc, AllocGlobal, Global};
+use std::cell::Cell;
+use std::io;
+use std::random::RandomSource;
+use std::sync::Wait;
+use std::sync::atomic::{AtomicU64, Ordering};
+use std::test::Fail;
+use std::thread::Threads;
+use std::time::{Clock, Duration};
+
+/// The tally of `count` rounds, each of which does what `round` counts.
+fn tally_of(count: u64, round: Tally) -> Tally {
+    Tally {
+        channels: count.wrapping_mul(round.channels),
+        room: count.wrapping_mul(round.room),
+        tried: count.wrapping_mul(round.tried),
+        waited: count.wrapping_mul(round.waited),
+        pended: count.wrapping_mul(round.pended),
+        polled: count.wrapping_mul(round.polled),
+    }
+}
+
+/// The tally of a round that makes a channel for this many bytes and drops it.
+fn made(bytes: u64) -> Tally {
+    Tally {
+        channels: 1,
+        room: bytes,
+        ..Tally::new()
+    }
+}
+
+/// The tally of a round that also receives its message by `try_recv`.
+fn tried(bytes: u64) -> Tally {
+    Tally {
+        tried: 1,
+        ..made(bytes)
+    }
+}
+
+/// The tally of a round that also receives its message by `recv`.
+fn waited(bytes: u64) -> Tally {
+    Tally {
+        waited: 1,
+        ..made(bytes)
+    }
+}
+
+/// The tally of a round that also polls, and receives its message by another poll.
+fn polled(bytes: u64) -> Tally {
+    Tally {
+        pended: 1,
+        polled: 1,
+        ..made(bytes)
+    }
+}
+
+/// The tally of a round that also awaits its message, which has been sent.
+fn awaited(bytes: u64) -> Tally {
+    Tally {
+        polled: 1,
+        ..made(bytes)
+    }
+}
+
+/// The channels whose receivers are futures.
+const OF_FUTURES: [Channel; 2] = [Channel::Oneshot, Channel::Futures];
+
+#[test]
+fn each_awaited_loop_makes_its_rounds(rt: HostRuntime) -> Result<(), Fail> {
+    let joined = Tally {
+        channels: 2,
+        room: 16,
+        pended: 1,
+        polled: 2,
+        ..Tally::new()
+    };
+    let kinds = [
+        (Awaited::MakeSendBlockOn, awaited(8)),
+        (Awaited::MakeSendAwait, awaited(8)),
+        (Awaited::JoinTwo, joined),
+    ];
+    for channel in OF_FUTURES {
+        for (kind, round) in kinds {
+            for count in [0, 3] {
+                let tally = measure(&rt, channel, Loop::Awaited(kind), count)?.tally;
+                assert_eq!(rt;
+                    tally,
+                    tally_of(count, round),
+                    "{count} of {channel} {kind:?}"
+                );
+            }
+        }
+    }
+    Ok(())
+}
+
+// One channel, however many polls.
+#[test]
+fn each_poll_before_the_message_is_pending(rt: HostRuntime) -> Result<(), Fail> {
+    for channel in OF_FUTURES {
+        for count in [0, 3] {
+            let tally = measure(&rt, channel, Loop::Awaited(Awaited::PollPending), count)?.tally;
+            let pended = Tally {
+                pended: count,
+                ..awaited(8)
+            };
+            assert_eq!(rt; tally, pended, "{count} of {channel}");
+        }
+    }
+    Ok(())
+}
+
+#[test]
+fn each_round_trip_of_futures_is_made(rt: HostRuntime) -> Result<(), Fail> {
+    for channel in OF_FUTURES {
+        for count in [0, 1, 1024, 1025] {
+            let tally = measure(&rt, channel, Loop::Awaited(Awaited::RoundTripAwait), count)?.tally;
+            assert_eq!(rt; tally.channels, 2 * count);
+            assert_eq!(rt; tally.polled, 2 * count);
+            assert_eq!(rt; tally.waited, 0);
+            assert_eq!(rt; tally.tried, 0);
+        }
+    }
+    Ok(())
+}
+
+#[test]
+fn a_future_that_is_ready_is_not_pending(rt: HostRuntime) -> Result<(), Fail> {
+    let mut tally = Tally::new();
+    let ready = repeat_in_task(&rt, 1, PolledOnceTooOften, &mut tally);
+    assert!(rt; matches!(ready, Err(Fault::MessageLost)));
+    Ok(())
+}
+
+/// A round that polls a future that is ready.
+#[derive(Drop)]
+struct PolledOnceTooOften;
+
+impl PolledRound for PolledOnceTooOften {
+    fn make(&self, cx: &mut Context<'_>, tally: &mut Tally) -> Result<(), Fault> {
+        pend(&mut ready(7u64), 1, cx, tally)
+    }
+}
+
+#[test]
+fn a_request_to_no_future_is_lost(rt: HostRuntime) -> Result<(), Fail> {
+    let queue = queue(&rt)?;
+    let (requests, served) = async_channel::<awaited_trips::Request, ()>((), rt.alloc())?;
+    drop(served);
+    let lost = awaited_trips::ask(&rt, &queue, rt.alloc(), requests, &mut Tally::new());
+    assert!(rt; matches!(lost, Err(Fault::MessageLost)));
+    Ok(())
+}
+
+#[test]
+fn a_request_that_no_future_gets_is_lost(rt: HostRuntime) -> Result<(), Fail> {
+    let queue = queue(&rt)?;
+    let (requests, served) = async_channel::<awaited_trips::Request, ()>((), rt.alloc())?;
+    drop(requests);
+    let lost = awaited_trips::serve(&rt, &queue, served, &mut Tally::new());
+    assert!(rt; matches!(lost, Err(Fault::MessageLost)));
+    Ok(())
+}
+
+/// What a round does with its channel.
+#[derive(Clone, Copy)]
+enum Round {
+    Made,
+    Tried,
+    Waited,
+    Polled,
+}
+
+impl Round {
+    fn tally(self, bytes: u64) -> Tally {
+        match self {
+            Round::Made => made(bytes),
+            Round::Tried => tried(bytes),
+            Round::Waited => waited(bytes),
+            Round::Polled => polled(bytes),
+        }
+    }
+}
+
+/// The loops of each channel, what a round does, and the bytes of its message.
+const LOOPS: &[(Channel, Loop, Round, u64); 21] = &[
+    (Channel::Oneshot, Loop::MakeSendReceiveDrop, Round::Tried, 8),
+    (Channel::Oneshot, Loop::MakeDrop, Round::Made, 8),
+    (Channel::Oneshot, Loop::MakeSendRecv, Round::Waited, 8),
+    (Channel::Oneshot, Loop::MakePollSendPoll, Round::Polled, 8),
+    (
+        Channel::Oneshot,
+        Loop::MakeSendReceiveDropLarge,
+        Round::Tried,
+        4096,
+    ),
+    (Channel::Oneshot, Loop::MakeDropLarge, Round::Made, 4096),
+    (
+        Channel::Oneshot,
+        Loop::MakeSendRecvLarge,
+        Round::Waited,
+        4096,
+    ),
+    (
+        Channel::Oneshot,
+        Loop::MakePollSendPollLarge,
+        Round::Polled,
+        4096,
+    ),
+    (Channel::Oneshot, Loop::MakeAnswerWait, Round::Waited, 8),
+    (Channel::Futures, Loop::MakeSendReceiveDrop, Round::Tried, 8),
+    (Channel::Futures, Loop::MakeDrop, Round::Made, 8),
+    (Channel::Futures, Loop::MakePollSendPoll, Round::Polled, 8),
+    (
+        Channel::Futures,
+        Loop::MakeSendReceiveDropLarge,
+        Round::Tried,
+        4096,
+    ),
+    (Channel::Futures, Loop::MakeDropLarge, Round::Made, 4096),
+    (
+        Channel::Futures,
+        Loop::MakePollSendPollLarge,
+        Round::Polled,
+        4096,
+    ),
+    (
+        Channel::Crossbeam,
+        Loop::MakeSendReceiveDrop,
+        Round::Tried,
+        8,
+    ),
+    (Channel::Crossbeam, Loop::MakeDrop, Round::Made, 8),
+    (Channel::Crossbeam, Loop::MakeSendRecv, Round::Waited, 8),
+    (
+        Channel::Crossbeam,
+        Loop::MakeSendReceiveDropLarge,
+        Round::Tried,
+        4096,
+    ),
+    (Channel::Crossbeam, Loop::MakeDropLarge, Round::Made, 4096),
+    (
+        Channel::Crossbeam,
+        Loop::MakeSendRecvLarge,
+        Round::Waited,
+        4096,
+    ),
+];
+
+#[test]
+fn each_loop_makes_its_rounds(rt: HostRuntime) -> Result<(), Fail> {
+    for (channel, kind, round, bytes) in LOOPS {
+        for count in [0, 3] {
+            let tally = measure(&rt, *channel, *kind, count)?.tally;
+            assert_eq!(rt;
+                tally,
+                tally_of(count, round.tally(*bytes)),
+                "{count} of {channel} {kind}"
+            );
+        }
+    }
+    Ok(())
+}
+
+const REFUSED: &[(Channel, Loop); 9] = &[
+    (Channel::Futures, Loop::MakeSendRecv),
+    (Channel::Futures, Loop::MakeSendRecvLarge),
+    (Channel::Futures, Loop::MakeAnswerWait),
+    (Channel::Futures, Loop::RoundTrip),
+    (Channel::Crossbeam, Loop::MakePollSendPoll),
+    (Channel::Crossbeam, Loop::MakePollSendPollLarge),
+    (Channel::Crossbeam, Loop::MakeAnswerWait),
+    (Channel::Crossbeam, Loop::Awaited(Awaited::MakeSendBlockOn)),
+    (Channel::Crossbeam, Loop::Awaited(Awaited::RoundTripAwait)),
+];
+
+#[test]
+fn a_channel_refuses_a_loop_that_it_has_no_call_for(rt: HostRuntime) {
+    for (channel, kind) in REFUSED {
+        let refused = matches!(measure(&rt, *channel, *kind, 3), Err(Fault::CannotRun));
+        assert!(rt; refused, "{channel} {kind}");
+    }
+}
+
+// A round trip makes two channels, and blocks for the message of each.
+#[test]
+fn each_round_trip_is_made(rt: HostRuntime) -> Result<(), Fail> {
+    for channel in [Channel::Oneshot, Channel::Crossbeam] {
+        for count in [0, 1, 1024, 1025] {
+            let tally = measure(&rt, channel, Loop::RoundTrip, count)?.tally;
+            assert_eq!(rt; tally.channels, 2 * count);
+            assert_eq!(rt; tally.waited, 2 * count);
+            assert_eq!(rt; tally.tried, 0);
+            assert_eq!(rt; tally.polled, 0);
+        }
+    }
+    Ok(())
+}
+
+/// A clock that the test sets.
+#[derive(Drop)]
+struct Moved {
+    nanoseconds: Cell<u64>,
+}
+
+impl Clock for Moved {
+    fn monotonic(&self) -> io::Result<Duration> {
+        Ok(Duration::from_nanos(self.nanoseconds.get()))
+    }
+
+    fn since_1970(&self) -> io::Result<Duration> {
+        self.monotonic()
+    }
+}
+
+#[test]
+fn the_time_is_that_of_the_work(rt: HostRuntime) -> Result<(), Fail> {
+    let clock = Moved {
+        nanoseconds: Cell::new(5),
+    };
+    let time = timed(&clock, || {
+        clock.nanoseconds.set(12);
+        Ok(())
+    });
+    clock.nanoseconds.set(40);
+    assert_eq!(rt; time?, Duration::from_nanos(7));
+    Ok(())
+}
+
+/// A runtime whose clock reads how often its allocator was asked for.
+#[derive(Drop)]
+struct Asked<'a, R> {
+    rt: &'a R,
+    times: AtomicU64,
+}
+
+impl<'a, R: Threads> Threads for Asked<'a, R> {}
+
+impl<'a, R: Wait> Wait for Asked<'a, R> {}
+
+impl<'a, R: RandomSource> RandomSource for Asked<'a, R> {
+    fn fill_bytes(&self, buf: &mut [u8]) -> io::Result<()> {
+        self.rt.fill_bytes(buf)
+    }
+}
+
+impl<'a, R: AllocGlobal> Alloc for Asked<'a, R> {
+    type A = Global;
+
+    fn alloc(&self) -> Global {
+        self.times.fetch_add(1, Ordering::SeqCst);
+        self.rt.alloc()
+    }
+}
+
+impl<'a, R> Clock for Asked<'a, R> {
+    fn monotonic(&self) -> io::Result<Duration> {
+        Ok(Duration::from_nanos(self.times.load(Ordering::SeqCst)))
+    }
+
+    fn since_1970(&self) -> io::Result<Duration> {
+        self.monotonic()
+    }
+}
+
+// Each of these rounds asks for the allocator.
+#[test]
+fn no_round_is_made_before_the_time_or_after_it(rt: HostRuntime) -> Result<(), Fail> {
+    for channel in OF_FUTURES {
+        let asked = Asked {
+            rt: &rt,
+            times: AtomicU64::new(0),
+        };
+        let kind = Loop::Awaited(Awaited::MakeSendBlockOn);
+        let time = measure(&asked, channel, kind, 20)?.time;
+        let times = asked.times.load(Ordering::SeqCst);
+        assert!(rt; times >= 20);
+        assert_eq!(rt; time, Duration::from_nanos(times));
+    }
+    Ok(())
+}
+
+#[test]
+fn rounds_end_at_the_first_fault(rt: HostRuntime) {
+    let mut made = 0u64;
+    let ended = repeat(5, || {
+        made = made.wrapping_add(1);
+        if made == 3 {
+            Err(Fault::MessageLost)
+        } else {
+            Ok(())
+        }
+    });
+    assert!(rt; matches!(ended, Err(Fault::MessageLost)));
+    assert_eq!(rt; made, 3);
+}
+
+#[test]
+fn a_request_to_nobody_is_lost(rt: HostRuntime) -> Result<(), Fail> {
+    let (requests, served) = channel::<Request, ()>((), rt.alloc())?;
+    drop(served);
+    let lost = ask(&rt, rt.alloc(), requests, &mut Tally::new());
+    assert!(rt; matches!(lost, Err(Fault::MessageLost)));
+    Ok(())
+}
+
+#[test]
+fn a_request_that_never_comes_is_lost(rt: HostRuntime) -> Result<(), Fail> {
+    let (requests, served) = channel::<Request, _>(&rt, rt.alloc())?;
+    drop(requests);
+    assert!(rt; matches!(serve(served, &mut Tally::new()), Err(Fault::MessageLost)));
+    Ok(())
+}
+
+/// A round whose message is lost once two rounds were made.
+#[derive(Drop)]
+struct LostAtTheThird;
+
+impl PolledRound for LostAtTheThird {
+    fn make(&self, _cx: &mut Context<'_>, tally: &mut Tally) -> Result<(), Fault> {
+        if tally.channels == 2 {
+            return Err(Fault::MessageLost);
+        }
+        tally.made(8);
+        Ok(())
+    }
+}
+
+#[test]
+fn rounds_in_a_task_end_at_the_first_fault(rt: HostRuntime) -> Result<(), Fail> {
+    let mut tally = Tally::new();
+    let lost = repeat_in_task(&rt, 5, LostAtTheThird, &mut tally);
+    assert!(rt; matches!(lost, Err(Fault::MessageLost)));
+    repeat_in_task(&rt, 2, LostAtTheThird, &mut tally)?;
+    assert_eq!(rt; tally, tally_of(2, made(8)));
+    Ok(())
+}

@@ -1,0 +1,51 @@
+//! Tests of searches that find a divisor, and of those that drop their sender.
+
+use oneshot::{RecvError, async_channel};
+use oneshot_patterns::divisor::{await_divisor, divisor_of, least_divisor, send_divisor, start};
+use std::test::Fail;
+
+#[test]
+fn a_divisor_is_awaited(rt: HostRuntime) -> Result<(), Fail> {
+    // The search of 91 tries 2, 3, 4, 5, 6 and 7.
+    for (number, divisor, tried) in [(91, 7, 6), (1_000, 2, 1)] {
+        let searched = divisor_of(&rt, rt.alloc(), number)?;
+        assert_eq!(rt; (searched.found, searched.tried), (Ok(divisor), tried));
+    }
+    Ok(())
+}
+
+#[test]
+fn a_search_that_finds_none_drops_its_sender(rt: HostRuntime) -> Result<(), Fail> {
+    // The search of 97 tries each number from 2 to 96.
+    for (number, tried) in [(0, 0), (1, 0), (2, 0), (97, 95)] {
+        assert!(rt; least_divisor(number).is_none());
+        let searched = divisor_of(&rt, rt.alloc(), number)?;
+        assert_eq!(rt; (searched.found, searched.tried), (Err(RecvError), tried));
+    }
+    Ok(())
+}
+
+#[test]
+fn a_divisor_of_another_number_is_not_taken(rt: HostRuntime) -> Result<(), Fail> {
+    let (waiter, receiver) = async_channel((), rt.alloc())?;
+    assert_eq!(rt; send_divisor(91, waiter), 6);
+    assert_eq!(rt; await_divisor(&rt, 92, receiver)?, Err(RecvError));
+    Ok(())
+}
+
+#[test]
+fn a_search_ends_where_nobody_waits(rt: HostRuntime) -> Result<(), Fail> {
+    let (waiter, receiver) = async_channel((), rt.alloc())?;
+    drop(receiver);
+    let search = start(&rt, 91, waiter)?;
+    assert_eq!(rt; search.join(&rt), 6);
+    Ok(())
+}
+
+#[test]
+fn a_search_is_awaited_after_its_thread_ended(rt: HostRuntime) -> Result<(), Fail> {
+    let (waiter, receiver) = async_channel((), rt.alloc())?;
+    assert_eq!(rt; start(&rt, 91, waiter)?.join(&rt), 6);
+    assert_eq!(rt; await_divisor(&rt, 91, receiver)?, Ok(7));
+    Ok(())
+}

@@ -1,0 +1,106 @@
+//! Tests that each wait lasts as long as its limit, by a clock that returns written readings.
+
+use oneshot::channel;
+use oneshot::reply::request;
+use oneshot_patterns::pool::{pooled, total};
+use oneshot_patterns::request::{Square, Unanswered, ask};
+use oneshot_patterns::tickets::{asked, square_within};
+use std::alloc::AllocError;
+use std::io;
+use std::sync::Wait;
+use std::sync::atomic::{AtomicUsize, Ordering};
+use std::test::Fail;
+use std::thread::Threads;
+use std::time::{Clock, Duration};
+
+/// What the clock reads, in nanoseconds, in each of two waits for five nanoseconds. The deadline of the
+/// first is six and that of the second sixteen. A reading of the deadline itself is not past it.
+const READINGS: [u64; 8] = [1, 6, 6, 7, 11, 16, 16, 17];
+
+/// How many readings a wait makes.
+const A_WAIT: usize = 4;
+
+/// A runtime whose clock reads these, one after the other, and then fails.
+#[derive(Drop)]
+struct Written<'a, R> {
+    rt: &'a R,
+    made: AtomicUsize,
+}
+
+impl<'a, R> Written<'a, R> {
+    fn new(rt: &'a R) -> Written<'a, R> {
+        Written {
+            rt,
+            made: AtomicUsize::new(0),
+        }
+    }
+
+    fn made(&self) -> usize {
+        self.made.load(Ordering::SeqCst)
+    }
+}
+
+impl<'a, R: Wait> Wait for Written<'a, R> {}
+
+impl<'a, R: Threads> Threads for Written<'a, R> {}
+
+impl<'a, R> Clock for Written<'a, R> {
+    fn monotonic(&self) -> io::Result<Duration> {
+        let number = self.made.fetch_add(1, Ordering::SeqCst);
+        match READINGS.get(number) {
+            Some(reading) => Ok(Duration::from_nanos(*reading)),
+            None => Err(io::ErrorKind::Unsupported.into()),
+        }
+    }
+
+    fn since_1970(&self) -> io::Result<Duration> {
+        self.monotonic()
+    }
+}
+
+fn five() -> Duration {
+    Duration::from_nanos(5)
+}
+
+#[test]
+fn a_wait_for_a_reply_lasts_to_its_limit(rt: HostRuntime) -> Result<(), Fail> {
+    let clock = Written::new(&rt);
+    let (_request, asked) = ask(&clock, rt.alloc(), 3)?;
+    assert_eq!(rt; asked.wait_within(five()).square, Err(Unanswered::Late));
+    assert_eq!(rt; clock.made(), A_WAIT);
+    Ok(())
+}
+
+#[test]
+fn a_wait_for_a_square_lasts_to_its_limit(rt: HostRuntime) -> Result<(), Fail> {
+    let clock = Written::new(&rt);
+    let (_request, mut ticket) = request::<_, Square, _>(&clock, rt.alloc(), 3).map_err(
+        |_| AllocError,
+    )?;
+    assert_eq!(rt; square_within(&mut ticket, five()), Err(Unanswered::Late));
+    assert_eq!(rt; clock.made(), A_WAIT);
+    Ok(())
+}
+
+#[test]
+fn a_wait_for_a_report_lasts_to_its_limit(rt: HostRuntime) -> Result<(), Fail> {
+    let clock = Written::new(&rt);
+    let (_report, reported) = channel(&clock, rt.alloc())?;
+    let mut reports = Vec::new(rt.alloc());
+    reports.push(reported)?;
+    assert_eq!(rt; total(reports, five()), None);
+    assert_eq!(rt; clock.made(), A_WAIT);
+    Ok(())
+}
+
+#[test]
+fn each_wait_for_a_worker_lasts_to_its_limit(rt: HostRuntime) -> Result<(), Fail> {
+    let clock = Written::new(&rt);
+    let done = pooled(&clock, rt.alloc(), 0, &[3, 5], five())?;
+    assert_eq!(rt; done.answers.len(), 2);
+    assert_eq!(rt; clock.made(), 2 * A_WAIT);
+    let clock = Written::new(&rt);
+    assert_eq!(rt; asked(&clock, rt.alloc(), 0, &[3, 5], five())?.len(), 2);
+    assert_eq!(rt; clock.made(), 2 * A_WAIT);
+    Ok(())
+}

@@ -1,0 +1,88 @@
+//! Tests of replies that come, come too late or never come, and of the shutdown of a pool.
+
+use crossbeam_channel as queue;
+use oneshot::channel;
+use oneshot_patterns::pool::{answers_to, ask_all, pooled, total, work};
+use oneshot_patterns::request::{Unanswered, ask};
+use std::test::Fail;
+use std::time::Duration;
+
+fn minute() -> Duration {
+    Duration::from_secs(60)
+}
+
+fn moment() -> Duration {
+    Duration::from_millis(1)
+}
+
+#[test]
+fn each_request_is_answered_and_counted(rt: HostRuntime) -> Result<(), Fail> {
+    let roots = [2, 4, 6, 8, 10, 12, 14, 16];
+    let done = pooled(&rt, rt.alloc(), 3, &roots, minute())?;
+    assert_eq!(rt; done.served, Some(8));
+    assert_eq!(rt; done.answers.len(), 8);
+    for (answer, root) in done.answers.iter().zip(roots.iter()) {
+        assert_eq!(rt; answer.root, *root);
+        assert_eq!(rt; answer.square, Ok(u64::from(*root) * u64::from(*root)));
+    }
+    Ok(())
+}
+
+#[test]
+fn without_a_worker_each_answer_is_late(rt: HostRuntime) -> Result<(), Fail> {
+    let done = pooled(&rt, rt.alloc(), 0, &[3, 5], moment())?;
+    assert_eq!(rt; done.served, Some(0));
+    for answer in done.answers {
+        assert_eq!(rt; answer.square, Err(Unanswered::Late));
+    }
+    Ok(())
+}
+
+#[test]
+fn a_late_reply_is_refused(rt: HostRuntime) -> Result<(), Fail> {
+    let (request, asked) = ask(&rt, rt.alloc(), 3)?;
+    assert_eq!(rt; asked.wait_within(moment()).square, Err(Unanswered::Late));
+    assert!(rt; !request.serve());
+    Ok(())
+}
+
+#[test]
+fn a_closed_queue_loses_its_requests(rt: HostRuntime) -> Result<(), Fail> {
+    let (requests, taken) = queue::unbounded(rt.alloc())?;
+    drop(taken);
+    let all = ask_all(&rt, rt.alloc(), &requests, &[3, 5])?;
+    for answer in answers_to(rt.alloc(), all, minute())? {
+        assert_eq!(rt; answer.square, Err(Unanswered::Lost));
+    }
+    Ok(())
+}
+
+#[test]
+fn a_worker_counts_the_replies_that_were_waited_for(rt: HostRuntime) -> Result<(), Fail> {
+    let (requests, taken) = queue::unbounded(rt.alloc())?;
+    let all = ask_all(&rt, rt.alloc(), &requests, &[3, 5])?;
+    let (given_up, gone) = ask((), rt.alloc(), 7)?;
+    drop(gone);
+    assert!(rt; requests.send(&rt, given_up).is_ok());
+    drop(requests);
+    let (report, mut reported) = channel(&rt, rt.alloc())?;
+    work(&rt, &taken, report);
+    assert_eq!(rt; reported.recv_timeout(minute()), Ok(2));
+    for answer in answers_to(rt.alloc(), all, minute())? {
+        assert!(rt; answer.square.is_ok());
+    }
+    Ok(())
+}
+
+#[test]
+fn a_report_that_never_comes_is_no_total(rt: HostRuntime) -> Result<(), Fail> {
+    let (report, reported) = channel(&rt, rt.alloc())?;
+    let (lost, never) = channel(&rt, rt.alloc())?;
+    assert!(rt; report.send(2).is_ok());
+    drop(lost);
+    let mut reports = Vec::new(rt.alloc());
+    reports.push(reported)?;
+    reports.push(never)?;
+    assert_eq!(rt; total(reports, minute()), None);
+    Ok(())
+}

@@ -1,0 +1,37 @@
+//! Tests of results that are received, and of those that come back.
+
+use oneshot::channel;
+use oneshot_patterns::task::{awaited, perform, start, unclaimed};
+use std::test::Fail;
+
+#[test]
+fn a_result_is_waited_for(rt: HostRuntime) -> Result<(), Fail> {
+    let awaited = awaited(&rt, rt.alloc(), || 7u8)?;
+    assert_eq!(rt; awaited.received, Ok(7));
+    assert_eq!(rt; awaited.unclaimed, None);
+    Ok(())
+}
+
+#[test]
+fn a_result_comes_back_from_a_receiver_that_is_gone(rt: HostRuntime) -> Result<(), Fail> {
+    assert_eq!(rt; unclaimed(&rt, rt.alloc(), || 7u8)?, Some(7));
+    Ok(())
+}
+
+#[test]
+fn a_task_does_not_wait_for_its_waiter(rt: HostRuntime) -> Result<(), Fail> {
+    let (waiter, receiver) = channel(&rt, rt.alloc())?;
+    assert_eq!(rt; perform(|| 7u8, waiter), None);
+    assert_eq!(rt; receiver.recv(), Ok(7));
+    Ok(())
+}
+
+#[test]
+fn a_started_task_is_joined_after_its_result(rt: HostRuntime) -> Result<(), Fail> {
+    let (waiter, receiver) = channel(&rt, rt.alloc())?;
+    let thread = start(&rt, || 7u8, waiter)?;
+    let received = receiver.recv();
+    assert_eq!(rt; thread.join(&rt), None);
+    assert_eq!(rt; received, Ok(7));
+    Ok(())
+}
