@@ -108,7 +108,7 @@ run_loses_no_wakeup T a b xs ys word s r come answered parks run =
     let replies : answered_by Sender ms ≡ s.2 = ap (λ (z : SenderStand). z.2) run.sender in
     let ended : has_answered is_end_of_sender ms ≡ true =
     ended_once_answered ms (subst (λ replies. list_any (λ (x : Answered). is_end_of_sender x.0) replies
-        ≡ true) (sym replies) answered) in
+    ≡ true) (sym replies) answered) in
     let ahead : is_some_park (option_map receiver_step
     (the_receiver.position (run.now.world.state.receiver, run.now.world.receiver, r.2))) ≡ true =
     ap (λ (z : ReceiverStand). is_some_park (option_map receiver_step (the_receiver.position z))) run.receiver

@@ -131,7 +131,7 @@ module _ {X : Type 0} (a : SenderScript X) (b : ReceiverScript) where
         → (receiver_at g.now.world ≡ Some p)
         × (receiver_steps (receiver_input answer (g.now.count + 1) g.now.world) g.now.world.state p ≡ Some
         (receiver_stepped (receiver_input answer (g.now.count + 1) g.now.world) g.now.world.state (receiver_step p)
-            row))
+        row))
     receiver_made {r} answer g p row at rows =
         let w = g.now.world in
         let k = g.now.count + 1 in

@@ -159,7 +159,7 @@ module _ (table : TableId) where
     -- its state: the operations of its log alone, with the names of its table and of what was lent
     pub shows_operations :
         (state_of (side_with received_and_closed)).log.list ≡ worded Load MESSAGE
-            ∷ worded (Store DISCONNECTED) MESSAGE ∷ []
+        ∷ worded (Store DISCONNECTED) MESSAGE ∷ []
     pub is_not_whole : (state_of (side_with [])).log.whole ≡ false
     pub names_its_table : (state_of (side_with [])).log.channel ≡ channel_of table
     pub names_what_was_lent : (lent (9 ∷ []) (side_with [])).log.channel ≡ 9 ∷ channel_of table

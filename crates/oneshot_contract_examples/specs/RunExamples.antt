@@ -73,7 +73,7 @@ pub record LogsOfReceiver : Type 0 where
       receiver_at ((Load, Word EMPTY) ∷ (Swap RECEIVING, Word DISCONNECTED) ∷ []) ≡ unclosed storing
   pub ran_out :
       receiver_at ((Load, Word EMPTY) ∷ (Swap RECEIVING, Word EMPTY) ∷ (Swap EMPTY, Word RECEIVING) ∷ [])
-          ≡ idle after_timeout
+      ≡ idle after_timeout
   pub ran_out_and_tried_again :
       receiver_at ((Load, Word EMPTY) ∷ (Swap RECEIVING, Word EMPTY) ∷ (Swap EMPTY, Word RECEIVING) ∷ (Load, Word EMPTY)
       ∷ []) ≡ idle after_load

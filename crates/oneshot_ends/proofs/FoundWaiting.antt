@@ -31,7 +31,7 @@ appended : (xs : List Noted) (x : Noted) → found_receiver_waiting xs ≡ true 
 appended [] x e = absurd (cc e)
 appended (y ∷ xs) x e =
     either_so (is_same_seen y.1 (Word RECEIVING)) (found_receiver_waiting xs) (found_receiver_waiting (xs ++ x ∷ []))
-        (appended xs x) e
+    (appended xs x) e
 
 -- a sender's first operation beside such a receiver finds RECEIVING
 finds_zero : (q : ReceiverAt) {word : ℕ} → is_waiting q ≡ true → Is (word_between fresh q) word → word ≡ RECEIVING

@@ -115,12 +115,12 @@ freed_at_end each s r worlds moves entries is_run =
     subst (λ freed. only_if (all_ended (marks (calls_of s r) entries)) freed ≡ true)
     (freed_after (marks (calls_of s r) entries) false)
     (at_the_end freed_ending (record { none = refl; own_same = λ k freed g. refl }) each s r worlds moves entries
-        is_run)
+    is_run)
 
 pub freed_right : {T : Type 0} → Passed held_law T → Passed free_law T → Passed (kept freed_ending) T
     → EachRun T is_freed_right
 freed_right by_holders last at_end s r worlds moves entries is_run =
     both _ _
     (both _ _ (held_run by_holders s r worlds moves entries is_run) (free_last_run last s r worlds moves entries
-        is_run))
+    is_run))
     (freed_at_end at_end s r worlds moves entries is_run)

@@ -166,7 +166,7 @@ passes_by law k classed explored s r worlds moves entries apt is_run =
     subst (λ gs. Passes law (law.first (opening_place s.last)) (map (as_past k) gs))
     (sym (marks_run s r worlds moves entries is_run).1)
     (past_read law k entries ((with_history law).first (opening_place s.last)) (opening s r).sender
-        (opening s r).receiver
+    (opening s r).receiver
     (accepted_run (with_history law) k classed explored s r worlds moves entries apt is_run))
 
 abbrev pub nameless_classed : {N : Type 0} (law : Law N) → law.names ≡ no_names → Classed (with_history law) all_alike

@@ -147,6 +147,6 @@ never_unwoken s r worlds moves entries is_run =
           (receiver_reading (calls_of s r)) false worlds moves refl refl (opening_reached s r)
           (opening_found ended_reader all_alike ended_classed explored s.last)
           (λ front. answered_in front _ _ 1 _) (λ worlds moves front is_run. no_task_waits s r worlds moves front
-              is_run)
+          is_run)
           is_run;
     }

@@ -12,13 +12,13 @@ use Rattle.oneshot_machine.proofs.Sameness.{each_passes}
 abbrev pub senders : List SenderAt
 senders =
     fresh ∷ owes sending ∷ owes dropping ∷ finished sending ∷ finished dropping ∷ found_gone sending
-        ∷ found_gone dropping
+    ∷ found_gone dropping
     ∷ overtaken sending ∷ overtaken dropping ∷ no_sender ∷ []
 
 abbrev pub receivers : List ReceiverAt
 receivers =
     first ∷ idle after_load ∷ idle after_timeout ∷ waits blocked ∷ waits polled ∷ waits again ∷ claimed ∷ withdrew
-        ∷ overdue
+    ∷ overdue
     ∷ full at_once ∷ full waited ∷ full (swapped storing) ∷ full (swapped stopping) ∷ full by_future ∷ full by_poll
     ∷ unclosed storing ∷ unclosed stopping ∷ disconnected found_closed ∷ disconnected closed_itself
     ∷ resolved found_closed ∷ resolved closed_itself ∷ gone ∷ ended ∷ no_receiver ∷ []

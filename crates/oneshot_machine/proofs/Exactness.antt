@@ -164,7 +164,7 @@ module _ {P At : Type 0} (t : Table P) (nowhere : At) (rows : At → List (Row A
           → Finds rows at op word m w m' w' → StandsAt (next_at at op (saw op word)) (moved t ps (op, saw op word))
       goes_on at {ps} {op} word there (finds {next} row _ _) =
           subst (λ at. StandsAt at (moved t ps (op, saw op word)))
-              (sym (leads_exactly nowhere (rows at) (distinct at) row))
+          (sym (leads_exactly nowhere (rows at) (distinct at) row))
           (lands next (reached ps op word) (made at there row).2)
 
       -- the operations at these positions are allowed

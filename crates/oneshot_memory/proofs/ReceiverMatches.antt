@@ -129,7 +129,7 @@ module _ {T W : Type 0} where
       → ReceiverOperated q op word own own_waker content waker
   receiver_operates {q} word own own_waker content waker stands =
       operates receiver_next receiver_moves is_receivers receiver_keeps receiver_changes receiver_steady q word own
-          own_waker content waker stands.is_so
+      own_waker content waker stands.is_so
 
   -- an operation that meets its `requires`, on the ground as a caller sees it
   pub receiver_asked : (events : List (Event T W)) {op : Op} {word : ℕ} {own own_waker : Bool} {content : Option T}

@@ -72,7 +72,7 @@ module _ {T W : Type 0} where
       → SenderOperated p op word own own_waker content waker
   sender_operates {p} word own own_waker content waker stands =
       operates sender_next sender_moves is_senders sender_keeps sender_changes sender_steady p word own own_waker
-          content waker stands.is_so
+      content waker stands.is_so
 
   -- an operation that meets its `requires`, on the ground as a caller sees it
   pub sender_asked : (events : List (Event T W)) {op : Op} {word : ℕ} {own own_waker : Bool} {content : Option T}
