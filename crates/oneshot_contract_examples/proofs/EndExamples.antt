@@ -56,9 +56,9 @@ module _ (channel : TableId) where
         ran_out_is_open = refl;
         received_is_closed = refl;
         found_closed_is_closed = refl;
-        new_is_unfinished = refl;
-        polled_is_unfinished = refl;
-        received_is_done = refl;
+        new_future_is_open = refl;
+        polled_is_open = refl;
+        polled_and_received_is_closed = refl;
         sender_is_gone = refl;
         error_was_refused = was_refused (sends_over 2 R.Refused refl);
       }
@@ -71,8 +71,8 @@ module _ (channel : TableId) where
         received_is_open = λ e. cc;
         found_closed_is_open = λ e. cc;
         takes_and_is_open = λ e. cc;
-        polled_is_done = λ e. cc;
-        received_is_unfinished = λ e. cc;
+        polled_is_closed = λ e. cc;
+        polled_and_received_is_open = λ e. cc;
         sender_is_gone_and_it_waits = λ e. cc;
       }
 

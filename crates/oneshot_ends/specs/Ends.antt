@@ -37,17 +37,15 @@ pub record Channel (P : Type 0) : Type 0 where
   pub table : TableId
   pub about : P
 
--- a sender; `about` is its channel's
+-- a sender
 pub record SenderView (P : Type 0) : Type 0 where
   pub channel : Channel P
   pub log : List Noted
-  pub about : P
 
 -- a receiver: the same, with the message that it took out of the channel, if it has
 pub record ReceiverView (T P : Type 0) : Type 0 where
   pub channel : Channel P
   pub log : List Noted
-  pub about : P
   pub took : Option T
 
 -- A future: the same, with the source at which its polls register, and the waker by which the sender wakes it, while
@@ -56,7 +54,6 @@ pub record FutureView (T P : Type 0) : Type 0 where
   pub channel : Channel P
   pub log : List Noted
   pub source : ℕ
-  pub about : P
   pub took : Option T
   pub registered : Option Waker
 
@@ -130,17 +127,10 @@ ReceiverIsOrdered ys = (xs : List Noted) × (word : ℕ) × Reaches xs ys word
 abbrev pub WasRefused : (T : Type 0) → List Noted → Type 0
 WasRefused T log = SenderCalled T UnnamedWaker ((Send, Refused) ∷ []) log
 
--- a receiver that is closed, or open
-abbrev pub IsClosed : {T P : Type 0} → ReceiverView T P → Type 0
-IsClosed receiver = IsClosedAt (receiver_at receiver.log)
+-- A receiver or a future with this log is closed, so that every later receive or poll fails, or is open, so that one
+-- may return the message.
+abbrev pub IsClosed : List Noted → Type 0
+IsClosed log = IsClosedAt (receiver_at log)
 
-abbrev pub IsOpen : {T P : Type 0} → ReceiverView T P → Type 0
-IsOpen receiver = IsOpenAt (receiver_at receiver.log)
-
--- the same of a future
-abbrev pub IsDone : {T P : Type 0} → FutureView T P → Type 0
-IsDone future = IsClosedAt (receiver_at future.log)
-
--- one that is not done: a later poll may return the message
-abbrev pub IsUnfinished : {T P : Type 0} → FutureView T P → Type 0
-IsUnfinished future = IsOpenAt (receiver_at future.log)
+abbrev pub IsOpen : List Noted → Type 0
+IsOpen log = IsOpenAt (receiver_at log)
