@@ -1,6 +1,6 @@
 -- Examples that the definitions of the ends accept or refuse: open and closed ends, logs of calls, logs that have an
 -- order, copies of wakers, and grounds.
-use Rattle.std.specs.Prelude.{◌≡◌, ◌≢◌, ⊤, ℕ, ◌+◌, true, false, List, [], ◌∷◌, ◌++◌, Option, Some, None}
+use Rattle.std.specs.Prelude.{◌≡◌, ◌≢◌, ◌↔◌, ⊤, ℕ, ◌+◌, true, false, List, [], ◌∷◌, ◌++◌, Option, Some, None}
 use Rattle.std.specs.Duration.{as_nanos}
 use Rattle.std.specs.declared.time.Duration.{Duration}
 use Rattle.std.specs.Time.{instant_nanos, FitsClock}
@@ -9,9 +9,10 @@ use Rattle.atomic_table.specs.Seated.{TableId}
 use Rattle.futures.specs.Task.{Wakes}
 use Rattle.futures.specs.declared.task.context.Context.{Context}
 use Rattle.futures.specs.declared.task.waker.Waker.{Waker}
+use Rattle.oneshot_machine.specs.declared.machine.Reply.{Reply}
 use Rattle.oneshot_machine.specs.declared.machine.Reply.TheVariants.{Sent, Refused, Message, Empty, Timeout}
 use Rattle.oneshot_machine.specs.declared.machine.Seen.TheVariants.{Done, Word}
-use Rattle.oneshot_machine.specs.declared.machine.receiver.ReceiverStart.TheVariants.{TryRecv}
+use Rattle.oneshot_machine.specs.declared.machine.receiver.ReceiverStart.TheVariants.{TryRecv, RecvTimeout}
 use Rattle.oneshot_machine.specs.declared.machine.sender.SenderCall.TheVariants.{Send}
 use Rattle.oneshot_machine.specs.declared.states.Op.TheVariants.{Load, Store, Swap, Exchange, Add}
 use Rattle.oneshot_machine.specs.declared.states.TheConstants.{RECEIVING, DISCONNECTED, EMPTY, MESSAGE}
@@ -25,7 +26,7 @@ use Rattle.oneshot_ends.specs.declared.copies.Copies.{Copies}
 use Rattle.oneshot_ends.specs.declared.copies.TaskCopy.{TaskCopy}
 use Rattle.oneshot_ends.specs.Copies.{HasMade, HasNoneOf, PollHas}
 use Rattle.oneshot_ends.specs.OwnWakers.{RealWaker}
-use Rattle.oneshot_ends.specs.Ends.{Channel, ReceiverView, FutureView, channel_at, RefusedView, SenderGrew, ReceiverGrew, TimeoutRan, TimeoutGrew, HasCalls, SenderIsOrdered}
+use Rattle.oneshot_ends.specs.Ends.{Channel, ReceiverView, FutureView, channel_at, RefusedView, SenderGrew, ReceiverGrew, TimeoutRan, HasCalls, SenderIsOrdered}
 use Rattle.oneshot_ends.specs.Ends.{ReceiverIsOrdered, WasRefused}
 use Rattle.oneshot_ends.specs.Ends.{IsClosed, IsOpen}
 use Rattle.oneshot_ends.specs.Grounds.{channel_of, slot_of, state_of, lent, left_of, MayBeFreed, IsNewSender, IsNewReceiver}
@@ -86,9 +87,13 @@ module _ (T : Type 0) where
     pub has_tried : HasCalls T as_receiver ((Load, Word EMPTY) ∷ [])
     pub has_not_polled : HasCalls T as_future []
     -- a timeout whose clock failed, and one whose end an instant can hold
-    pub runs_out_at_once : (timeout : Duration) → TimeoutGrew T timeout [] ran_out Timeout
+    pub runs_out_at_once : (timeout : Duration) → TimeoutRan T timeout None [] ran_out Timeout
     pub runs_out : (timeout : Duration) (now : Instant) → FitsClock (instant_nanos now)
         → FitsClock (instant_nanos now + as_nanos timeout) → TimeoutRan T timeout (Some now) [] ran_out Timeout
+    -- what `recv_timeout` states is no less than the same for some reading of the clock
+    pub says_no_less : (timeout : Duration) (before after : List Noted) (reply : Reply)
+        → ReceiverGrew T (RecvTimeout true) before after reply
+        ↔ ((reading : Option Instant) × TimeoutRan T timeout reading before after reply)
 
   pub record CallsThatDoNotGrow : Type 0 where
     pub says_that_it_sent : SenderGrew T Send [] ((Add, Word DISCONNECTED) ∷ []) Sent → ⊥

@@ -1,14 +1,14 @@
 //! The end that receives, and may block until a message comes.
 
-ghost use Rattle.std.specs.Prelude.{◌≡◌, ◌≢◌, Err, IsErr, IfOk, IfSome};
+ghost use Rattle.std.specs.Prelude.{◌≡◌, ◌≢◌, true, Err, IsErr, IfOk, IfSome};
 ghost use Rattle.std.specs.Time.{instant_nanos, FitsClock};
 ghost use Rattle.oneshot_errors.specs.declared.recv_timeout.RecvTimeoutError.TheVariants as Timed;
 ghost use Rattle.oneshot_errors.specs.declared.try_recv.TryRecvError.TheVariants as Tried;
-ghost use Rattle.oneshot_machine.specs.declared.machine.receiver.ReceiverStart.TheVariants.{TryRecv, RecvRef, RecvDeadline};
+ghost use Rattle.oneshot_machine.specs.declared.machine.receiver.ReceiverStart.TheVariants.{TryRecv, RecvRef, RecvDeadline, RecvTimeout};
 ghost use Rattle.oneshot_machine.specs.Counts.{receiver_bound, GrewWithin};
 ghost use Rattle.oneshot_machine.specs.Phases.{receiver_at};
 ghost use Rattle.oneshot_drive.specs.BetweenCalls.{Leaves, LeavesClosed, LeavesTimed, try_recv_reply, recv_reply, timed_reply};
-ghost use Rattle.oneshot_ends.specs.Ends.{ReceiverGrew, TimeoutGrew, TimeoutRan, IsClosed, IsOpen, channel_at};
+ghost use Rattle.oneshot_ends.specs.Ends.{ReceiverGrew, TimeoutRan, IsClosed, IsOpen, channel_at};
 ghost use Rattle.oneshot_ends.specs.Grounds.{IsNewReceiver};
 ghost use Rattle.oneshot_ends.specs.OwnWakers.{IsHalfOf};
 ghost use Rattle.oneshot_ends.specs.Taken.{Takes};
@@ -193,7 +193,7 @@ impl<T: Drop, Rt: Wait + Clock + Drop, P: Promise<T>> Receiver<T, Rt, P> {
     /// at once.
     pub fn recv_timeout(&mut self, timeout: Duration) -> Result<T, RecvTimeoutError>
         ensures channel { self.new.channel ≡ self.old.channel }
-        ensures run { TimeoutGrew T timeout self.old.log self.new.log (timed_reply result) }
+        ensures run { ReceiverGrew T (RecvTimeout true) self.old.log self.new.log (timed_reply result) }
         ensures leaves { LeavesTimed result (receiver_at self.new.log) }
         ensures closes { result ≢ Err Timed.Timeout → IsClosed self.new.log }
         ensures stays_open { result ≡ Err Timed.Timeout → IsOpen self.new.log }

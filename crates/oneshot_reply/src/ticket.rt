@@ -3,11 +3,11 @@
 ghost use Rattle.std.specs.Prelude.{◌≡◌, ◌≢◌, true, Err, IsErr, IfOk};
 ghost use Rattle.oneshot_errors.specs.declared.recv_timeout.RecvTimeoutError.TheVariants as Timed;
 ghost use Rattle.oneshot_errors.specs.declared.try_recv.TryRecvError.TheVariants as Tried;
-ghost use Rattle.oneshot_ends.specs.ReceiverStart.TheVariants.{TryRecv};
+ghost use Rattle.oneshot_ends.specs.ReceiverStart.TheVariants.{RecvTimeout, TryRecv};
 ghost use Rattle.oneshot_ends.specs.Counts.{receiver_bound, GrewWithin};
 ghost use Rattle.oneshot_ends.specs.Phases.{receiver_at};
 ghost use Rattle.oneshot_ends.specs.BetweenCalls.{Leaves, LeavesTimed, try_recv_reply, timed_reply};
-ghost use Rattle.oneshot_ends.specs.Ends.{IsClosed, IsOpen, ReceiverGrew, TimeoutGrew};
+ghost use Rattle.oneshot_ends.specs.Ends.{IsClosed, IsOpen, ReceiverGrew};
 ghost use Rattle.oneshot_ends.specs.Taken.{Takes};
 
 use crate::answer::Answer;
@@ -124,7 +124,7 @@ impl<Q: Eq, A: Answer<Q> + Drop, Rt: Wait + Clock + Drop> Ticket<Q, A, Rt> {
         ensures right { IfOk result (λ reply. A.answers (A.asked reply) reply) }
         ensures took { Takes result self.old.took self.new.took }
         ensures channel { self.new.channel ≡ self.old.channel }
-        ensures run { TimeoutGrew A timeout self.old.log self.new.log (timed_reply result) }
+        ensures run { ReceiverGrew A (RecvTimeout true) self.old.log self.new.log (timed_reply result) }
         ensures leaves { LeavesTimed result (receiver_at self.new.log) }
         ensures closes { result ≢ Err Timed.Timeout → IsClosed self.new.log }
         ensures stays_open { result ≡ Err Timed.Timeout → IsOpen self.new.log }

@@ -3,9 +3,9 @@
 ghost use Rattle.std.specs.Prelude.{◌≡◌, ◌≢◌, true, Err, IsErr, IfOk};
 ghost use Rattle.oneshot_channel.specs.BetweenCalls.{Leaves, LeavesTimed, try_recv_reply, timed_reply};
 ghost use Rattle.oneshot_channel.specs.Counts.{receiver_bound, GrewWithin};
-ghost use Rattle.oneshot_channel.specs.Ends.{IsClosed, IsOpen, ReceiverGrew, TimeoutGrew};
+ghost use Rattle.oneshot_channel.specs.Ends.{IsClosed, IsOpen, ReceiverGrew};
 ghost use Rattle.oneshot_channel.specs.Phases.{receiver_at};
-ghost use Rattle.oneshot_channel.specs.ReceiverStart.TheVariants.{TryRecv};
+ghost use Rattle.oneshot_channel.specs.ReceiverStart.TheVariants.{RecvTimeout, TryRecv};
 ghost use Rattle.oneshot_channel.specs.RecvTimeoutError.TheVariants as Timed;
 ghost use Rattle.oneshot_channel.specs.Taken.{Takes};
 ghost use Rattle.oneshot_channel.specs.TryRecvError.TheVariants as Tried;
@@ -127,7 +127,7 @@ impl<Q: Eq, A: Answer<Q> + Drop, Rt: Wait + Clock + Drop> CancellableTicket<Q, A
         ensures right { IfOk result (λ reply. A.answers (A.asked reply) reply) }
         ensures took { Takes result self.old.took self.new.took }
         ensures channel { self.new.channel ≡ self.old.channel }
-        ensures run { TimeoutGrew A timeout self.old.log self.new.log (timed_reply result) }
+        ensures run { ReceiverGrew A (RecvTimeout true) self.old.log self.new.log (timed_reply result) }
         ensures leaves { LeavesTimed result (receiver_at self.new.log) }
         ensures closes { result ≢ Err Timed.Timeout → IsClosed self.new.log }
         ensures stays_open { result ≡ Err Timed.Timeout → IsOpen self.new.log }

@@ -2,8 +2,8 @@
 
 ghost use Rattle.std.specs.Prelude.{◌≡◌, true, false};
 ghost use Rattle.oneshot_channel.specs.Counts.{receiver_bound, GrewWithin};
-ghost use Rattle.oneshot_channel.specs.Ends.{IsClosed, IsOpen, ReceiverGrew, TimeoutGrew};
-ghost use Rattle.oneshot_channel.specs.ReceiverStart.TheVariants.{TryRecv, RecvRef, RecvDeadline};
+ghost use Rattle.oneshot_channel.specs.Ends.{IsClosed, IsOpen, ReceiverGrew};
+ghost use Rattle.oneshot_channel.specs.ReceiverStart.TheVariants.{TryRecv, RecvRef, RecvDeadline, RecvTimeout};
 ghost use Rattle.oneshot_channel.specs.Reply.TheVariants as R;
 ghost use Rattle.oneshot_watch.specs.declared.never.Never.{Never};
 
@@ -116,9 +116,10 @@ impl<Rt: Wait + Clock + Drop> Watch<Rt> {
         ensures channel { self.new.channel ≡ self.old.channel }
         ensures gone { result ≡ true → IsClosed self.new.log }
         ensures gone_run { result ≡ true
-            → TimeoutGrew Never timeout self.old.log self.new.log R.Disconnected }
+            → ReceiverGrew Never (RecvTimeout true) self.old.log self.new.log R.Disconnected }
         ensures there { result ≡ false → IsOpen self.new.log }
-        ensures there_run { result ≡ false → TimeoutGrew Never timeout self.old.log self.new.log R.Timeout }
+        ensures there_run { result ≡ false
+            → ReceiverGrew Never (RecvTimeout true) self.old.log self.new.log R.Timeout }
         ensures stays_gone { IsClosed self.old.log → result ≡ true }
     {
         match self.receiver.recv_timeout(timeout) {
