@@ -15,8 +15,8 @@ RESTATED = [
 ]
 # How the clauses of a future read where its messages are replies and its promise is that of a request.
 OF_REPLIES = [
-    (r"\(λ message\. P\.keeps (self\.\w+)\.about message\)",
-     r"(λ reply. Q.eq (A.asked reply) \1.about.question ≡ true)"),
+    (r"\(λ message\. P\.keeps (self\.\w+)\.channel\.about message\)",
+     r"(λ reply. Q.eq (A.asked reply) \1.channel.about.question ≡ true)"),
     (r"\b(ReceiverGrew|Result) T\b", r"\1 A"),
 ]
 

@@ -42,7 +42,7 @@ fn serve(request: Request<u32, Square>) {
 fn square_of<Rt: Wait + Clock + Drop>(
     mut ticket: Ticket<u32, Square, Rt>,
 ) -> Result<u64, RecvTimeoutError>
-    ensures { IfOk result (λ value. value ≡ ticket.about.question * ticket.about.question) }
+    ensures { IfOk result (λ value. value ≡ ticket.channel.about.question * ticket.channel.about.question) }
 {
     Ok(ticket.wait_for(Duration::from_secs(60))?.value)
 }

@@ -91,7 +91,7 @@ fn ask<'r, R: Wait>(
     jobs: &queue::Sender<Job>,
     root: u32,
 ) -> Result<Ticket<u32, Square, &'r R>, AllocError>
-    ensures { IfOk result (λ ticket. ticket.about.question ≡ root) }
+    ensures { IfOk result (λ ticket. ticket.channel.about.question ≡ root) }
 {
     let (job, ticket) = request(rt, alloc, root).map_err(|_| AllocError)?;
     let _ = jobs.send(rt, job);
@@ -102,7 +102,7 @@ fn ask<'r, R: Wait>(
 fn square_of<Rt: Wait + Clock + Drop>(
     mut ticket: Ticket<u32, Square, Rt>,
 ) -> Result<u64, RecvTimeoutError>
-    ensures { IfOk result (λ value. value ≡ ticket.about.question * ticket.about.question) }
+    ensures { IfOk result (λ value. value ≡ ticket.channel.about.question * ticket.channel.about.question) }
 {
     Ok(ticket.wait_for(Duration::from_secs(LIMIT))?.value)
 }

@@ -12,13 +12,13 @@ use std::test::Fail;
 struct Inbox<T: Drop> {
     receiver: Receiver<T, ()>,
     done: bool,
-    ghost right: { done ≡ true → IsClosed receiver },
+    ghost right: { done ≡ true → IsClosed receiver.log },
 }
 
 impl<T: Send + Drop> Inbox<T> {
     /// Makes an inbox and the sender of its message. `Err`: out of memory.
     fn new(alloc: Global) -> Result<(Sender<T>, Inbox<T>), AllocError>
-        ensures { IfOk result (λ made. IsOpen made.1.receiver) }
+        ensures { IfOk result (λ made. IsOpen made.1.receiver.log) }
     {
         let (sender, receiver) = channel((), alloc)?;
         let inbox = Inbox {

@@ -3,10 +3,7 @@
 ghost use Rattle.std.specs.Prelude.{◌≡◌, ◌<◌, None, Some, Err, IfOk, IfSome};
 ghost use Rattle.oneshot_channel.specs.TryRecvError.TheVariants as Tried;
 
-use oneshot_channel::laws::{
-    an_unfinished_future_took_none, one_channel_is_about_one_value,
-    one_channel_of_a_future_is_about_one_value,
-};
+use oneshot_channel::laws::an_unfinished_future_took_none;
 use oneshot_channel::{
     AsyncReceiver, Promise, Receiver, Sender, TryRecvError, async_channel, async_channel_for,
     channel_for,
@@ -27,9 +24,8 @@ fn left_by<Rt: Drop>(
     receiver: &mut Receiver<usize, Rt, Below>,
 ) -> Option<usize>
     requires one { sender.channel ≡ receiver.old.channel }
-    ensures below { IfSome result (λ index. index < sender.about.0) }
+    ensures below { IfSome result (λ index. index < sender.channel.about.0) }
 {
-    one_channel_is_about_one_value(&sender, receiver);
     drop(sender);
     receiver.try_recv().ok()
 }
@@ -40,9 +36,8 @@ fn left_to_a_future<Rt: Drop>(
     future: &mut AsyncReceiver<usize, Rt, Below>,
 ) -> Option<usize>
     requires one { sender.channel ≡ future.old.channel }
-    ensures below { IfSome result (λ index. index < sender.about.0) }
+    ensures below { IfSome result (λ index. index < sender.channel.about.0) }
 {
-    one_channel_of_a_future_is_about_one_value(&sender, future);
     drop(sender);
     future.try_recv().ok()
 }

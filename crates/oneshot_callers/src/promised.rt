@@ -15,7 +15,7 @@ impl Promise<usize> for Below {
 
 /// Returns the index if it is there.
 fn index_of<Rt: Drop>(receiver: &mut Receiver<usize, Rt, Below>) -> Option<usize>
-    ensures { IfSome result (λ index. index < receiver.old.about.0) }
+    ensures { IfSome result (λ index. index < receiver.old.channel.about.0) }
 {
     receiver.try_recv().ok()
 }

@@ -23,8 +23,8 @@ fn send_or_keep(sender: Sender<u64>, message: u64) -> Option<u64>
 
 /// Receives if the message is there. `Ok(None)`: the channel is open, so try again.
 fn poll<T: Drop, Rt: Drop>(receiver: &mut Receiver<T, Rt>) -> Result<Option<T>, RecvError>
-    ensures open { result ≡ Ok None → IsOpen receiver.new }
-    ensures closed { result ≢ Ok None → IsClosed receiver.new }
+    ensures open { result ≡ Ok None → IsOpen receiver.new.log }
+    ensures closed { result ≢ Ok None → IsClosed receiver.new.log }
 {
     match receiver.try_recv() {
         Ok(message) => Ok(Some(message)),
@@ -65,7 +65,7 @@ fn keep_waiting<T: Drop, Rt: Wait + Clock + Drop, F: FnOnce()>(
 fn received_before<T: Drop, Rt: Wait + Clock + Drop>(
     receiver: Receiver<T, Rt>,
 ) -> Result<T, RecvError>
-    requires { IsClosed receiver }
+    requires { IsClosed receiver.log }
     ensures { IsErr result }
 {
     receiver.recv()
@@ -75,7 +75,7 @@ fn received_before<T: Drop, Rt: Wait + Clock + Drop>(
 fn opaque_received_before<T: Drop, Rt: Wait + Clock + Drop>(
     raw: RawReceiver<T, Rt>,
 ) -> Result<T, RecvError>
-    requires { IsClosed raw }
+    requires { IsClosed raw.log }
     ensures { IsErr result }
 {
     Receiver::from_raw(raw).recv()

@@ -18,14 +18,14 @@ impl Promise<u64> for Exactly {
 
 /// Receives the message that the channel is about, if one comes.
 fn received<Rt: Wait + Clock + Drop>(receiver: Receiver<u64, Rt, Exactly>) -> Result<u64, RecvError>
-    ensures { IfOk result (λ message. message ≡ receiver.about.0) }
+    ensures { IfOk result (λ message. message ≡ receiver.channel.about.0) }
 {
     receiver.recv()
 }
 
 /// Sends the message that the channel is about.
 fn send_it(sender: Sender<u64, Exactly>, message: u64) -> bool
-    requires { message ≡ sender.about.0 }
+    requires { message ≡ sender.channel.about.0 }
 {
     sender.send_kept(message).is_ok()
 }

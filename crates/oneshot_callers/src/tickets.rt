@@ -63,8 +63,8 @@ fn both_replies<R, Rt>(
 where
     R: Wait + RandomSource + AllocGlobal,
     Rt: Drop,
-    ensures first { IfOk result (λ both. IfSome both (λ given. given.0 ≤ first.about.question)) }
-    ensures second { IfOk result (λ both. IfSome both (λ given. given.1 ≤ second.about.question)) }
+    ensures first { IfOk result (λ both. IfSome both (λ given. given.0 ≤ first.channel.about.question)) }
+    ensures second { IfOk result (λ both. IfSome both (λ given. given.1 ≤ second.channel.about.question)) }
 {
     match block_on(rt, join(first.into_future(), second.into_future()))? {
         (Ok(one), Ok(other)) => Ok(Some((one.given, other.given))),
@@ -81,8 +81,8 @@ fn first_reply<R, Rt>(
 where
     R: Wait + RandomSource + AllocGlobal,
     Rt: Drop,
-    requires { second.about.question ≡ first.about.question }
-    ensures { IfOk result (λ reply. IfSome reply (λ given. given ≤ first.about.question)) }
+    requires { second.channel.about.question ≡ first.channel.about.question }
+    ensures { IfOk result (λ reply. IfSome reply (λ given. given ≤ first.channel.about.question)) }
 {
     match block_on(rt, select(first.into_future(), second.into_future()))? {
         Either::Left((Ok(seats), _)) => Ok(Some(seats.given)),

@@ -1,7 +1,7 @@
 //! A caller that tries a future before it awaits it.
 
 ghost use Rattle.std.specs.Prelude.{◌≡◌, ◌≢◌, None};
-ghost use Rattle.oneshot_channel.specs.Ends.{IsDone, IsUnfinished};
+ghost use Rattle.oneshot_channel.specs.Ends.{IsClosed, IsOpen};
 ghost use Rattle.oneshot_channel.specs.Phases.{receiver_at};
 ghost use Rattle.oneshot_channel.specs.Polls.{is_registered};
 
@@ -17,8 +17,8 @@ use std::thread::join;
 
 /// Returns the message, or an error if none can come. `None`: try or poll again; a waiting task still waits.
 fn try_once<T: Drop, Rt: Drop>(receiver: &mut AsyncReceiver<T, Rt>) -> Option<Result<T, RecvError>>
-    ensures open { result ≡ None → IsUnfinished receiver.new }
-    ensures done { result ≢ None → IsDone receiver.new }
+    ensures open { result ≡ None → IsOpen receiver.new.log }
+    ensures done { result ≢ None → IsClosed receiver.new.log }
     ensures registered { result ≡ None
         → is_registered (receiver_at receiver.new.log) ≡ is_registered (receiver_at receiver.old.log) }
 {

@@ -1,5 +1,6 @@
 -- The examples of open and closed ends, logs of calls, orders, copies and grounds, computed.
 use Rattle.std.proofs.Common.{◌≡◌, ℕ, Bool, true, false, List, [], ◌∷◌, Option, Some, None, get_or, drop, refl, sym, ap, ◌∙◌, subst, arith, inl, inr}
+use Rattle.std.specs.declared.time.Duration.{Duration}
 use Rattle.atomic_table.specs.Seated.{TableId}
 use Rattle.futures.specs.declared.task.context.Context.{Context}
 use Rattle.oneshot_machine.specs.declared.machine.Reply.{Reply}
@@ -28,12 +29,13 @@ use Rattle.oneshot_machine.specs.TableRows.{Goes, Answers}
 use Rattle.oneshot_machine.proofs.FirstSteps.{tries_once, tries_in_vain, sends_with}
 use Rattle.oneshot_word.proofs.Between.{between}
 use Rattle.oneshot_word.proofs.RuleImplies.{Is, word_between}
-use Rattle.oneshot_ends.specs.Ends.{UnnamedWaker, SenderGrew, ReceiverGrew}
+use Rattle.oneshot_ends.specs.Ends.{UnnamedWaker, SenderGrew, ReceiverGrew, TimeoutRan}
 use Rattle.oneshot_contract_examples.specs.EndExamples.{ran_out, EndsThatAre, EndsThatAreNot, CallsThatGrow, CallsThatDoNotGrow, CopiesThatAre}
 use Rattle.oneshot_contract_examples.specs.EndExamples.{CopiesThatAreNot, RealGroundsThatAre}
 use Rattle.oneshot_ends.specs.OwnWakers.{is_waiting}
 use Rattle.oneshot_contract_examples.specs.EndExamples.{RealGroundsThatAreNot, OrderedLogs, UnorderedLogs}
 use Rattle.oneshot_ends.proofs.CallsAnswered.{one_more, was_refused}
+use Rattle.oneshot_ends.proofs.TimeoutEnds.{with_an_end}
 use Rattle.oneshot_contract_examples.proofs.Endless.{never_runs_out}
 use Rattle.oneshot_contract_examples.proofs.ComputedRuns.{computed}
 
@@ -56,9 +58,9 @@ module _ (channel : TableId) where
         ran_out_is_open = refl;
         received_is_closed = refl;
         found_closed_is_closed = refl;
-        new_is_unfinished = refl;
-        polled_is_unfinished = refl;
-        received_is_done = refl;
+        new_future_is_open = refl;
+        polled_is_open = refl;
+        polled_and_received_is_closed = refl;
         sender_is_gone = refl;
         error_was_refused = was_refused (sends_over 2 R.Refused refl);
       }
@@ -71,8 +73,8 @@ module _ (channel : TableId) where
         received_is_open = λ e. cc;
         found_closed_is_open = λ e. cc;
         takes_and_is_open = λ e. cc;
-        polled_is_done = λ e. cc;
-        received_is_unfinished = λ e. cc;
+        polled_is_closed = λ e. cc;
+        polled_and_received_is_open = λ e. cc;
         sender_is_gone_and_it_waits = λ e. cc;
       }
 
@@ -113,17 +115,18 @@ module _ {T : Type 0} where
             };
         has_tried = (_, one_more TryRecv refl not_called tried);
         has_not_polled = (_, became_future not_called);
-        runs_out_at_once =
-            λ timeout.
-            record {
-              reading = None;
-              readable = tt;
-              ran = record { has_end = true; held = (λ _. tt, λ _. refl); grew = runs_out true };
-            };
+        runs_out_at_once = λ timeout. at_once (runs_out true);
         runs_out =
             λ timeout now fits sum. record { has_end = true; held = (λ _. sum, λ _. refl); grew = runs_out false };
+        says_no_less =
+            λ timeout before after reply.
+            (λ grew. (None, at_once grew), λ (reading, ran). with_an_end ran.has_end ran.grew);
       }
     where
+      at_once : {timeout : Duration} {before after : List Noted} {reply : Reply}
+          → ReceiverGrew T (RecvTimeout true) before after reply → TimeoutRan T timeout None before after reply
+      at_once grew = record { has_end = true; held = (λ _. tt, λ _. refl); grew = grew }
+
       tried : ReceiverGrew T TryRecv [] ((Load, Word EMPTY) ∷ []) R.Empty
       tried = record { run = worded Load EMPTY ∷ []; is_run = last _ refl refl; list = refl }
 

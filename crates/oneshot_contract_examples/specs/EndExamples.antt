@@ -1,6 +1,6 @@
 -- Examples that the definitions of the ends accept or refuse: open and closed ends, logs of calls, logs that have an
 -- order, copies of wakers, and grounds.
-use Rattle.std.specs.Prelude.{◌≡◌, ◌≢◌, ⊤, ℕ, ◌+◌, true, false, List, [], ◌∷◌, ◌++◌, Option, Some, None}
+use Rattle.std.specs.Prelude.{◌≡◌, ◌≢◌, ◌↔◌, ⊤, ℕ, ◌+◌, true, false, List, [], ◌∷◌, ◌++◌, Option, Some, None}
 use Rattle.std.specs.Duration.{as_nanos}
 use Rattle.std.specs.declared.time.Duration.{Duration}
 use Rattle.std.specs.Time.{instant_nanos, FitsClock}
@@ -9,9 +9,10 @@ use Rattle.atomic_table.specs.Seated.{TableId}
 use Rattle.futures.specs.Task.{Wakes}
 use Rattle.futures.specs.declared.task.context.Context.{Context}
 use Rattle.futures.specs.declared.task.waker.Waker.{Waker}
+use Rattle.oneshot_machine.specs.declared.machine.Reply.{Reply}
 use Rattle.oneshot_machine.specs.declared.machine.Reply.TheVariants.{Sent, Refused, Message, Empty, Timeout}
 use Rattle.oneshot_machine.specs.declared.machine.Seen.TheVariants.{Done, Word}
-use Rattle.oneshot_machine.specs.declared.machine.receiver.ReceiverStart.TheVariants.{TryRecv}
+use Rattle.oneshot_machine.specs.declared.machine.receiver.ReceiverStart.TheVariants.{TryRecv, RecvTimeout}
 use Rattle.oneshot_machine.specs.declared.machine.sender.SenderCall.TheVariants.{Send}
 use Rattle.oneshot_machine.specs.declared.states.Op.TheVariants.{Load, Store, Swap, Exchange, Add}
 use Rattle.oneshot_machine.specs.declared.states.TheConstants.{RECEIVING, DISCONNECTED, EMPTY, MESSAGE}
@@ -25,9 +26,9 @@ use Rattle.oneshot_ends.specs.declared.copies.Copies.{Copies}
 use Rattle.oneshot_ends.specs.declared.copies.TaskCopy.{TaskCopy}
 use Rattle.oneshot_ends.specs.Copies.{HasMade, HasNoneOf, PollHas}
 use Rattle.oneshot_ends.specs.OwnWakers.{RealWaker}
-use Rattle.oneshot_ends.specs.Ends.{Channel, ReceiverView, FutureView, channel_at, RefusedView, SenderGrew, ReceiverGrew, TimeoutRan, TimeoutGrew, HasCalls, SenderIsOrdered}
+use Rattle.oneshot_ends.specs.Ends.{Channel, ReceiverView, FutureView, channel_at, RefusedView, SenderGrew, ReceiverGrew, TimeoutRan, HasCalls, SenderIsOrdered}
 use Rattle.oneshot_ends.specs.Ends.{ReceiverIsOrdered, WasRefused}
-use Rattle.oneshot_ends.specs.Ends.{IsClosed, IsOpen, IsDone, IsUnfinished}
+use Rattle.oneshot_ends.specs.Ends.{IsClosed, IsOpen}
 use Rattle.oneshot_ends.specs.Grounds.{channel_of, slot_of, state_of, lent, left_of, MayBeFreed, IsNewSender, IsNewReceiver}
 use Rattle.oneshot_ends.specs.Polling.{token_of, polled_state}
 use Rattle.oneshot_contract_examples.specs.ExampleLogs.{polled}
@@ -45,35 +46,35 @@ module _ (table : TableId) where
   channel = record { table = table; about = 5 }
 
   abbrev pub end_with : List Noted → ReceiverView ℕ ℕ
-  end_with log = record { channel = channel; log = log; about = 5; took = None }
+  end_with log = record { channel = channel; log = log; took = None }
 
   abbrev pub error_with : List Noted → RefusedView ℕ ℕ
   error_with log = record { message = 7; channel = channel; log = log }
 
   abbrev pub future_with : List Noted → FutureView ℕ ℕ
-  future_with log = record { channel = channel; log = log; source = 1; about = 5; took = None; registered = None }
+  future_with log = record { channel = channel; log = log; source = 1; took = None; registered = None }
 
   pub record EndsThatAre : Type 0 where
-    pub new_is_open : IsOpen (end_with [])
-    pub looked_is_open : IsOpen (end_with ((Load, Word EMPTY) ∷ []))
-    pub ran_out_is_open : IsOpen (end_with ran_out)
-    pub received_is_closed : IsClosed (end_with received_and_closed)
-    pub found_closed_is_closed : IsClosed (end_with ((Load, Word DISCONNECTED) ∷ []))
-    pub new_is_unfinished : IsUnfinished (future_with [])
-    pub polled_is_unfinished : IsUnfinished (future_with polled)
-    pub received_is_done : IsDone (future_with (polled ++ received_and_closed))
-    pub sender_is_gone : IsDone (future_with (polled ++ (Load, Word DISCONNECTED) ∷ []))
+    pub new_is_open : IsOpen (end_with []).log
+    pub looked_is_open : IsOpen (end_with ((Load, Word EMPTY) ∷ [])).log
+    pub ran_out_is_open : IsOpen (end_with ran_out).log
+    pub received_is_closed : IsClosed (end_with received_and_closed).log
+    pub found_closed_is_closed : IsClosed (end_with ((Load, Word DISCONNECTED) ∷ [])).log
+    pub new_future_is_open : IsOpen (future_with []).log
+    pub polled_is_open : IsOpen (future_with polled).log
+    pub polled_and_received_is_closed : IsClosed (future_with (polled ++ received_and_closed)).log
+    pub sender_is_gone : IsClosed (future_with (polled ++ (Load, Word DISCONNECTED) ∷ [])).log
     pub error_was_refused : WasRefused ℕ (error_with ((Add, Word DISCONNECTED) ∷ [])).log
 
   pub record EndsThatAreNot : Type 0 where
-    pub new_is_closed : IsClosed (end_with []) → ⊥
-    pub ran_out_is_closed : IsClosed (end_with ran_out) → ⊥
-    pub received_is_open : IsOpen (end_with received_and_closed) → ⊥
-    pub found_closed_is_open : IsOpen (end_with ((Load, Word DISCONNECTED) ∷ [])) → ⊥
-    pub takes_and_is_open : IsOpen (end_with ((Load, Word MESSAGE) ∷ [])) → ⊥
-    pub polled_is_done : IsDone (future_with polled) → ⊥
-    pub received_is_unfinished : IsUnfinished (future_with (polled ++ received_and_closed)) → ⊥
-    pub sender_is_gone_and_it_waits : IsUnfinished (future_with (polled ++ (Load, Word DISCONNECTED) ∷ [])) → ⊥
+    pub new_is_closed : IsClosed (end_with []).log → ⊥
+    pub ran_out_is_closed : IsClosed (end_with ran_out).log → ⊥
+    pub received_is_open : IsOpen (end_with received_and_closed).log → ⊥
+    pub found_closed_is_open : IsOpen (end_with ((Load, Word DISCONNECTED) ∷ [])).log → ⊥
+    pub takes_and_is_open : IsOpen (end_with ((Load, Word MESSAGE) ∷ [])).log → ⊥
+    pub polled_is_closed : IsClosed (future_with polled).log → ⊥
+    pub polled_and_received_is_open : IsOpen (future_with (polled ++ received_and_closed)).log → ⊥
+    pub sender_is_gone_and_it_waits : IsOpen (future_with (polled ++ (Load, Word DISCONNECTED) ∷ [])).log → ⊥
 
 -- THE LOG OF A CALL
 module _ (T : Type 0) where
@@ -86,9 +87,13 @@ module _ (T : Type 0) where
     pub has_tried : HasCalls T as_receiver ((Load, Word EMPTY) ∷ [])
     pub has_not_polled : HasCalls T as_future []
     -- a timeout whose clock failed, and one whose end an instant can hold
-    pub runs_out_at_once : (timeout : Duration) → TimeoutGrew T timeout [] ran_out Timeout
+    pub runs_out_at_once : (timeout : Duration) → TimeoutRan T timeout None [] ran_out Timeout
     pub runs_out : (timeout : Duration) (now : Instant) → FitsClock (instant_nanos now)
         → FitsClock (instant_nanos now + as_nanos timeout) → TimeoutRan T timeout (Some now) [] ran_out Timeout
+    -- what `recv_timeout` states is no less than the same for some reading of the clock
+    pub says_no_less : (timeout : Duration) (before after : List Noted) (reply : Reply)
+        → ReceiverGrew T (RecvTimeout true) before after reply
+        ↔ ((reading : Option Instant) × TimeoutRan T timeout reading before after reply)
 
   pub record CallsThatDoNotGrow : Type 0 where
     pub says_that_it_sent : SenderGrew T Send [] ((Add, Word DISCONNECTED) ∷ []) Sent → ⊥

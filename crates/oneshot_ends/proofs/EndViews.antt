@@ -11,8 +11,8 @@ module _ {T P : Type 0} where
   pub same_steps : {a b : ReceiverView T P} → a ≡ b → a.log ≡ b.log
   same_steps is = ap (λ (e : ReceiverView T P). e.log) is
 
-  pub same_about : {a b : ReceiverView T P} → a ≡ b → a.about ≡ b.about
-  same_about is = ap (λ (e : ReceiverView T P). e.about) is
+  pub same_about : {a b : ReceiverView T P} → a ≡ b → a.channel.about ≡ b.channel.about
+  same_about is = ap (λ (e : ReceiverView T P). e.channel.about) is
 
   pub same_took : {a b : ReceiverView T P} → a ≡ b → a.took ≡ b.took
   same_took is = ap (λ (e : ReceiverView T P). e.took) is
@@ -20,8 +20,8 @@ module _ {T P : Type 0} where
   pub future_steps : {a b : FutureView T P} → a ≡ b → a.log ≡ b.log
   future_steps is = ap (λ (e : FutureView T P). e.log) is
 
-  pub future_about : {a b : FutureView T P} → a ≡ b → a.about ≡ b.about
-  future_about is = ap (λ (e : FutureView T P). e.about) is
+  pub future_about : {a b : FutureView T P} → a ≡ b → a.channel.about ≡ b.channel.about
+  future_about is = ap (λ (e : FutureView T P). e.channel.about) is
 
   pub future_took : {a b : FutureView T P} → a ≡ b → a.took ≡ b.took
   future_took is = ap (λ (e : FutureView T P). e.took) is

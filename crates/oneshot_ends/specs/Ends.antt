@@ -1,6 +1,5 @@
 -- What a contract sees of an end: the channel that it belongs to, and the log of its operations on the word.
-use Rattle.std.specs.Prelude.{◌≡◌, ◌↔◌, ℕ, Bool, List, [], ◌∷◌, ◌++◌, ◌⊎◌, true, Option, Some, None, IfSome, IsSomeAnd, IsTrue}
-use Rattle.std.specs.Time.{instant_nanos, FitsClock}
+use Rattle.std.specs.Prelude.{◌≡◌, ◌↔◌, ℕ, Bool, List, [], ◌∷◌, ◌++◌, ◌⊎◌, true, Option, Some, None, IsSomeAnd, IsTrue}
 use Rattle.std.specs.declared.time.Duration.{Duration}
 use Rattle.std.specs.declared.time.Instant.{Instant}
 use Rattle.atomic_table.specs.Seated.{TableId}
@@ -37,17 +36,15 @@ pub record Channel (P : Type 0) : Type 0 where
   pub table : TableId
   pub about : P
 
--- a sender; `about` is its channel's
+-- a sender
 pub record SenderView (P : Type 0) : Type 0 where
   pub channel : Channel P
   pub log : List Noted
-  pub about : P
 
 -- a receiver: the same, with the message that it took out of the channel, if it has
 pub record ReceiverView (T P : Type 0) : Type 0 where
   pub channel : Channel P
   pub log : List Noted
-  pub about : P
   pub took : Option T
 
 -- A future: the same, with the source at which its polls register, and the waker by which the sender wakes it, while
@@ -56,7 +53,6 @@ pub record FutureView (T P : Type 0) : Type 0 where
   pub channel : Channel P
   pub log : List Noted
   pub source : ℕ
-  pub about : P
   pub took : Option T
   pub registered : Option Waker
 
@@ -93,20 +89,14 @@ pub record ReceiverGrew (T : Type 0) (call : ReceiverStart) (before after : List
   pub is_run : Run receiver_step receiver_row (receiver_start call) run reply
   pub list : after ≡ before ++ words run
 
--- The same of a receive with this timeout after this reading of the clock, which may have failed. It waits
--- without an end exactly if no instant can hold the sum.
+-- The same of a receive with this timeout after this reading of the clock, which may have failed. It waits without an
+-- end exactly if no instant can hold the sum. Public clauses name no reading: a receive without an end has the log and
+-- the reply of one with an end, so they state `RecvTimeout true` of every timeout (`says_no_less` of the examples).
 pub record TimeoutRan (T : Type 0) (timeout : Duration) (reading : Option Instant) (before after : List Noted)
     (reply : Reply) : Type 0 where
   pub has_end : Bool
   pub held : IsTrue has_end ↔ HasEnd timeout reading
   pub grew : ReceiverGrew T (RecvTimeout has_end) before after reply
-
--- The same for some reading, since no contract states what a clock reads. A clock may fail, and then any timeout has an
--- end: so this states of every timeout what it states of a receive with a deadline.
-pub record TimeoutGrew (T : Type 0) (timeout : Duration) (before after : List Noted) (reply : Reply) : Type 0 where
-  pub reading : Option Instant
-  pub readable : IfSome reading (λ now. FitsClock (instant_nanos now))
-  pub ran : TimeoutRan T timeout reading before after reply
 
 -- The log of a receiver or a future between two calls is that of some calls that it has replied to.
 abbrev pub HasCalls : (T : Type 0) → Form → List Noted → Type 0
@@ -130,17 +120,10 @@ ReceiverIsOrdered ys = (xs : List Noted) × (word : ℕ) × Reaches xs ys word
 abbrev pub WasRefused : (T : Type 0) → List Noted → Type 0
 WasRefused T log = SenderCalled T UnnamedWaker ((Send, Refused) ∷ []) log
 
--- a receiver that is closed, or open
-abbrev pub IsClosed : {T P : Type 0} → ReceiverView T P → Type 0
-IsClosed receiver = IsClosedAt (receiver_at receiver.log)
+-- A receiver or a future with this log is closed, so that every later receive or poll fails, or is open, so that one
+-- may return the message.
+abbrev pub IsClosed : List Noted → Type 0
+IsClosed log = IsClosedAt (receiver_at log)
 
-abbrev pub IsOpen : {T P : Type 0} → ReceiverView T P → Type 0
-IsOpen receiver = IsOpenAt (receiver_at receiver.log)
-
--- the same of a future
-abbrev pub IsDone : {T P : Type 0} → FutureView T P → Type 0
-IsDone future = IsClosedAt (receiver_at future.log)
-
--- one that is not done: a later poll may return the message
-abbrev pub IsUnfinished : {T P : Type 0} → FutureView T P → Type 0
-IsUnfinished future = IsOpenAt (receiver_at future.log)
+abbrev pub IsOpen : List Noted → Type 0
+IsOpen log = IsOpenAt (receiver_at log)

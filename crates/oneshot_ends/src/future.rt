@@ -12,7 +12,7 @@ ghost use Rattle.oneshot_machine.specs.Phases.{receiver_at};
 ghost use Rattle.oneshot_drive.specs.BetweenCalls.{AtRest, try_recv_reply};
 ghost use Rattle.oneshot_drive.specs.Polls.{LeavesPolled, LeavesTried, StaysRegistered, IsDisconnected, poll_reply};
 ghost use Rattle.oneshot_machine.specs.Called.{as_receiver};
-ghost use Rattle.oneshot_ends.specs.Ends.{ReceiverGrew, HasCalls, IsDone, IsUnfinished, channel_at, WillBeWoken};
+ghost use Rattle.oneshot_ends.specs.Ends.{ReceiverGrew, HasCalls, IsClosed, IsOpen, channel_at, WillBeWoken};
 ghost use Rattle.oneshot_ends.specs.Grounds.{state_of};
 ghost use Rattle.oneshot_ends.specs.Taken.{TookAsFound, Takes, TakesReady};
 
@@ -34,8 +34,8 @@ use std::marker::{Model, PhantomData};
 /// refused: its error owns the message. The drop never blocks. If the sender is about to finish, the drop
 /// returns at once, the sender's side frees the memory, and a `send` is refused too.
 ///
-/// A contract sees the future's channel, the value that the channel is about, the log of the future's
-/// operations on the word, which determines whether it is done, the source at which its polls register, the
+/// A contract sees the future's channel, with the value that it is about, the log of the future's
+/// operations on the word, which determines whether it is closed, the source at which its polls register, the
 /// message that it took out of the channel, if it has, and while it is registered the waker by which its sender
 /// wakes it. It takes at most one message.
 ///
@@ -63,7 +63,6 @@ impl<T, Rt, P: Promise<T>> Model for AsyncReceiver<T, Rt, P> {
       channel = channel_at r.ground;
       log = r.ground.log;
       source = r.source.id;
-      about = r.ground.about;
       took = r.ground.passed;
       registered = registered_by r.ground;
     } };
@@ -82,7 +81,6 @@ impl<T, Rt, P: Promise<T>> AsyncReceiver<T, Rt, P> {
         requires found { TookAsFound ground.passed ground.log }
         ensures channel { result.channel ≡ channel_at ground }
         ensures log { result.log ≡ ground.log }
-        ensures about { result.about ≡ ground.about }
         ensures took { result.took ≡ ground.passed }
     {
         AsyncReceiver {
@@ -102,7 +100,7 @@ impl<T: Drop, Rt: Drop, P: Promise<T>> AsyncReceiver<T, Rt, P> {
     /// After `Empty` a registered task is still registered, as clause `registered` states, by the same waker
     /// (`same_waker`). The law `no_wakeup_is_lost` states that a later `send`, or the sender's drop, then uses it.
     ///
-    /// - `Ok`: the message. The future is done from then on.
+    /// - `Ok`: the message. The future is closed from then on.
     /// - `Err(Empty)`: nothing was sent yet, or a `send` or the sender's drop is under way. The future stays
     ///   open, and registers no task.
     /// - `Err(Disconnected)`: the sender is gone without a message, or the message was received before.
@@ -112,14 +110,13 @@ impl<T: Drop, Rt: Drop, P: Promise<T>> AsyncReceiver<T, Rt, P> {
         ensures source { self.new.source ≡ self.old.source }
         ensures run { ReceiverGrew T C.AsyncTryRecv self.old.log self.new.log (try_recv_reply result) }
         ensures leaves { LeavesTried result (receiver_at self.new.log) }
-        ensures closes { result ≢ Err Tried.Empty → IsDone self.new }
-        ensures stays_open { result ≡ Err Tried.Empty → IsUnfinished self.new }
-        ensures stays_closed { IsDone self.old → result ≡ Err Tried.Disconnected }
+        ensures closes { result ≢ Err Tried.Empty → IsClosed self.new.log }
+        ensures stays_open { result ≡ Err Tried.Empty → IsOpen self.new.log }
+        ensures stays_closed { IsClosed self.old.log → result ≡ Err Tried.Disconnected }
         ensures registered { StaysRegistered result (receiver_at self.old.log) (receiver_at self.new.log) }
         ensures same_waker { result ≡ Err Tried.Empty → self.new.registered ≡ self.old.registered }
         ensures bounded { GrewWithin (receiver_bound C.AsyncTryRecv) self.old.log self.new.log }
-        ensures about { self.new.about ≡ self.old.about }
-        ensures promise { IfOk result (λ message. P.keeps self.old.about message) }
+        ensures promise { IfOk result (λ message. P.keeps self.old.channel.about message) }
         ensures took { Takes result self.old.took self.new.took }
     {
         async_try_recv(&mut self.ground)
@@ -132,7 +129,7 @@ impl<T: Drop, Rt: Drop, P: Promise<T>> Future for AsyncReceiver<T, Rt, P> {
     ghost needs = { λ r s. s ≡ r.source };
 
     // The message keeps the promise, also after an executor or a combinator has passed it on.
-    ghost gives = { λ r answer. IfOk answer (λ message. P.keeps r.about message) };
+    ghost gives = { λ r answer. IfOk answer (λ message. P.keeps r.channel.about message) };
 
     /// Polls once, for the task of `cx`. It never blocks and does not allocate: no poll waits for the sender.
     ///
@@ -143,11 +140,11 @@ impl<T: Drop, Rt: Drop, P: Promise<T>> Future for AsyncReceiver<T, Rt, P> {
     ///   sender then takes is a copy of this task's (clause `woken`). If no copy of its waker could be made, or
     ///   the sender is about to finish, the task is woken at once.
     fn poll(&mut self, cx: &mut Context<'_>) -> Poll<Result<T, RecvError>>
-        ensures value { IfReady result (λ answer. IfOk answer (λ message. P.keeps self.old.about message)) }
+        ensures value { IfReady result (λ answer. IfOk answer (λ message. P.keeps self.old.channel.about message)) }
         ensures again { OnPending result ⊤ }
         ensures same { OnPending result ((answer : Result T RecvError)
-            → IfOk answer (λ message. P.keeps self.new.about message)
-            → IfOk answer (λ message. P.keeps self.old.about message)) }
+            → IfOk answer (λ message. P.keeps self.new.channel.about message)
+            → IfOk answer (λ message. P.keeps self.old.channel.about message)) }
         ensures registered { OnPending result (Covers cx.new (λ s. s ≡ self.new.source)) }
         ensures woken { OnPending result (WillBeWoken cx.new self.new) }
         ensures kept { Keeps cx.old cx.new }
@@ -155,11 +152,10 @@ impl<T: Drop, Rt: Drop, P: Promise<T>> Future for AsyncReceiver<T, Rt, P> {
         ensures source { self.new.source ≡ self.old.source }
         ensures run { ReceiverGrew T C.Poll self.old.log self.new.log (poll_reply result) }
         ensures leaves { LeavesPolled result (receiver_at self.new.log) }
-        ensures closes { result ≢ Pending → IsDone self.new }
-        ensures stays_open { result ≡ Pending → IsUnfinished self.new }
-        ensures stays_closed { IsDone self.old → IsDisconnected result }
+        ensures closes { result ≢ Pending → IsClosed self.new.log }
+        ensures stays_open { result ≡ Pending → IsOpen self.new.log }
+        ensures stays_closed { IsClosed self.old.log → IsDisconnected result }
         ensures bounded { GrewWithin (receiver_bound C.Poll) self.old.log self.new.log }
-        ensures about { self.new.about ≡ self.old.about }
         ensures took { TakesReady result self.old.took self.new.took }
     {
         let mut lent = Polling {

@@ -5,7 +5,7 @@ ghost use Rattle.atomic_table.specs.Seated.{TableId};
 ghost use Rattle.futures.specs.declared.task.context.Context.{Context};
 ghost use Rattle.std.specs.Prelude.{◌≡◌, [], None};
 ghost use Rattle.oneshot_machine.specs.Called.{as_receiver, as_future};
-ghost use Rattle.oneshot_ends.specs.Ends.{IsOpen, IsUnfinished, HasCalls, CallsAddUp, SenderIsOrdered, ReceiverIsOrdered, WasRefused};
+ghost use Rattle.oneshot_ends.specs.Ends.{IsOpen, HasCalls, CallsAddUp, SenderIsOrdered, ReceiverIsOrdered, WasRefused};
 ghost use Rattle.oneshot_ends.specs.DeadlineExamples.{DeadlinesThatAre, DeadlinesThatAreNot};
 ghost use Rattle.oneshot_ends.specs.Moments.{TookWhatWasGiven};
 ghost use Rattle.oneshot_ends.specs.NoLostWakeup.{EndedSendersGaveTokens, NoSleeperIsForgotten, FuturesWakeNoThread};
@@ -49,28 +49,6 @@ pub fn a_future_has_its_calls<T, Rt, P: Promise<T>>(future: &AsyncReceiver<T, Rt
     let _ground = &future.ground;
 }
 
-/// Ends of one channel are about one value.
-pub fn one_channel_is_about_one_value<T, Rt, P: Promise<T>>(
-    sender: &Sender<T, P>,
-    receiver: &Receiver<T, Rt, P>,
-)
-    ensures { sender.now.channel ≡ receiver.now.channel → sender.now.about ≡ receiver.now.about }
-{
-    let _side = &sender.side;
-    let _ground = &receiver.ground;
-}
-
-/// The same if the receiver is a future.
-pub fn one_channel_of_a_future_is_about_one_value<T, Rt, P: Promise<T>>(
-    sender: &Sender<T, P>,
-    future: &AsyncReceiver<T, Rt, P>,
-)
-    ensures { sender.now.channel ≡ future.now.channel → sender.now.about ≡ future.now.about }
-{
-    let _side = &sender.side;
-    let _ground = &future.ground;
-}
-
 /// A receiver has taken a message exactly if an operation of its log found one.
 pub fn a_receiver_took_what_it_found<T, Rt, P: Promise<T>>(receiver: &Receiver<T, Rt, P>)
     ensures { TookAsFound receiver.now.took receiver.now.log }
@@ -87,14 +65,14 @@ pub fn a_future_took_what_it_found<T, Rt, P: Promise<T>>(future: &AsyncReceiver<
 
 /// An open receiver has taken no message: so a receiver takes at most one, and is closed from then on.
 pub fn an_open_receiver_took_none<T, Rt, P: Promise<T>>(receiver: &Receiver<T, Rt, P>)
-    ensures { IsOpen receiver.now → receiver.now.took ≡ None }
+    ensures { IsOpen receiver.now.log → receiver.now.took ≡ None }
 {
     a_receiver_took_what_it_found(receiver);
 }
 
 /// The same of a future.
 pub fn an_unfinished_future_took_none<T, Rt, P: Promise<T>>(future: &AsyncReceiver<T, Rt, P>)
-    ensures { IsUnfinished future.now → future.now.took ≡ None }
+    ensures { IsOpen future.now.log → future.now.took ≡ None }
 {
     a_future_took_what_it_found(future);
 }

@@ -1,7 +1,7 @@
 //! The functions that make a channel.
 
 ghost use Rattle.std.specs.Prelude.{◌≡◌, [], IfOk, None};
-ghost use Rattle.oneshot_ends.specs.Ends.{IsOpen, IsUnfinished};
+ghost use Rattle.oneshot_ends.specs.Ends.{IsOpen};
 
 use crate::future::AsyncReceiver;
 use crate::receiver::Receiver;
@@ -26,7 +26,7 @@ pub fn channel<T: Send + Drop, Rt: Drop>(
     ensures new_sender { IfOk result (λ ends. ends.0.log ≡ []) }
     ensures new_receiver { IfOk result (λ ends. ends.1.log ≡ []) }
     ensures none_taken { IfOk result (λ ends. ends.1.took ≡ None) }
-    ensures open { IfOk result (λ ends. IsOpen ends.1) }
+    ensures open { IfOk result (λ ends. IsOpen ends.1.log) }
 {
     // Does not call `channel_for`, which would copy both ends once more.
     let (sender, receiver) = open(alloc, &())?;
@@ -54,9 +54,9 @@ pub fn channel_for<T: Send + Drop, Rt: Drop, P: Promise<T>>(
     ensures new_sender { IfOk result (λ ends. ends.0.log ≡ []) }
     ensures new_receiver { IfOk result (λ ends. ends.1.log ≡ []) }
     ensures none_taken { IfOk result (λ ends. ends.1.took ≡ None) }
-    ensures open { IfOk result (λ ends. IsOpen ends.1) }
-    ensures sender_about { IfOk result (λ ends. ends.0.about ≡ about.now) }
-    ensures receiver_about { IfOk result (λ ends. ends.1.about ≡ about.now) }
+    ensures open { IfOk result (λ ends. IsOpen ends.1.log) }
+    ensures sender_about { IfOk result (λ ends. ends.0.channel.about ≡ about.now) }
+    ensures receiver_about { IfOk result (λ ends. ends.1.channel.about ≡ about.now) }
 {
     let (sender, receiver) = open(alloc, about)?;
     let Ok((parking, waking)) = parker(alloc) else {
@@ -80,7 +80,7 @@ pub fn async_channel<T: Send + Drop, Rt: Drop>(
     ensures new_sender { IfOk result (λ ends. ends.0.log ≡ []) }
     ensures new_receiver { IfOk result (λ ends. ends.1.log ≡ []) }
     ensures none_taken { IfOk result (λ ends. ends.1.took ≡ None) }
-    ensures open { IfOk result (λ ends. IsUnfinished ends.1) }
+    ensures open { IfOk result (λ ends. IsOpen ends.1.log) }
 {
     let (sender, receiver) = channel(rt, alloc)?;
     Ok((sender, receiver.into_future()))
@@ -97,9 +97,9 @@ pub fn async_channel_for<T: Send + Drop, Rt: Drop, P: Promise<T>>(
     ensures new_sender { IfOk result (λ ends. ends.0.log ≡ []) }
     ensures new_receiver { IfOk result (λ ends. ends.1.log ≡ []) }
     ensures none_taken { IfOk result (λ ends. ends.1.took ≡ None) }
-    ensures open { IfOk result (λ ends. IsUnfinished ends.1) }
-    ensures sender_about { IfOk result (λ ends. ends.0.about ≡ about.now) }
-    ensures receiver_about { IfOk result (λ ends. ends.1.about ≡ about.now) }
+    ensures open { IfOk result (λ ends. IsOpen ends.1.log) }
+    ensures sender_about { IfOk result (λ ends. ends.0.channel.about ≡ about.now) }
+    ensures receiver_about { IfOk result (λ ends. ends.1.channel.about ≡ about.now) }
 {
     let (sender, receiver) = channel_for(rt, alloc, about)?;
     Ok((sender, receiver.into_future()))

@@ -1,14 +1,14 @@
 //! The end that receives, and may block until a message comes.
 
-ghost use Rattle.std.specs.Prelude.{◌≡◌, ◌≢◌, Err, IsErr, IfOk, IfSome};
+ghost use Rattle.std.specs.Prelude.{◌≡◌, ◌≢◌, true, Err, IsErr, IfOk, IfSome};
 ghost use Rattle.std.specs.Time.{instant_nanos, FitsClock};
 ghost use Rattle.oneshot_errors.specs.declared.recv_timeout.RecvTimeoutError.TheVariants as Timed;
 ghost use Rattle.oneshot_errors.specs.declared.try_recv.TryRecvError.TheVariants as Tried;
-ghost use Rattle.oneshot_machine.specs.declared.machine.receiver.ReceiverStart.TheVariants.{TryRecv, RecvRef, RecvDeadline};
+ghost use Rattle.oneshot_machine.specs.declared.machine.receiver.ReceiverStart.TheVariants.{TryRecv, RecvRef, RecvDeadline, RecvTimeout};
 ghost use Rattle.oneshot_machine.specs.Counts.{receiver_bound, GrewWithin};
 ghost use Rattle.oneshot_machine.specs.Phases.{receiver_at};
 ghost use Rattle.oneshot_drive.specs.BetweenCalls.{Leaves, LeavesClosed, LeavesTimed, try_recv_reply, recv_reply, timed_reply};
-ghost use Rattle.oneshot_ends.specs.Ends.{ReceiverGrew, TimeoutGrew, TimeoutRan, IsClosed, IsOpen, channel_at};
+ghost use Rattle.oneshot_ends.specs.Ends.{ReceiverGrew, TimeoutRan, IsClosed, IsOpen, channel_at};
 ghost use Rattle.oneshot_ends.specs.Grounds.{IsNewReceiver};
 ghost use Rattle.oneshot_ends.specs.OwnWakers.{IsHalfOf};
 ghost use Rattle.oneshot_ends.specs.Taken.{Takes};
@@ -36,7 +36,7 @@ use std::time::{Clock, Duration, Instant};
 /// The receives that block (`recv`, `recv_ref`, `recv_deadline`, `recv_timeout`) need `Rt: Wait + Clock`.
 /// The other calls accept any `Rt: Drop`, such as `()`.
 ///
-/// A contract sees the receiver's channel, the value that the channel is about, the log of the receiver's
+/// A contract sees the receiver's channel, with the value that it is about, the log of the receiver's
 /// operations on the word, which determines whether the receiver is closed, and the message that it took out
 /// of the channel, if it has. It takes at most one.
 ///
@@ -64,7 +64,6 @@ impl<T, Rt, P: Promise<T>> Model for Receiver<T, Rt, P> {
     ghost view = { λ r. record {
       channel = channel_at r.ground;
       log = r.ground.log;
-      about = r.ground.about;
       took = r.ground.passed;
     } };
 
@@ -82,7 +81,6 @@ impl<T, Rt, P: Promise<T>> Receiver<T, Rt, P> {
         requires own { IsHalfOf parker.parker half }
         ensures channel { result.channel ≡ channel_at side }
         ensures log { result.log ≡ side.log }
-        ensures about { result.about ≡ side.about }
         ensures took { result.took ≡ side.passed }
     {
         Receiver {
@@ -107,12 +105,11 @@ impl<T: Drop, Rt: Drop, P: Promise<T>> Receiver<T, Rt, P> {
         ensures channel { self.new.channel ≡ self.old.channel }
         ensures run { ReceiverGrew T TryRecv self.old.log self.new.log (try_recv_reply result) }
         ensures leaves { Leaves result (receiver_at self.new.log) }
-        ensures closes { result ≢ Err Tried.Empty → IsClosed self.new }
-        ensures stays_open { result ≡ Err Tried.Empty → IsOpen self.new }
-        ensures stays_closed { IsClosed self.old → result ≡ Err Tried.Disconnected }
+        ensures closes { result ≢ Err Tried.Empty → IsClosed self.new.log }
+        ensures stays_open { result ≡ Err Tried.Empty → IsOpen self.new.log }
+        ensures stays_closed { IsClosed self.old.log → result ≡ Err Tried.Disconnected }
         ensures bounded { GrewWithin (receiver_bound TryRecv) self.old.log self.new.log }
-        ensures about { self.new.about ≡ self.old.about }
-        ensures promise { IfOk result (λ message. P.keeps self.old.about message) }
+        ensures promise { IfOk result (λ message. P.keeps self.old.channel.about message) }
         ensures took { Takes result self.old.took self.new.took }
     {
         try_recv(&mut self.ground)
@@ -123,7 +120,6 @@ impl<T: Drop, Rt: Drop, P: Promise<T>> Receiver<T, Rt, P> {
     pub fn into_future(self) -> AsyncReceiver<T, Rt, P>
         ensures channel { result.channel ≡ self.channel }
         ensures log { result.log ≡ self.log }
-        ensures about { result.about ≡ self.about }
         ensures took { result.took ≡ self.took }
     {
         let Receiver {
@@ -152,10 +148,9 @@ impl<T: Drop, Rt: Wait + Clock + Drop, P: Promise<T>> Receiver<T, Rt, P> {
         ensures channel { self.new.channel ≡ self.old.channel }
         ensures run { ReceiverGrew T RecvRef self.old.log self.new.log (recv_reply result) }
         ensures leaves { LeavesClosed result (receiver_at self.new.log) }
-        ensures closes { IsClosed self.new }
-        ensures stays_closed { IsClosed self.old → IsErr result }
-        ensures about { self.new.about ≡ self.old.about }
-        ensures promise { IfOk result (λ message. P.keeps self.old.about message) }
+        ensures closes { IsClosed self.new.log }
+        ensures stays_closed { IsClosed self.old.log → IsErr result }
+        ensures promise { IfOk result (λ message. P.keeps self.old.channel.about message) }
         ensures took { Takes result self.old.took self.new.took }
     {
         let patience = Patience::until(Deadline::Never);
@@ -179,11 +174,10 @@ impl<T: Drop, Rt: Wait + Clock + Drop, P: Promise<T>> Receiver<T, Rt, P> {
         ensures channel { self.new.channel ≡ self.old.channel }
         ensures run { ReceiverGrew T RecvDeadline self.old.log self.new.log (timed_reply result) }
         ensures leaves { LeavesTimed result (receiver_at self.new.log) }
-        ensures closes { result ≢ Err Timed.Timeout → IsClosed self.new }
-        ensures stays_open { result ≡ Err Timed.Timeout → IsOpen self.new }
-        ensures stays_closed { IsClosed self.old → result ≡ Err Timed.Disconnected }
-        ensures about { self.new.about ≡ self.old.about }
-        ensures promise { IfOk result (λ message. P.keeps self.old.about message) }
+        ensures closes { result ≢ Err Timed.Timeout → IsClosed self.new.log }
+        ensures stays_open { result ≡ Err Timed.Timeout → IsOpen self.new.log }
+        ensures stays_closed { IsClosed self.old.log → result ≡ Err Timed.Disconnected }
+        ensures promise { IfOk result (λ message. P.keeps self.old.channel.about message) }
         ensures took { Takes result self.old.took self.new.took }
     {
         let patience = Patience::until(Deadline::At(deadline));
@@ -199,13 +193,12 @@ impl<T: Drop, Rt: Wait + Clock + Drop, P: Promise<T>> Receiver<T, Rt, P> {
     /// at once.
     pub fn recv_timeout(&mut self, timeout: Duration) -> Result<T, RecvTimeoutError>
         ensures channel { self.new.channel ≡ self.old.channel }
-        ensures run { TimeoutGrew T timeout self.old.log self.new.log (timed_reply result) }
+        ensures run { ReceiverGrew T (RecvTimeout true) self.old.log self.new.log (timed_reply result) }
         ensures leaves { LeavesTimed result (receiver_at self.new.log) }
-        ensures closes { result ≢ Err Timed.Timeout → IsClosed self.new }
-        ensures stays_open { result ≡ Err Timed.Timeout → IsOpen self.new }
-        ensures stays_closed { IsClosed self.old → result ≡ Err Timed.Disconnected }
-        ensures about { self.new.about ≡ self.old.about }
-        ensures promise { IfOk result (λ message. P.keeps self.old.about message) }
+        ensures closes { result ≢ Err Timed.Timeout → IsClosed self.new.log }
+        ensures stays_open { result ≡ Err Timed.Timeout → IsOpen self.new.log }
+        ensures stays_closed { IsClosed self.old.log → result ≡ Err Timed.Disconnected }
+        ensures promise { IfOk result (λ message. P.keeps self.old.channel.about message) }
         ensures took { Takes result self.old.took self.new.took }
     {
         let reading = read(&self.rt);
@@ -218,9 +211,8 @@ impl<T: Drop, Rt: Wait + Clock + Drop, P: Promise<T>> Receiver<T, Rt, P> {
         ensures channel { self.new.channel ≡ self.old.channel }
         ensures run { TimeoutRan T timeout reading.instant self.old.log self.new.log (timed_reply result) }
         ensures leaves { LeavesTimed result (receiver_at self.new.log) }
-        ensures stays_closed { IsClosed self.old → result ≡ Err Timed.Disconnected }
-        ensures about { self.new.about ≡ self.old.about }
-        ensures promise { IfOk result (λ message. P.keeps self.old.about message) }
+        ensures stays_closed { IsClosed self.old.log → result ≡ Err Timed.Disconnected }
+        ensures promise { IfOk result (λ message. P.keeps self.old.channel.about message) }
         ensures took { Takes result self.old.took self.new.took }
     {
         let patience = Patience::after(reading, timeout);
@@ -239,8 +231,8 @@ impl<T: Message, Rt: Wait + Clock + Drop, P: Promise<T>> Receiver<T, Rt, P> {
     /// It blocks forever if the sender is neither used nor dropped, for example because this thread
     /// still holds it.
     pub fn recv(self) -> Result<T, RecvError>
-        ensures stays_closed { IsClosed self → IsErr result }
-        ensures promise { IfOk result (λ message. P.keeps self.about message) }
+        ensures stays_closed { IsClosed self.log → IsErr result }
+        ensures promise { IfOk result (λ message. P.keeps self.channel.about message) }
     {
         let Receiver {
             mut ground,

@@ -21,7 +21,7 @@ use std::marker::Model;
 ///
 /// Dropping it without a `send` wakes a waiting receiver, and no message comes. The drop never blocks.
 ///
-/// A contract sees the sender's channel, the value that the channel is about, and the log of the sender's
+/// A contract sees the sender's channel, with the value that it is about, and the log of the sender's
 /// operations on the word, which is empty until its one call.
 ///
 /// `P` is the promise of a channel of `channel_for`. `Sender<T>` is the sender of a channel without one.
@@ -38,7 +38,7 @@ impl<T, P: Promise<T>> Model for Sender<T, P> {
 
     ghost Value = { SenderView P };
 
-    ghost view = { λ s. record { channel = channel_at s.side; log = s.side.log; about = s.side.about } };
+    ghost view = { λ s. record { channel = channel_at s.side; log = s.side.log } };
 
     ghost invariant = { λ s. IsNewSender s.side };
 }
@@ -48,7 +48,6 @@ impl<T, P: Promise<T>> Sender<T, P> {
         requires { IsNewSender side }
         ensures channel { result.channel ≡ channel_at side }
         ensures log { result.log ≡ side.log }
-        ensures about { result.about ≡ side.about }
     {
         Sender {
             side: Unsent::new(side),
@@ -83,7 +82,7 @@ impl<T: Message, P: Promise<T>> Sender<T, P> {
     /// Sends `message` as `send` does. It requires that `message` keeps the channel's promise, which the
     /// receive then guarantees. The results are those of `send`: the error owns a refused message.
     pub fn send_kept(self, message: T) -> Result<(), SendError<T, P>>
-        requires promise { P.keeps self.about message }
+        requires promise { P.keeps self.channel.about message }
         ensures message { IfErr result (λ error. error.message ≡ message) }
         ensures channel { IfErr result (λ error. error.channel ≡ self.channel) }
         ensures run { IfErr result (λ error. SenderGrew T Send self.log error.log Refused) }

@@ -40,7 +40,7 @@ pub fn work_until<Rt: Drop, F: FnMut()>(
     requires { F.IsAlwaysCallable turn }
     ensures limit { result.turns ≤ limit }
     ensures done { result.ending ≡ Done → result.turns ≡ limit }
-    ensures heard { result.ending ≢ Done → IsClosed stop.new }
+    ensures heard { result.ending ≢ Done → IsClosed stop.new.log }
 {
     for turns in 0..limit {
         match stop.try_recv() {

@@ -35,7 +35,7 @@ struct Pending<Rt> {
     root: u32,
     /// The ticket for its square.
     ticket: Ticket<u32, Square, Rt>,
-    ghost own: { ticket.about.question ≡ root },
+    ghost own: { ticket.channel.about.question ≡ root },
 }
 
 /// Answers `request` with its number's square. `true`: it was sent. `false`: its receiver is gone.
@@ -61,7 +61,7 @@ pub fn square_within<Rt: Wait + Clock + Drop>(
     ticket: &mut Ticket<u32, Square, Rt>,
     limit: Duration,
 ) -> Result<u64, Unanswered>
-    ensures { IfOk result (λ value. value ≡ ticket.old.about.question * ticket.old.about.question) }
+    ensures { IfOk result (λ value. value ≡ ticket.old.channel.about.question * ticket.old.channel.about.question) }
 {
     match ticket.wait_for(limit) {
         Ok(square) => Ok(square.value),
@@ -78,7 +78,7 @@ where
     R: Wait + RandomSource + AllocGlobal,
     Rt: Drop,
     ensures { IfOk result (λ reply. IfSome reply
-        (λ value. value ≡ ticket.about.question * ticket.about.question)) }
+        (λ value. value ≡ ticket.channel.about.question * ticket.channel.about.question)) }
 {
     match block_on(rt, ticket.into_future())? {
         Ok(square) => Ok(Some(square.value)),

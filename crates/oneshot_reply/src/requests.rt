@@ -14,7 +14,7 @@ use std::marker::Model;
 ///
 /// It may be sent to another thread if `Q` and `A` are `Send`.
 ///
-/// In contracts a request is its sender's value (`SenderView`), whose `about` has the question.
+/// In contracts a request is its sender's value (`SenderView`), whose `channel.about` has the question.
 #[derive(Drop)]
 pub struct Request<Q: Eq, A: Answer<Q>> {
     asked: Asked<Q>,
@@ -30,12 +30,12 @@ impl<Q: Eq, A: Answer<Q>> Model for Request<Q, A> {
 
     ghost view = { λ r. r.reply };
 
-    ghost invariant = { λ r. r.reply.about ≡ r.asked };
+    ghost invariant = { λ r. r.reply.channel.about ≡ r.asked };
 }
 
 impl<Q: Eq, A: Answer<Q>> Request<Q, A> {
     pub(crate) fn new(asked: Asked<Q>, reply: Sender<A, Asked<Q>>) -> Request<Q, A>
-        requires { reply.about ≡ asked }
+        requires { reply.channel.about ≡ asked }
         ensures { result ≡ reply }
     {
         Request { asked, reply }
@@ -43,14 +43,14 @@ impl<Q: Eq, A: Answer<Q>> Request<Q, A> {
 
     /// Returns the question.
     pub fn question(&self) -> &Q
-        ensures { result.now ≡ self.now.about.question }
+        ensures { result.now ≡ self.now.channel.about.question }
     {
         &self.asked.question
     }
 
     /// Returns whether `reply` names a question equal to the request's.
     pub fn fits(&self, reply: &A) -> bool
-        ensures { result ≡ Q.eq (A.asked reply.now) self.now.about.question }
+        ensures { result ≡ Q.eq (A.asked reply.now) self.now.channel.about.question }
     {
         *reply.question() == self.asked.question
     }
@@ -67,7 +67,7 @@ impl<Q: Eq + Drop, A: Answer<Q> + Message> Request<Q, A> {
     /// - `Ok`: the ticket was there. It may still be dropped before it takes the reply.
     /// - `Err`: the ticket was dropped. The error has the reply.
     pub fn answer(self, reply: A) -> Result<(), SendError<A, Asked<Q>>>
-        requires fits { Q.eq (A.asked reply) self.about.question ≡ true }
+        requires fits { Q.eq (A.asked reply) self.channel.about.question ≡ true }
         ensures reply { IfErr result (λ error. error.message ≡ reply) }
         ensures channel { IfErr result (λ error. error.channel ≡ self.channel) }
     {

@@ -3,11 +3,11 @@
 ghost use Rattle.std.specs.Prelude.{◌≡◌, ◌≢◌, true, Err, IsErr, IfOk};
 ghost use Rattle.oneshot_errors.specs.declared.recv_timeout.RecvTimeoutError.TheVariants as Timed;
 ghost use Rattle.oneshot_errors.specs.declared.try_recv.TryRecvError.TheVariants as Tried;
-ghost use Rattle.oneshot_ends.specs.ReceiverStart.TheVariants.{TryRecv};
+ghost use Rattle.oneshot_ends.specs.ReceiverStart.TheVariants.{RecvTimeout, TryRecv};
 ghost use Rattle.oneshot_ends.specs.Counts.{receiver_bound, GrewWithin};
 ghost use Rattle.oneshot_ends.specs.Phases.{receiver_at};
 ghost use Rattle.oneshot_ends.specs.BetweenCalls.{Leaves, LeavesTimed, try_recv_reply, timed_reply};
-ghost use Rattle.oneshot_ends.specs.Ends.{IsClosed, IsOpen, ReceiverGrew, TimeoutGrew};
+ghost use Rattle.oneshot_ends.specs.Ends.{IsClosed, IsOpen, ReceiverGrew};
 ghost use Rattle.oneshot_ends.specs.Taken.{Takes};
 
 use crate::answer::Answer;
@@ -27,7 +27,7 @@ use std::time::{Clock, Duration};
 ///
 /// It may be sent to another thread if `Q`, `A` and `Rt` are `Send`. Two threads cannot share it.
 ///
-/// In contracts a ticket is its receiver's value (`ReceiverView`), whose `about` has the question.
+/// In contracts a ticket is its receiver's value (`ReceiverView`), whose `channel.about` has the question.
 #[derive(Drop)]
 pub struct Ticket<Q: Eq, A: Answer<Q>, Rt> {
     pub(crate) replies: Receiver<A, Rt, Asked<Q>>,
@@ -64,16 +64,15 @@ impl<Q: Eq, A: Answer<Q> + Drop, Rt: Drop> Ticket<Q, A, Rt> {
     /// - `Err(Disconnected)`: the request was dropped unanswered, or the reply was taken before. Every later
     ///   call returns the same.
     pub fn try_take(&mut self) -> Result<A, TryRecvError>
-        ensures own { IfOk result (λ reply. Q.eq (A.asked reply) self.old.about.question ≡ true) }
+        ensures own { IfOk result (λ reply. Q.eq (A.asked reply) self.old.channel.about.question ≡ true) }
         ensures right { IfOk result (λ reply. A.answers (A.asked reply) reply) }
-        ensures about { self.new.about ≡ self.old.about }
         ensures took { Takes result self.old.took self.new.took }
         ensures channel { self.new.channel ≡ self.old.channel }
         ensures run { ReceiverGrew A TryRecv self.old.log self.new.log (try_recv_reply result) }
         ensures leaves { Leaves result (receiver_at self.new.log) }
-        ensures closes { result ≢ Err Tried.Empty → IsClosed self.new }
-        ensures stays_open { result ≡ Err Tried.Empty → IsOpen self.new }
-        ensures stays_closed { IsClosed self.old → result ≡ Err Tried.Disconnected }
+        ensures closes { result ≢ Err Tried.Empty → IsClosed self.new.log }
+        ensures stays_open { result ≡ Err Tried.Empty → IsOpen self.new.log }
+        ensures stays_closed { IsClosed self.old.log → result ≡ Err Tried.Disconnected }
         ensures bounded { GrewWithin (receiver_bound TryRecv) self.old.log self.new.log }
     {
         self.replies.try_recv()
@@ -82,7 +81,6 @@ impl<Q: Eq, A: Answer<Q> + Drop, Rt: Drop> Ticket<Q, A, Rt> {
     /// Turns the ticket into a future that a task can poll. Its replies have the guarantees of the ticket's.
     /// It never blocks and does not allocate.
     pub fn into_future(self) -> AsyncReceiver<A, Rt, Asked<Q>>
-        ensures about { result.about ≡ self.about }
         ensures took { result.took ≡ self.took }
         ensures channel { result.channel ≡ self.channel }
         ensures log { result.log ≡ self.log }
@@ -101,9 +99,9 @@ impl<Q: Eq, A: Answer<Q> + Message, Rt: Wait + Clock + Drop> Ticket<Q, A, Rt> {
     /// It blocks forever if the request is neither answered nor dropped, for example because this thread
     /// still holds it.
     pub fn wait(self) -> Result<A, RecvError>
-        ensures own { IfOk result (λ reply. Q.eq (A.asked reply) self.about.question ≡ true) }
+        ensures own { IfOk result (λ reply. Q.eq (A.asked reply) self.channel.about.question ≡ true) }
         ensures right { IfOk result (λ reply. A.answers (A.asked reply) reply) }
-        ensures stays_closed { IsClosed self → IsErr result }
+        ensures stays_closed { IsClosed self.log → IsErr result }
     {
         let Ticket { replies } = self;
         replies.recv()
@@ -122,16 +120,15 @@ impl<Q: Eq, A: Answer<Q> + Drop, Rt: Wait + Clock + Drop> Ticket<Q, A, Rt> {
     /// If no instant can hold the sum of now and `timeout`, the call never returns `Timeout`. If the clock
     /// fails, the deadline is over at once.
     pub fn wait_for(&mut self, timeout: Duration) -> Result<A, RecvTimeoutError>
-        ensures own { IfOk result (λ reply. Q.eq (A.asked reply) self.old.about.question ≡ true) }
+        ensures own { IfOk result (λ reply. Q.eq (A.asked reply) self.old.channel.about.question ≡ true) }
         ensures right { IfOk result (λ reply. A.answers (A.asked reply) reply) }
-        ensures about { self.new.about ≡ self.old.about }
         ensures took { Takes result self.old.took self.new.took }
         ensures channel { self.new.channel ≡ self.old.channel }
-        ensures run { TimeoutGrew A timeout self.old.log self.new.log (timed_reply result) }
+        ensures run { ReceiverGrew A (RecvTimeout true) self.old.log self.new.log (timed_reply result) }
         ensures leaves { LeavesTimed result (receiver_at self.new.log) }
-        ensures closes { result ≢ Err Timed.Timeout → IsClosed self.new }
-        ensures stays_open { result ≡ Err Timed.Timeout → IsOpen self.new }
-        ensures stays_closed { IsClosed self.old → result ≡ Err Timed.Disconnected }
+        ensures closes { result ≢ Err Timed.Timeout → IsClosed self.new.log }
+        ensures stays_open { result ≡ Err Timed.Timeout → IsOpen self.new.log }
+        ensures stays_closed { IsClosed self.old.log → result ≡ Err Timed.Disconnected }
     {
         self.replies.recv_timeout(timeout)
     }

@@ -34,7 +34,7 @@ pub struct Pending {
     pub root: u32,
     /// The future of its square, with a deadline.
     pub(crate) square: Within<Square, (), Asked<u32>>,
-    ghost own: { (timeout_future square.receiver).about.question ≡ root },
+    ghost own: { (timeout_future square.receiver).channel.about.question ≡ root },
 }
 
 impl Pending {
@@ -53,7 +53,7 @@ type Parts = (Job, Ticket<u32, Square, ()>, AsyncReceiver<Service, ()>);
 
 /// Makes a job for the square of `root`. `Err`: out of memory.
 fn job_for(alloc: Global, root: u32) -> Result<Parts, AllocError>
-    ensures { IfOk result (λ made. made.1.about.question ≡ root) }
+    ensures { IfOk result (λ made. made.1.channel.about.question ≡ root) }
 {
     let (request, ticket) = request((), alloc, root).map_err(|_| AllocError)?;
     let (report, reported) = async_channel((), alloc)?;

@@ -121,7 +121,7 @@ fn square_of(
     alloc: Global,
     root: u32,
 ) -> Result<(Request<u32, Square>, Ticket<u32, Square, ()>), AllocError>
-    ensures { IfOk result (λ made. made.0.about.question ≡ root) }
+    ensures { IfOk result (λ made. made.0.channel.about.question ≡ root) }
 {
     request((), alloc, root).map_err(|_| AllocError)
 }
@@ -176,7 +176,7 @@ where
         rt,
         move || sender.send_kept(2),
         move ||
-            requires { index.about.0 ≡ 3 }
+            requires { index.channel.about.0 ≡ 3 }
         { item_within(rt, pool.time(), limit, &[10, 20, 30], index) },
     );
     show_value(rt, tally, "promise", item?)

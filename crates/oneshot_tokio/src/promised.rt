@@ -33,7 +33,7 @@ pub fn index_within<R: Wait + Clock + RandomSource + AllocGlobal, Rt: Drop>(
     limit: Duration,
     index: AsyncReceiver<usize, Rt, Below>,
 ) -> io::Result<Result<usize, RecvTimeoutError>>
-    ensures promise { IfOk result (λ came. IfOk came (λ i. i < index.about.0)) }
+    ensures promise { IfOk result (λ came. IfOk came (λ i. i < index.channel.about.0)) }
 {
     block_on(rt, recv_within(rt, time, limit, index)?)
 }
@@ -48,7 +48,7 @@ pub fn item_within<R: Wait + Clock + RandomSource + AllocGlobal, Rt: Drop>(
     items: &[u64],
     index: AsyncReceiver<usize, Rt, Below>,
 ) -> io::Result<Result<u64, RecvTimeoutError>>
-    requires { index.about.0 ≡ length items.now }
+    requires { index.channel.about.0 ≡ length items.now }
 {
     Ok(index_within(rt, time, limit, index)?.map(|index| items[index]))
 }

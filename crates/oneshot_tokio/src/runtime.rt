@@ -30,7 +30,7 @@ where
     R: Wait + Threads + Clock + RandomSource + AllocGlobal + Sync,
     Rt: Drop,
     ensures right { IfOk result (λ reply. IfOk reply
-        (λ value. value ≡ ticket.about.question * ticket.about.question)) }
+        (λ value. value ≡ ticket.channel.about.question * ticket.channel.about.question)) }
 {
     let reply = recv_within(rt, runtime.handle().time(), limit, ticket.into_future())?;
     Ok(runtime.block_on(rt, reply)?.map(|square| square.value))
@@ -46,7 +46,7 @@ pub fn index_within<R, Rt>(
 where
     R: Wait + Threads + Clock + RandomSource + AllocGlobal + Sync,
     Rt: Drop,
-    ensures promise { IfOk result (λ came. IfOk came (λ i. i < index.about.0)) }
+    ensures promise { IfOk result (λ came. IfOk came (λ i. i < index.channel.about.0)) }
 {
     let index = recv_within(rt, runtime.handle().time(), limit, index)?;
     runtime.block_on(rt, index)

@@ -25,7 +25,7 @@ pub fn square_within<R: Wait + Clock + RandomSource + AllocGlobal, Rt: Drop>(
     ticket: Ticket<u32, Square, Rt>,
 ) -> io::Result<Result<u64, RecvTimeoutError>>
     ensures right { IfOk result (λ reply. IfOk reply
-        (λ value. value ≡ ticket.about.question * ticket.about.question)) }
+        (λ value. value ≡ ticket.channel.about.question * ticket.channel.about.question)) }
 {
     let reply = recv_within(rt, time, limit, ticket.into_future())?;
     Ok(block_on(rt, reply)?.map(|square| square.value))

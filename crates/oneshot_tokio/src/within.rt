@@ -41,7 +41,7 @@ impl<T: Drop, Rt: Drop, P: Promise<T>> Future for Within<T, Rt, P> {
         ⊎ (s ≡ sleep_source (timeout_delay within.receiver)) };
 
     // The message keeps the promise.
-    ghost gives = { λ within answer. IfOk answer (P.keeps (timeout_future within.receiver).about) };
+    ghost gives = { λ within answer. IfOk answer (P.keeps (timeout_future within.receiver).channel.about) };
 
     fn poll(&mut self, cx: &mut Context<'_>) -> Poll<Result<T, RecvTimeoutError>> {
         match self.receiver.poll(cx) {

@@ -22,10 +22,10 @@ pub fn cancellable_request<Q: Eq + Send + Drop, A: Answer<Q> + Send + Drop, Rt: 
     alloc: Global,
     question: Q,
 ) -> Result<(CancellableRequest<Q, A, W>, CancellableTicket<Q, A, Rt>), Q>
-    ensures request { IfOk result (λ made. made.0.about.question ≡ question) }
-    ensures ticket { IfOk result (λ made. made.1.about.question ≡ question) }
+    ensures request { IfOk result (λ made. made.0.channel.about.question ≡ question) }
+    ensures ticket { IfOk result (λ made. made.1.channel.about.question ≡ question) }
     ensures one_channel { IfOk result (λ made. made.0.channel ≡ made.1.channel) }
-    ensures open { IfOk result (λ made. IsOpen made.1) }
+    ensures open { IfOk result (λ made. IsOpen made.1.log) }
     ensures none_taken { IfOk result (λ made. made.1.took ≡ None) }
     ensures back { IfErr result (λ back. back ≡ question) }
 {

@@ -5,7 +5,7 @@ ghost use Rattle.futures.specs.declared.task.Poll.TheVariants.{Pending, Ready};
 ghost use Rattle.futures.specs.Poll.{IfReady, OnPending};
 ghost use Rattle.futures.specs.Task.{Covers, Keeps};
 ghost use Rattle.oneshot_channel.specs.Counts.{receiver_bound, GrewWithin};
-ghost use Rattle.oneshot_channel.specs.Ends.{IsDone, IsUnfinished, ReceiverGrew, WillBeWoken};
+ghost use Rattle.oneshot_channel.specs.Ends.{IsClosed, IsOpen, ReceiverGrew, WillBeWoken};
 ghost use Rattle.oneshot_channel.specs.ReceiverStart.TheVariants as C;
 ghost use Rattle.oneshot_channel.specs.Reply.TheVariants as R;
 ghost use Rattle.oneshot_watch.specs.declared.never.Never.{Never};
@@ -20,7 +20,8 @@ use std::marker::Model;
 ///
 /// Dropping it never blocks, and drops `rt` too; the guard is not told. Nor does any other call of it block.
 ///
-/// In contracts it is its receiver's value (`FutureView`): it is done exactly if a call has found its guard gone.
+/// In contracts it is its receiver's value (`FutureView`): it is closed exactly if a call has found its guard
+/// gone.
 ///
 /// It may go to another thread between two polls if `Rt` is `Send`. Two threads cannot share it.
 #[derive(Drop)]
@@ -51,14 +52,14 @@ impl<Rt: Drop> AsyncWatch<Rt> {
     pub fn is_gone(&mut self) -> bool
         ensures channel { self.new.channel ≡ self.old.channel }
         ensures source { self.new.source ≡ self.old.source }
-        ensures gone { result ≡ true → IsDone self.new }
+        ensures gone { result ≡ true → IsClosed self.new.log }
         ensures gone_run { result ≡ true
             → ReceiverGrew Never C.AsyncTryRecv self.old.log self.new.log R.Disconnected }
-        ensures there { result ≡ false → IsUnfinished self.new }
+        ensures there { result ≡ false → IsOpen self.new.log }
         ensures there_run { result ≡ false
             → ReceiverGrew Never C.AsyncTryRecv self.old.log self.new.log R.Empty }
         ensures same_waker { result ≡ false → self.new.registered ≡ self.old.registered }
-        ensures stays_gone { IsDone self.old → result ≡ true }
+        ensures stays_gone { IsClosed self.old.log → result ≡ true }
         ensures bounded { GrewWithin (receiver_bound C.AsyncTryRecv) self.old.log self.new.log }
     {
         match self.receiver.try_recv() {
@@ -88,11 +89,11 @@ impl<Rt: Drop> Future for AsyncWatch<Rt> {
         ensures kept { Keeps cx.old cx.new }
         ensures channel { self.new.channel ≡ self.old.channel }
         ensures source { self.new.source ≡ self.old.source }
-        ensures gone { result ≢ Pending → IsDone self.new }
+        ensures gone { result ≢ Pending → IsClosed self.new.log }
         ensures gone_run { result ≢ Pending → ReceiverGrew Never C.Poll self.old.log self.new.log R.Disconnected }
-        ensures there { result ≡ Pending → IsUnfinished self.new }
+        ensures there { result ≡ Pending → IsOpen self.new.log }
         ensures there_run { result ≡ Pending → ReceiverGrew Never C.Poll self.old.log self.new.log R.Pending }
-        ensures stays_gone { IsDone self.old → result ≡ Ready tt }
+        ensures stays_gone { IsClosed self.old.log → result ≡ Ready tt }
         ensures bounded { GrewWithin (receiver_bound C.Poll) self.old.log self.new.log }
     {
         match self.receiver.poll(cx) {

@@ -18,7 +18,7 @@ pub fn watch<Rt: Drop>(rt: Rt, alloc: Global) -> Result<(Guard, Watch<Rt>), Allo
     ensures one_channel { IfOk result (λ made. made.0.channel ≡ made.1.channel) }
     ensures new_guard { IfOk result (λ made. made.0.log ≡ []) }
     ensures new_watch { IfOk result (λ made. made.1.log ≡ []) }
-    ensures open { IfOk result (λ made. IsOpen made.1) }
+    ensures open { IfOk result (λ made. IsOpen made.1.log) }
 {
     let (sender, receiver) = channel(rt, alloc)?;
     Ok((Guard::new(sender), Watch::new(receiver)))

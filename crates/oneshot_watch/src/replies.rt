@@ -6,7 +6,7 @@ ghost use Rattle.futures.specs.Poll.{IfReady, OnPending};
 ghost use Rattle.futures.specs.Task.{Covers, Keeps};
 ghost use Rattle.oneshot_channel.specs.BetweenCalls.{try_recv_reply};
 ghost use Rattle.oneshot_channel.specs.Counts.{receiver_bound, GrewWithin};
-ghost use Rattle.oneshot_channel.specs.Ends.{IsDone, IsUnfinished, ReceiverGrew, WillBeWoken};
+ghost use Rattle.oneshot_channel.specs.Ends.{IsClosed, IsOpen, ReceiverGrew, WillBeWoken};
 ghost use Rattle.oneshot_channel.specs.Phases.{receiver_at};
 ghost use Rattle.oneshot_channel.specs.Polls.{LeavesPolled, LeavesTried, StaysRegistered, IsDisconnected, poll_reply};
 ghost use Rattle.oneshot_channel.specs.ReceiverStart.TheVariants as C;
@@ -30,7 +30,7 @@ use std::marker::Model;
 ///
 /// It may go to another thread between two polls if `Q`, `A` and `Rt` are `Send`. Two threads cannot share it.
 ///
-/// In contracts it is its receiver's value (`FutureView`), whose `about` has the question.
+/// In contracts it is its receiver's value (`FutureView`), whose `channel.about` has the question.
 pub struct CancellableReply<Q: Eq, A: Answer<Q>, Rt> {
     replies: AsyncReceiver<A, Rt, Asked<Q>>,
     guard: Guard,
@@ -70,7 +70,7 @@ impl<Q: Eq, A: Answer<Q>, Rt> CancellableReply<Q, A, Rt> {
 impl<Q: Eq, A: Answer<Q> + Drop, Rt: Drop> CancellableReply<Q, A, Rt> {
     /// Takes the reply if it is there, as `AsyncReceiver::try_recv`. It never blocks and does not allocate.
     ///
-    /// - `Ok`: the reply. The future is done from then on.
+    /// - `Ok`: the reply. The future is closed from then on.
     /// - `Err(Empty)`: no reply came yet, or an answer is under way. The future stays open, and a task that was
     ///   registered still is.
     /// - `Err(Disconnected)`: the request was dropped unanswered, or the reply was received before.
@@ -79,14 +79,13 @@ impl<Q: Eq, A: Answer<Q> + Drop, Rt: Drop> CancellableReply<Q, A, Rt> {
         ensures source { self.new.source ≡ self.old.source }
         ensures run { ReceiverGrew A C.AsyncTryRecv self.old.log self.new.log (try_recv_reply result) }
         ensures leaves { LeavesTried result (receiver_at self.new.log) }
-        ensures closes { result ≢ Err Tried.Empty → IsDone self.new }
-        ensures stays_open { result ≡ Err Tried.Empty → IsUnfinished self.new }
-        ensures stays_closed { IsDone self.old → result ≡ Err Tried.Disconnected }
+        ensures closes { result ≢ Err Tried.Empty → IsClosed self.new.log }
+        ensures stays_open { result ≡ Err Tried.Empty → IsOpen self.new.log }
+        ensures stays_closed { IsClosed self.old.log → result ≡ Err Tried.Disconnected }
         ensures registered { StaysRegistered result (receiver_at self.old.log) (receiver_at self.new.log) }
         ensures same_waker { result ≡ Err Tried.Empty → self.new.registered ≡ self.old.registered }
         ensures bounded { GrewWithin (receiver_bound C.AsyncTryRecv) self.old.log self.new.log }
-        ensures about { self.new.about ≡ self.old.about }
-        ensures promise { IfOk result (λ reply. Q.eq (A.asked reply) self.old.about.question ≡ true) }
+        ensures promise { IfOk result (λ reply. Q.eq (A.asked reply) self.old.channel.about.question ≡ true) }
         ensures took { Takes result self.old.took self.new.took }
     {
         self.replies.try_recv()
@@ -99,16 +98,16 @@ impl<Q: Eq, A: Answer<Q> + Drop, Rt: Drop> Future for CancellableReply<Q, A, Rt>
     ghost needs = { λ r s. s ≡ r.source };
 
     // The reply names a question equal to the ticket's, also after an executor or a combinator has passed it on.
-    ghost gives = { λ r answer. IfOk answer (λ reply. Q.eq (A.asked reply) r.about.question ≡ true) };
+    ghost gives = { λ r answer. IfOk answer (λ reply. Q.eq (A.asked reply) r.channel.about.question ≡ true) };
 
     /// Polls once, for the task of `cx`, as `AsyncReceiver::poll`. It never blocks and does not allocate.
     fn poll(&mut self, cx: &mut Context<'_>) -> Poll<Result<A, RecvError>>
         ensures value { IfReady result
-            (λ answer. IfOk answer (λ reply. Q.eq (A.asked reply) self.old.about.question ≡ true)) }
+            (λ answer. IfOk answer (λ reply. Q.eq (A.asked reply) self.old.channel.about.question ≡ true)) }
         ensures again { OnPending result ⊤ }
         ensures same { OnPending result ((answer : Result A RecvError)
-            → IfOk answer (λ reply. Q.eq (A.asked reply) self.new.about.question ≡ true)
-            → IfOk answer (λ reply. Q.eq (A.asked reply) self.old.about.question ≡ true)) }
+            → IfOk answer (λ reply. Q.eq (A.asked reply) self.new.channel.about.question ≡ true)
+            → IfOk answer (λ reply. Q.eq (A.asked reply) self.old.channel.about.question ≡ true)) }
         ensures registered { OnPending result (Covers cx.new (λ s. s ≡ self.new.source)) }
         ensures woken { OnPending result (WillBeWoken cx.new self.new) }
         ensures kept { Keeps cx.old cx.new }
@@ -116,11 +115,10 @@ impl<Q: Eq, A: Answer<Q> + Drop, Rt: Drop> Future for CancellableReply<Q, A, Rt>
         ensures source { self.new.source ≡ self.old.source }
         ensures run { ReceiverGrew A C.Poll self.old.log self.new.log (poll_reply result) }
         ensures leaves { LeavesPolled result (receiver_at self.new.log) }
-        ensures closes { result ≢ Pending → IsDone self.new }
-        ensures stays_open { result ≡ Pending → IsUnfinished self.new }
-        ensures stays_closed { IsDone self.old → IsDisconnected result }
+        ensures closes { result ≢ Pending → IsClosed self.new.log }
+        ensures stays_open { result ≡ Pending → IsOpen self.new.log }
+        ensures stays_closed { IsClosed self.old.log → IsDisconnected result }
         ensures bounded { GrewWithin (receiver_bound C.Poll) self.old.log self.new.log }
-        ensures about { self.new.about ≡ self.old.about }
         ensures took { TakesReady result self.old.took self.new.took }
     {
         self.replies.poll(cx)

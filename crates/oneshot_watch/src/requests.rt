@@ -16,7 +16,7 @@ use std::marker::Model;
 ///
 /// It may be sent to another thread if `Q`, `A` and `Rt` are `Send`.
 ///
-/// In contracts it is its request's value (`SenderView`), whose `about` has the question.
+/// In contracts it is its request's value (`SenderView`), whose `channel.about` has the question.
 #[derive(Drop)]
 pub struct CancellableRequest<Q: Eq, A: Answer<Q>, Rt> {
     request: Request<Q, A>,
@@ -41,14 +41,14 @@ impl<Q: Eq, A: Answer<Q>, Rt> CancellableRequest<Q, A, Rt> {
 
     /// Returns the question.
     pub fn question(&self) -> &Q
-        ensures { result.now ≡ self.now.about.question }
+        ensures { result.now ≡ self.now.channel.about.question }
     {
         self.request.question()
     }
 
     /// Returns whether `reply` names a question equal to the request's.
     pub fn fits(&self, reply: &A) -> bool
-        ensures { result ≡ Q.eq (A.asked reply.now) self.now.about.question }
+        ensures { result ≡ Q.eq (A.asked reply.now) self.now.channel.about.question }
     {
         self.request.fits(reply)
     }
@@ -73,7 +73,7 @@ impl<Q: Eq + Drop, A: Answer<Q> + Message, Rt: Drop> CancellableRequest<Q, A, Rt
     /// - `Ok`: the ticket was there. It may still be dropped before it takes the reply.
     /// - `Err`: the ticket was dropped. The error has the reply.
     pub fn answer(self, reply: A) -> Result<(), SendError<A, Asked<Q>>>
-        requires fits { Q.eq (A.asked reply) self.about.question ≡ true }
+        requires fits { Q.eq (A.asked reply) self.channel.about.question ≡ true }
         ensures reply { IfErr result (λ error. error.message ≡ reply) }
         ensures channel { IfErr result (λ error. error.channel ≡ self.channel) }
     {

@@ -2,8 +2,8 @@
 
 ghost use Rattle.std.specs.Prelude.{◌≡◌, true, false};
 ghost use Rattle.oneshot_channel.specs.Counts.{receiver_bound, GrewWithin};
-ghost use Rattle.oneshot_channel.specs.Ends.{IsClosed, IsOpen, ReceiverGrew, TimeoutGrew};
-ghost use Rattle.oneshot_channel.specs.ReceiverStart.TheVariants.{TryRecv, RecvRef, RecvDeadline};
+ghost use Rattle.oneshot_channel.specs.Ends.{IsClosed, IsOpen, ReceiverGrew};
+ghost use Rattle.oneshot_channel.specs.ReceiverStart.TheVariants.{TryRecv, RecvRef, RecvDeadline, RecvTimeout};
 ghost use Rattle.oneshot_channel.specs.Reply.TheVariants as R;
 ghost use Rattle.oneshot_watch.specs.declared.never.Never.{Never};
 
@@ -49,12 +49,12 @@ impl<Rt: Drop> Watch<Rt> {
     /// Returns whether the guard is gone. It never blocks and does not allocate.
     pub fn is_gone(&mut self) -> bool
         ensures channel { self.new.channel ≡ self.old.channel }
-        ensures gone { result ≡ true → IsClosed self.new }
+        ensures gone { result ≡ true → IsClosed self.new.log }
         ensures gone_run { result ≡ true
             → ReceiverGrew Never TryRecv self.old.log self.new.log R.Disconnected }
-        ensures there { result ≡ false → IsOpen self.new }
+        ensures there { result ≡ false → IsOpen self.new.log }
         ensures there_run { result ≡ false → ReceiverGrew Never TryRecv self.old.log self.new.log R.Empty }
-        ensures stays_gone { IsClosed self.old → result ≡ true }
+        ensures stays_gone { IsClosed self.old.log → result ≡ true }
         ensures bounded { GrewWithin (receiver_bound TryRecv) self.old.log self.new.log }
     {
         match self.receiver.try_recv() {
@@ -79,7 +79,7 @@ impl<Rt: Wait + Clock + Drop> Watch<Rt> {
     pub fn wait(&mut self)
         ensures channel { self.new.channel ≡ self.old.channel }
         ensures run { ReceiverGrew Never RecvRef self.old.log self.new.log R.Disconnected }
-        ensures gone { IsClosed self.new }
+        ensures gone { IsClosed self.new.log }
     {
         let Err(RecvError) = self.receiver.recv_ref();
     }
@@ -93,13 +93,13 @@ impl<Rt: Wait + Clock + Drop> Watch<Rt> {
     /// A clock that fails counts as past every deadline.
     pub fn wait_deadline(&mut self, deadline: Instant) -> bool
         ensures channel { self.new.channel ≡ self.old.channel }
-        ensures gone { result ≡ true → IsClosed self.new }
+        ensures gone { result ≡ true → IsClosed self.new.log }
         ensures gone_run { result ≡ true
             → ReceiverGrew Never RecvDeadline self.old.log self.new.log R.Disconnected }
-        ensures there { result ≡ false → IsOpen self.new }
+        ensures there { result ≡ false → IsOpen self.new.log }
         ensures there_run { result ≡ false
             → ReceiverGrew Never RecvDeadline self.old.log self.new.log R.Timeout }
-        ensures stays_gone { IsClosed self.old → result ≡ true }
+        ensures stays_gone { IsClosed self.old.log → result ≡ true }
     {
         match self.receiver.recv_deadline(deadline) {
             Err(RecvTimeoutError::Disconnected) => true,
@@ -114,12 +114,13 @@ impl<Rt: Wait + Clock + Drop> Watch<Rt> {
     /// never returns `false`. If the clock fails, the deadline is over at once.
     pub fn wait_timeout(&mut self, timeout: Duration) -> bool
         ensures channel { self.new.channel ≡ self.old.channel }
-        ensures gone { result ≡ true → IsClosed self.new }
+        ensures gone { result ≡ true → IsClosed self.new.log }
         ensures gone_run { result ≡ true
-            → TimeoutGrew Never timeout self.old.log self.new.log R.Disconnected }
-        ensures there { result ≡ false → IsOpen self.new }
-        ensures there_run { result ≡ false → TimeoutGrew Never timeout self.old.log self.new.log R.Timeout }
-        ensures stays_gone { IsClosed self.old → result ≡ true }
+            → ReceiverGrew Never (RecvTimeout true) self.old.log self.new.log R.Disconnected }
+        ensures there { result ≡ false → IsOpen self.new.log }
+        ensures there_run { result ≡ false
+            → ReceiverGrew Never (RecvTimeout true) self.old.log self.new.log R.Timeout }
+        ensures stays_gone { IsClosed self.old.log → result ≡ true }
     {
         match self.receiver.recv_timeout(timeout) {
             Err(RecvTimeoutError::Disconnected) => true,

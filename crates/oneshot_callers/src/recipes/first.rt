@@ -28,8 +28,8 @@ fn first_of<R: Wait + RandomSource + AllocGlobal>(
     left: AsyncReceiver<usize, (), Below>,
     right: AsyncReceiver<usize, (), Below>,
 ) -> io::Result<Both>
-    requires { right.about ≡ left.about }
-    ensures { IfOk result (λ both. IfOk both.0 (λ index. index < left.about.0)) }
+    requires { right.channel.about ≡ left.channel.about }
+    ensures { IfOk result (λ both. IfOk both.0 (λ index. index < left.channel.about.0)) }
 {
     match block_on(rt, select(left, right))? {
         Either::Left((first, mut other)) => Ok((first, other.try_recv())),

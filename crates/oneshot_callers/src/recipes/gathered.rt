@@ -22,12 +22,12 @@ impl Promise<u64> for AtMost {
 struct Part {
     size: u64,
     count: Sender<u64, AtMost>,
-    ghost own: { count.about.0 ≡ size },
+    ghost own: { count.channel.about.0 ≡ size },
 }
 
 /// Waits for the count of one part: at most its size, which the channel is about.
 fn count_of<Rt: Wait + Clock + Drop>(counted: Receiver<u64, Rt, AtMost>) -> Option<u64>
-    ensures { IfSome result (λ count. count ≤ counted.about.0) }
+    ensures { IfSome result (λ count. count ≤ counted.channel.about.0) }
 {
     counted.recv().ok()
 }

@@ -36,7 +36,7 @@ impl Answer<u32> for Price {
 fn price_of<Rt: Wait + Clock + Drop>(
     mut ticket: Ticket<u32, Price, Rt>,
 ) -> Result<Price, RecvTimeoutError>
-    ensures { IfOk result (λ price. price.article ≡ ticket.about.question) }
+    ensures { IfOk result (λ price. price.article ≡ ticket.channel.about.question) }
 {
     ticket.wait_for(Duration::from_secs(10))
 }

@@ -13,7 +13,7 @@ use std::time::{Clock, Duration};
 fn work<F: FnMut()>(stop: &mut Receiver<(), ()>, limit: u64, mut turn: F) -> u64
     requires { F.IsAlwaysCallable turn }
     ensures limit { result ≤ limit }
-    ensures told { result < limit → IsClosed stop.new }
+    ensures told { result < limit → IsClosed stop.new.log }
 {
     for turns in 0..limit {
         let Err(TryRecvError::Empty) = stop.try_recv() else {

@@ -23,7 +23,7 @@ fn price_within<R: Wait + Clock + RandomSource + AllocGlobal>(
     limit: Duration,
     ticket: Ticket<u32, Price, ()>,
 ) -> io::Result<Result<Price, RecvTimeoutError>>
-    ensures { IfOk result (λ reply. IfOk reply (λ price. price.article ≡ ticket.about.question)) }
+    ensures { IfOk result (λ reply. IfOk reply (λ price. price.article ≡ ticket.channel.about.question)) }
 {
     match block_on(rt, time.timeout(rt, limit, ticket.into_future())?)? {
         Ok(Ok(price)) => Ok(Ok(price)),

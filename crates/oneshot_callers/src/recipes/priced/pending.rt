@@ -21,7 +21,7 @@ fn ask<Rt: Drop>(
     pending: &mut Pending,
     article: u32,
 ) -> Result<Ticket<u32, Price, Rt>, AllocError>
-    ensures { IfOk result (λ ticket. ticket.about.question ≡ article) }
+    ensures { IfOk result (λ ticket. ticket.channel.about.question ≡ article) }
 {
     let (request, ticket) = request(rt, alloc, article).map_err(|_| AllocError)?;
     pending.insert(article, request)?;

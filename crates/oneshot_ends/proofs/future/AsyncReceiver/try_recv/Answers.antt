@@ -57,9 +57,6 @@ returns-clause-stays_open g c = open_tried (returns-clause-leaves g c)
 pub returns-clause-bounded : goal.returns-clause-bounded
 returns-clause-bounded g c = async_try_recv_few (returns-clause-run g c)
 
-pub returns-clause-about : goal.returns-clause-about
-returns-clause-about g c = c.async_try_recv.ensures.keeps.about ∙ future_about c.self.view_is
-
 pub returns-clause-promise : goal.returns-clause-promise
 returns-clause-promise g c =
     kept_about g.P.Promise.keeps c.async_try_recv.result (future_about c.self.view_is) c.async_try_recv.ensures.given

@@ -51,9 +51,6 @@ returns-clause-woken g c =
 pub returns-clause-bounded : goal.returns-clause-bounded
 returns-clause-bounded g c = poll_few (returns-clause-run g c)
 
-pub returns-clause-about : goal.returns-clause-about
-returns-clause-about g c = c.poll.ensures.keeps.about ∙ future_about c.self.view_is
-
 pub returns-clause-value : goal.returns-clause-value
 returns-clause-value g c =
     polled_about g.P.Promise.keeps c.poll.result (future_about c.self.view_is) c.poll.ensures.given

@@ -1,5 +1,5 @@
 -- Proofs of the goals that `recv_after` of `Receiver` leaves.
-use Rattle.std.proofs.Common.{[], ◌∷◌, refl, sym, ap, ◌∙◌, subst}
+use Rattle.std.proofs.Common.{[], ◌∷◌, refl, sym, ap, subst}
 use Rattle.std.specs.Prelude.{◌↔◌, IsTrue}
 use Rattle.oneshot_machine.specs.declared.machine.receiver.ReceiverStart.TheVariants.{RecvTimeout}
 use Rattle.oneshot_drive.specs.BetweenCalls.{LeavesTimed}
@@ -53,11 +53,6 @@ pub returns-clause-stays_closed : goal.returns-clause-stays_closed
 returns-clause-stays_closed g c closed =
     c.recv_timeout.ensures.stays
     (closed_before _ (ap (λ r. r.now) c.lend-lent.ensures.ground) (same_steps c.self.view_is) closed)
-
-pub returns-clause-about : goal.returns-clause-about
-returns-clause-about g c =
-    c.recv_timeout.ensures.keeps.about
-    ∙ lent_about (ap (λ r. r.now) c.lend-lent.ensures.ground) (same_about c.self.view_is)
 
 pub returns-clause-promise : goal.returns-clause-promise
 returns-clause-promise g c =

@@ -1,5 +1,5 @@
 -- Proofs of the goals that `recv_deadline` of `Receiver` leaves.
-use Rattle.std.proofs.Common.{[], ◌∷◌, refl, ap, ◌∙◌}
+use Rattle.std.proofs.Common.{[], ◌∷◌, refl, ap}
 use Rattle.oneshot_machine.specs.declared.machine.receiver.ReceiverStart.TheVariants.{RecvDeadline}
 use Rattle.oneshot_drive.specs.BetweenCalls.{LeavesTimed}
 use Rattle.oneshot_drive.proofs.ReadyHands.{closed_in_time, open_too_late, ready_timed}
@@ -50,11 +50,6 @@ returns-clause-closes g c = closed_in_time (returns-clause-leaves g c)
 
 pub returns-clause-stays_open : goal.returns-clause-stays_open
 returns-clause-stays_open g c = open_too_late (returns-clause-leaves g c)
-
-pub returns-clause-about : goal.returns-clause-about
-returns-clause-about g c =
-    c.recv_deadline.ensures.keeps.about
-    ∙ lent_about (ap (λ r. r.now) c.lend-lent.ensures.ground) (same_about c.self.view_is)
 
 pub returns-clause-promise : goal.returns-clause-promise
 returns-clause-promise g c =

@@ -1,5 +1,5 @@
 -- Proofs of the goals that `recv_ref` of `Receiver` leaves.
-use Rattle.std.proofs.Common.{[], ◌∷◌, refl, ap, ◌∙◌}
+use Rattle.std.proofs.Common.{[], ◌∷◌, refl, ap}
 use Rattle.oneshot_machine.specs.declared.machine.receiver.ReceiverStart.TheVariants.{RecvRef}
 use Rattle.oneshot_drive.specs.BetweenCalls.{LeavesClosed}
 use Rattle.oneshot_drive.proofs.ReadyHands.{closed_by, ready_closed}
@@ -45,10 +45,6 @@ returns-clause-stays_closed g c closed =
 
 pub returns-clause-closes : goal.returns-clause-closes
 returns-clause-closes g c = closed_by _ _ (returns-clause-leaves g c)
-
-pub returns-clause-about : goal.returns-clause-about
-returns-clause-about g c =
-    c.recv_ref.ensures.keeps.about ∙ lent_about (ap (λ r. r.now) c.lend-lent.ensures.ground) (same_about c.self.view_is)
 
 pub returns-clause-promise : goal.returns-clause-promise
 returns-clause-promise g c =

@@ -1,5 +1,5 @@
 -- Proofs of the goals that `try_recv` of `Receiver` leaves.
-use Rattle.std.proofs.Common.{refl, ◌∙◌}
+use Rattle.std.proofs.Common.{refl}
 use Rattle.oneshot_machine.specs.declared.machine.receiver.ReceiverStart.TheVariants.{TryRecv}
 use Rattle.oneshot_drive.specs.BetweenCalls.{Leaves}
 use Rattle.oneshot_drive.proofs.ReadyHands.{closed_tried, open_tried, ready_still}
@@ -42,9 +42,6 @@ returns-clause-stays_open g c = open_tried (returns-clause-leaves g c)
 
 pub returns-clause-bounded : goal.returns-clause-bounded
 returns-clause-bounded g c = try_recv_few (returns-clause-run g c)
-
-pub returns-clause-about : goal.returns-clause-about
-returns-clause-about g c = c.try_recv.ensures.keeps.about ∙ same_about c.self.view_is
 
 pub returns-clause-promise : goal.returns-clause-promise
 returns-clause-promise g c =
