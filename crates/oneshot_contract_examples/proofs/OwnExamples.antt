@@ -25,11 +25,11 @@ use Rattle.oneshot_ends.specs.declared.token.Half.TheVariants.{Parking, Waking}
 use Rattle.oneshot_ends.specs.declared.token.WakingHalf.{WakingHalf}
 use Rattle.oneshot_ends.specs.Ends.{registered_if}
 use Rattle.oneshot_ends.specs.Keeps.{own_stays, polled_stays}
-use Rattle.oneshot_ends.specs.NoLostWakeup.{SleepsOn, ParkerAt, HasGivenTokenOf}
+use Rattle.oneshot_ends.specs.NoLostWakeup.{SleepsOn, ParkerAt, HasGivenTokenOf, HasUsed}
 use Rattle.oneshot_contract_examples.specs.ExampleLogs.{waits as blocks}
-use Rattle.oneshot_contract_examples.specs.OwnExamples.{side_by, sender_of_it, parks_beside, UsesThatAre, UsesThatAreNot}
+use Rattle.oneshot_contract_examples.specs.OwnExamples.{side_by, sender_of_it, sender_of_task, parks_beside, UsesThatAre, UsesThatAreNot}
 use Rattle.oneshot_ends.specs.OwnWakers.{RealWaker, IsCopyFor, IsTaskOf, IsHalfOf, IsNoThread, is_waiting, WaitsByHalvesOf}
-use Rattle.oneshot_ends.specs.Woken.{Sending, IsWoken, phase, found_waiting as shown_waiting, HasEnded}
+use Rattle.oneshot_ends.specs.Woken.{Sending, IsWoken, WokeBy, phase, found_waiting as shown_waiting, HasEnded}
 use Rattle.oneshot_ends.specs.Taken.{taken_stays}
 use Rattle.oneshot_ends.proofs.GrewByRuns.{words_of}
 use Rattle.oneshot_ends.proofs.OwnWakers.{same_put}
@@ -53,10 +53,20 @@ module _ {K : Type 0} (s : Sending ⊤ (AnyWaker WakingHalf K) ⊤) {log : List 
   shows_phase = ap sender_at (words_of ⊤ (AnyWaker WakingHalf K) s.side.log ∙ logs)
 
 used_half : {K : Type 0} (s : Sending ⊤ (AnyWaker WakingHalf K) ⊤) (half : WakingHalf) (given : Given)
-    → s.side.handed ≡ Some (Thread half) → s.given ≡ Some given → IsSamePass half.pass given.pass
-    → (k : AnyWaker WakingHalf K) × ((s.side.handed ≡ Some k) × IsWoken k s.given)
-used_half {K} s half given took is same =
-    (Thread half, (took, subst (λ (g : Option Given). IsWoken {K = K} (Thread half) g) (sym is) same))
+    → s.side.handed ≡ Some (Thread half) → s.used ≡ Some (Thread half) → s.given ≡ Some given
+    → IsSamePass half.pass given.pass → (k : AnyWaker WakingHalf K) × WokeBy k s
+used_half {K} s half given took used is same = (
+  Thread half,
+  record {
+    took = took;
+    used = used;
+    woken = subst (λ (g : Option Given). IsWoken {K = K} (Thread half) g) (sym is) same;
+  },
+)
+
+-- the sender of the examples took the waker of a task, and used it
+used_it : (waker : Waker) → HasUsed waker (sender_of_task waker)
+used_it waker = record { found = refl; woke = record { took = refl; used = refl; woken = tt } }
 
 gives_its_own : {K : Type 0} (s : Side ⊤ (AnyWaker WakingHalf K) ⊤) (half : WakingHalf) → s.log ≡ blocks
     → s.waker ≡ away → s.handed ≡ Some (Thread half) → WaitsByHalvesOf half.pass.table_id s
@@ -103,7 +113,7 @@ never_over s logs never ended = never (subst (SenderIsOver sending) (shows_phase
 pub uses_that_are : UsesThatAre
 uses_that_are =
     record {
-      woke_it = λ s half given took is same found. used_half s half given took is same;
+      woke_it = λ s half given took used is same found. used_half s half given took used is same;
       nobody_waits = λ s logs found. let e : false ≡ true = sym (shows_waiting s logs) ∙ found in absurd (cc e);
       of_its_parker = λ p half same. same;
       of_a_task = λ waker. tt;
@@ -115,8 +125,8 @@ uses_that_are =
       woke_itself = λ cx future woken. inl woken;
       is_registered_by = λ s waker logs gave.
           ap (λ xs. registered_if (is_registered (receiver_at xs)) s.handed) logs ∙ ap (registered_if true) gave;
-      used_its_waker = λ waker. record { found = refl; took = refl };
-      woke_its_task = λ cx waker wakes. (waker, record { found = refl; took = refl }, inr wakes);
+      used_its_waker = used_it;
+      woke_its_task = λ cx waker wakes. (waker, used_it waker, inr wakes);
       its_own = λ half. refl;
       waits = refl;
       is_overdue = refl;
@@ -125,10 +135,10 @@ uses_that_are =
       is_new = refl;
       gives_its_own = gives_its_own;
       has_given_its_own = λ s half logs slot gave. (gives_its_own s half logs slot gave, tt);
-      ended = λ s half given logs took is same.
+      ended = λ s half given logs took used is same.
           record {
             over = subst (SenderIsOver sending) (sym (shows_phase s logs)) over_finished;
-            woken = λ found. used_half s half given took is same;
+            woken = λ found. used_half s half given took used is same;
           };
       at_one_moment = λ k.
           record {
@@ -148,7 +158,7 @@ uses_that_are =
           homes = has_message tt ∷ bare ∷ [];
           allowed = (wakers_that_pass WakingHalf Waker (λ about message. ⊤)).was_used tt tt (Thread half) tt;
         },
-        record { over = over_finished; woken = λ found. (Thread half, (refl, same)) },
+        record { over = over_finished; woken = λ found. (Thread half, record { took = refl; used = refl; woken = same }) },
         sleeps_on (side_by blocks (Thread half)) half refl refl refl,
         parker_at given number states.there,
       );
@@ -161,7 +171,7 @@ uses_that_are =
           allowed =
               (wakers_that_pass WakingHalf Waker (λ about message. ⊤)).was_used_of_a_future tt tt (Task waker) tt;
         },
-        record { over = over_finished; woken = λ found. (Task waker, (refl, tt)) },
+        record { over = over_finished; woken = λ found. (Task waker, (used_it waker).woke) },
         record { slot = λ k e. absurd (cc e); gave = λ _. (Task waker, refl, tt) },
         record { slot = λ k e. absurd (cc e); gave = λ _. (Task waker, refl, inr wakes) },
         refl,
@@ -184,9 +194,9 @@ pub uses_that_are_not : UsesThatAreNot
 uses_that_are_not =
     record {
       gave_none = λ s half logs took none used.
-          let woken = used (shows_waiting s logs) in unused woken.1.1 (sym woken.1.0 ∙ took) none;
+          let woken = used (shows_waiting s logs) in unused woken.1.woken (sym woken.1.took ∙ took) none;
       took_none = λ s logs none used.
-          let woken = used (shows_waiting s logs) in let e = sym none ∙ woken.1.0 in absurd (cc e);
+          let woken = used (shows_waiting s logs) in let e = sym none ∙ woken.1.took in absurd (cc e);
       a_task = λ parker own. own;
       of_another = λ parker half other own. other own;
       has_a_task = λ s parker has. has.1;
@@ -209,18 +219,22 @@ uses_that_are_not =
             | inr its ↦ subst (λ waker. IsSomeAnd waker (IsCopyFor cx)) none its
           ];
       woke_another = λ cx waker has other used.
-          let same : used.0 ≡ waker = cc (sym used.1.took) in
+          let same : used.0 ≡ waker = cc (sym used.1.woke.took) in
           elim used.2 [
             | inl lacks ↦ absurd (let e : false ≡ true = sym has ∙ lacks in cc e)
             | inr wakes ↦ other (subst (λ w. CopyWakes w cx) same wakes)
           ];
-      used_none = λ waker s none used. let e = sym none ∙ used.took in absurd (cc e);
+      took_no_task = λ waker s none used. let e = sym none ∙ used.woke.took in absurd (cc e);
+      used_none = λ waker s none used. let e = sym none ∙ used.woke.used in absurd (cc e);
+      used_another = λ waker other s is apart used. apart (cc (sym is ∙ used.woke.used));
+      left_its_task = λ waker s logs took none ended.
+          let woken = ended.woken (shows_waiting s logs) in let e = sym none ∙ woken.1.used in absurd (cc e);
       has_anothers = λ s parker half slot other owned. other (owned.slot (Thread half) slot);
       left_a_thread = λ s half logs gave free.
           same_put IsNoThread (free.gave (ap (λ xs. is_waiting (receiver_at xs)) logs)) gave;
       is_fresh = λ s logs ended. never_over s logs (λ over. elim over [ ]) ended;
       ended_unwoken = λ s half logs took none ended.
-          let woken = ended.woken (shows_waiting s logs) in unused woken.1.1 (sym woken.1.0 ∙ took) none;
+          let woken = ended.woken (shows_waiting s logs) in unused woken.1.woken (sym woken.1.took ∙ took) none;
       dropped_instead = λ s logs ended. never_over s logs (λ over. elim over [ ]) ended;
       took_another = λ k other apart moment.
           (wakers_that_do_not WakingHalf Waker (λ about message. ⊤)).took_another k other apart moment.allowed;

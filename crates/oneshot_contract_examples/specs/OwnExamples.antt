@@ -50,11 +50,20 @@ sent_to_it = sent_over UNPARKING
 -- the sender that has given its message by it, and used this half
 abbrev pub sender_of_it : WakingHalf → Given → Sending ⊤ RealWaker ⊤
 sender_of_it half given =
-    record { side = record (side_by sent_to_it (Thread half)) { passed = Some tt }; given = Some given }
+    record {
+      side = record (side_by sent_to_it (Thread half)) { passed = Some tt };
+      used = Some (Thread half);
+      given = Some given;
+    }
 
 -- the same by a task's waker
 abbrev pub sender_of_task : Waker → Sending ⊤ RealWaker ⊤
-sender_of_task waker = record { side = record (side_by sent_to_it (Task waker)) { passed = Some tt }; given = None }
+sender_of_task waker =
+    record {
+      side = record (side_by sent_to_it (Task waker)) { passed = Some tt };
+      used = Some (Task waker);
+      given = None;
+    }
 
 -- the parking half beside this waking half, which has taken the token or not
 abbrev pub parks_beside : WakingHalf → Bool → ParkingView
@@ -64,7 +73,8 @@ parks_beside half = half_of half.pass.table_id
 -- moments of a channel
 pub record UsesThatAre : Type 0 where
   pub woke_it : (s : Sending ⊤ (AnyWaker WakingHalf ℕ) ⊤) (half : WakingHalf) (given : Given)
-      → s.side.handed ≡ Some (Thread half) → s.given ≡ Some given → IsSamePass half.pass given.pass → HasWoken s
+      → s.side.handed ≡ Some (Thread half) → s.used ≡ Some (Thread half) → s.given ≡ Some given
+      → IsSamePass half.pass given.pass → HasWoken s
   pub nobody_waits : (s : Sending ⊤ (AnyWaker WakingHalf ℕ) ⊤) → s.side.log ≡ (Add, Word EMPTY) ∷ [] → HasWoken s
   pub of_its_parker : (p : ParkingView) (half : WakingHalf) → half.pass.table_id ≡ p.parker
       → IsHalfOf {K = ℕ} p.parker (Thread half)
@@ -91,8 +101,8 @@ pub record UsesThatAre : Type 0 where
   pub has_given_its_own : (s : Side ⊤ (AnyWaker WakingHalf ℕ) ⊤) (half : WakingHalf) → s.log ≡ blocks
       → s.waker ≡ away → s.handed ≡ Some (Thread half) → BlockHas half.pass.table_id s None
   pub ended : (s : Sending ⊤ (AnyWaker WakingHalf ℕ) ⊤) (half : WakingHalf) (given : Given) → s.side.log ≡ sent_to_it
-      → s.side.handed ≡ Some (Thread half) → s.given ≡ Some given → IsSamePass half.pass given.pass
-      → HasEnded sending s
+      → s.side.handed ≡ Some (Thread half) → s.used ≡ Some (Thread half) → s.given ≡ Some given
+      → IsSamePass half.pass given.pass → HasEnded sending s
   -- the sender has just taken the waker of the receiver that waits
   pub at_one_moment : (k : RealWaker)
       → AtOneMoment {P = ⊤} (λ about message. ⊤) (side_by claims k) (side_by blocks k)
@@ -144,7 +154,13 @@ pub record UsesThatAreNot : Type 0 where
       → future.registered ≡ None → WillBeWoken cx future → ⊥
   pub woke_another : (cx : Context) (waker : Waker) → cx.lacks_waker ≡ false → (CopyWakes waker cx → ⊥)
       → HasUsedWakerOf cx (sender_of_task waker) → ⊥
-  pub used_none : (waker : Waker) (s : Sending ⊤ RealWaker ⊤) → s.side.handed ≡ None → HasUsed waker s → ⊥
+  pub took_no_task : (waker : Waker) (s : Sending ⊤ RealWaker ⊤) → s.side.handed ≡ None → HasUsed waker s → ⊥
+  -- a sender that took the waker of a task, and used none, or another
+  pub used_none : (waker : Waker) (s : Sending ⊤ RealWaker ⊤) → s.used ≡ None → HasUsed waker s → ⊥
+  pub used_another : (waker other : Waker) (s : Sending ⊤ RealWaker ⊤) → s.used ≡ Some (Task other) → other ≢ waker
+      → HasUsed waker s → ⊥
+  pub left_its_task : (waker : Waker) (s : Sending ⊤ RealWaker ⊤) → s.side.log ≡ sent_to_it
+      → s.side.handed ≡ Some (Task waker) → s.used ≡ None → HasEnded sending s → ⊥
   pub has_anothers : (s : Side ⊤ (AnyWaker WakingHalf ℕ) ⊤) (parker : TableId) (half : WakingHalf)
       → s.waker ≡ held (Thread half) → (half.pass.table_id ≡ parker → ⊥) → WaitsByHalvesOf parker s → ⊥
   pub left_a_thread : (s : Side ⊤ (AnyWaker WakingHalf ℕ) ⊤) (half : WakingHalf) → s.log ≡ blocks

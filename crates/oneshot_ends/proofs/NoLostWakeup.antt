@@ -24,7 +24,7 @@ use Rattle.oneshot_ends.specs.Moments.{AtOneMoment}
 use Rattle.oneshot_ends.specs.NoLostWakeup.{SleepsOn, HasGivenTokenOf, HasTokenThere, HasUsedWakerOf, GivenTokensStay, EndedSendersGaveTokens, NoSleeperIsForgotten, FuturesWakeNoThread}
 use Rattle.oneshot_ends.specs.NoLostWakeup.{EndedSendersWokeTasks, NoTaskIsForgotten}
 use Rattle.oneshot_ends.specs.OwnWakers.{RealWaker, IsTaskOf, IsHalfOf, IsNoThread, is_waiting, Gave}
-use Rattle.oneshot_ends.specs.Woken.{Sending, IsWoken, found_waiting as shown_waiting, HasEnded}
+use Rattle.oneshot_ends.specs.Woken.{Sending, IsWoken, WokeBy, found_waiting as shown_waiting, HasEnded}
 use Rattle.oneshot_ends.proofs.FoundWaiting.{finds_it_waiting}
 use Rattle.oneshot_ends.proofs.GrewByRuns.{words_of}
 use Rattle.oneshot_ends.proofs.OwnWakers.{same_put}
@@ -96,7 +96,7 @@ module _ {T P : Type 0} (keeps : P → T → Type 0) where
   senders_gave_tokens by sender receiver parker moment ended found gave =
       let woken = ended.woken (ap found_receiver_waiting (words_of T RealWaker sender.side.log) ∙ found) in
       own_given parker woken.0 sender sender.given refl
-      (taken_is_given sender receiver {own = IsHalfOf parker} woken.0 moment woken.1.0 gave) woken.1.1
+      (taken_is_given sender receiver {own = IsHalfOf parker} woken.0 moment woken.1.took gave) woken.1.woken
 
   over_made : (by : By) (xs : List Noted) → SenderIsOver by (sender_at xs) → has_made xs ≡ true
   over_made by [] over = elim over [ ]
@@ -116,18 +116,18 @@ module _ {T P : Type 0} (keeps : P → T → Type 0) where
       token_there (senders_gave_tokens by sender receiver half.parker moment ended
       (ended_found by sender receiver moment ended waits) (sleeps.own.gave waits)) sleeps.untaken
 
-  -- the waker that a sender took from a future is a copy for its task
+  -- the waker that a sender used for a future is a copy for its task
   is_used : (cx : Context) (sender : Sending T RealWaker P) (k : RealWaker) → shown_waiting sender ≡ true
-      → sender.side.handed ≡ Some k → IsTaskOf cx k → HasUsedWakerOf cx sender
-  is_used cx sender (Task waker) found took its = (waker, record { found = found; took = took }, its)
-  is_used cx sender (Thread half) found took its = absurd its
+      → WokeBy k sender → IsTaskOf cx k → HasUsedWakerOf cx sender
+  is_used cx sender (Task waker) found woke its = (waker, record { found = found; woke = woke }, its)
+  is_used cx sender (Thread half) found woke its = absurd its
 
   pub senders_woke_tasks : EndedSendersWokeTasks keeps
   senders_woke_tasks by sender future cx moment ended found gave =
       let shown = ap found_receiver_waiting (words_of T RealWaker sender.side.log) ∙ found in
       let woken = ended.woken shown in
-      is_used cx sender woken.0 shown woken.1.0
-      (taken_is_given sender future {own = IsTaskOf cx} woken.0 moment woken.1.0 gave)
+      is_used cx sender woken.0 shown woken.1
+      (taken_is_given sender future {own = IsTaskOf cx} woken.0 moment woken.1.took gave)
 
   pub no_task_is_forgotten : NoTaskIsForgotten keeps
   no_task_is_forgotten by sender future waker moment ended registered =
@@ -138,8 +138,8 @@ module _ {T P : Type 0} (keeps : P → T → Type 0) where
       let shown = ap found_receiver_waiting (words_of T RealWaker sender.side.log) ∙ found in
       let woken = ended.woken shown in
       let gave : Gave (λ k. k ≡ Task waker) future.handed = (Task waker, so.1, refl) in
-      let same = taken_is_given sender future {own = λ k. k ≡ Task waker} woken.0 moment woken.1.0 gave in
-      record { found = shown; took = woken.1.0 ∙ ap (λ k. Some k) same }
+      let same = taken_is_given sender future {own = λ k. k ≡ Task waker} woken.0 moment woken.1.took gave in
+      record { found = shown; woke = subst (λ k. WokeBy k sender) same woken.1 }
 
   pub futures_wake_no_thread : FuturesWakeNoThread keeps
   futures_wake_no_thread sender future taken moment own waits took =

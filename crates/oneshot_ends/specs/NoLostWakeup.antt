@@ -21,7 +21,7 @@ use Rattle.oneshot_ends.specs.Ends.{registered_by}
 use Rattle.oneshot_ends.specs.Grounds.{state_of}
 use Rattle.oneshot_ends.specs.Moments.{AtOneMoment}
 use Rattle.oneshot_ends.specs.Tokens.{TokenIs, ParkingView}
-use Rattle.oneshot_ends.specs.Woken.{Sending, HasEnded, found_waiting}
+use Rattle.oneshot_ends.specs.Woken.{Sending, WokeBy, HasEnded, found_waiting}
 
 -- A receiver that sleeps by this half of its parker: what `park` requires of its ground, by the log and the wakers, and
 -- of the half.
@@ -55,10 +55,10 @@ pub record HasTokenThere {T P : Type 0} (half : ParkingView) (sender : Sending T
   pub gave : HasGivenTokenOf half.parker sender
   pub there : (is_there : Bool) → ParkerAt gave.evidence half.taken is_there → is_there ≡ true
 
--- The sender has found its receiver waiting, and used this copy of a task's waker, which it took.
+-- The sender has found its receiver waiting, has taken this copy of a task's waker, and has used it.
 pub record HasUsed {T P : Type 0} (waker : Waker) (sender : Sending T RealWaker P) : Type 0 where
   pub found : found_waiting sender ≡ true
-  pub took : sender.side.handed ≡ Some (Task waker)
+  pub woke : WokeBy (Task waker) sender
 
 -- It has used a waker that wakes the task of this context.
 abbrev pub HasUsedWakerOf : {T P : Type 0} → Context → Sending T RealWaker P → Type 0

@@ -137,7 +137,7 @@ pub fn a_token_is_given_once_and_then_taken()
 ///   of the last poll that registered (clause `woken` of the poll);
 /// - it has used the waker of a future that is registered.
 ///
-/// What the use of a task's waker does, `futures` states.
+/// No contract states what the use of a task's waker does: `wake` of `src/waker.rt` calls `Waker::wake`.
 ///
 /// What the law requires of the sender (`HasEnded`), the functions require that release it. What it requires of a
 /// receiver that sleeps (`SleepsOn`), `park` of its ground and of its parker's half require. That the rules of both

@@ -6,8 +6,8 @@ ghost use Rattle.oneshot_machine.specs.Slots.{held};
 ghost use Rattle.oneshot_ends.specs.Ends.{SenderIsOrdered};
 
 use crate::freed::Freed;
-use crate::token::{Given, WakingHalf};
-use crate::waker::wake;
+use crate::token::WakingHalf;
+use crate::waker::{Used, wake};
 use futures::task::Waker;
 use oneshot_drive::SenderGround;
 use oneshot_word::laws::a_sender_is_in_an_order;
@@ -58,8 +58,8 @@ pub struct SenderBackend<T, P: Promise<T>> {
     side: SenderSide<T, WakingHalf, Waker, P>,
     // Whether `free` was called, for proofs alone: the block is freed with the last of both shares.
     freed: Freed,
-    // Once it woke a thread, evidence that it gave the token. Only proofs read it.
-    given: Option<Given>,
+    // Once it used a waker, evidence of it. Only proofs read it.
+    used: Option<Used>,
 }
 
 impl<T, P: Promise<T>> Model for SenderBackend<T, P> {
@@ -67,11 +67,11 @@ impl<T, P: Promise<T>> Model for SenderBackend<T, P> {
     ghost use Rattle.oneshot_ends.specs.declared.token.WakingHalf.{WakingHalf};
     ghost use Rattle.futures.specs.declared.task.waker.Waker.{Waker};
     ghost use Rattle.oneshot_ends.specs.Grounds.{left_of};
-    ghost use Rattle.oneshot_ends.specs.Woken.{Sending};
+    ghost use Rattle.oneshot_ends.specs.Woken.{Sending, waker_of, given_of};
 
     ghost Value = { Sending T (AnyWaker WakingHalf Waker) P };
 
-    ghost view = { λ s. record { side = left_of s.freed.value s.side; given = s.given } };
+    ghost view = { λ s. record { side = left_of s.freed.value s.side; used = waker_of s.used; given = given_of s.used } };
 }
 
 impl<T, P: Promise<T>> SenderBackend<T, P> {
@@ -83,7 +83,7 @@ impl<T, P: Promise<T>> SenderBackend<T, P> {
         SenderBackend {
             side,
             freed,
-            given: None,
+            used: None,
         }
     }
 }
@@ -99,7 +99,7 @@ impl<T: Drop, P: Promise<T>> SenderBackend<T, P> {
         let SenderBackend {
             side,
             freed: _,
-            given: _,
+            used: _,
         } = self;
         side.let_go();
     }
@@ -111,7 +111,7 @@ impl<T: Drop, P: Promise<T>> SenderBackend<T, P> {
         let SenderBackend {
             side,
             freed: _,
-            given: _,
+            used: _,
         } = self;
         side.let_go();
     }
@@ -132,7 +132,7 @@ impl<T, P: Promise<T>> SenderBackend<T, P> {
         let SenderBackend {
             mut side,
             freed: _,
-            given: _,
+            used: _,
         } = self;
         let message = side.take_message();
         (message, side)
@@ -141,7 +141,7 @@ impl<T, P: Promise<T>> SenderBackend<T, P> {
 
 impl<T, P: Promise<T>> SenderGround<T, AnyWaker<WakingHalf, Waker>> for SenderBackend<T, P> {
     ghost use Rattle.oneshot_ends.specs.Grounds.{state_of};
-    ghost use Rattle.oneshot_ends.specs.Woken.{IsWoken, HasEnded};
+    ghost use Rattle.oneshot_ends.specs.Woken.{WokeBy, HasEnded};
     ghost use Rattle.std.proofs.Common.{◌∙◌};
 
     ghost state = { λ s. state_of s.side };
@@ -155,7 +155,7 @@ impl<T, P: Promise<T>> SenderGround<T, AnyWaker<WakingHalf, Waker>> for SenderBa
 
     ghost owed = { λ s waker. s.side.handed ≡ Some waker };
 
-    ghost woken = { λ s waker. (s.side.handed ≡ Some waker) × IsWoken waker s.given };
+    ghost woken = { λ s waker. WokeBy waker s };
 
     ghost gave = { λ s message. s.side.passed ≡ Some message };
 
@@ -184,7 +184,7 @@ impl<T, P: Promise<T>> SenderGround<T, AnyWaker<WakingHalf, Waker>> for SenderBa
     }
 
     fn wake(&mut self, waker: AnyWaker<WakingHalf, Waker>) {
-        self.given = wake(waker);
+        self.used = Some(wake(waker));
     }
 
     fn free(&mut self) {
