@@ -6,7 +6,6 @@
 #![tactic(auto)]
 
 #[cfg(test)]
-#[cfg(test)]
 mod asynchronous;
 #[cfg(test)]
 mod counted;

@@ -47,7 +47,7 @@ impl Pool {
     }
 }
 
-/// Fires the timers that are due each millisecond, until the stop signal comes or its sender is dropped.
+/// Once a millisecond, fires the timers that are due. Ends when the stop signal comes or its sender is dropped.
 ///
 /// `rt` runs this thread, `timers` fires them as `task`, and `stop` is the receiver of the signal. `Err`: no
 /// clock. Then each timer fails.

@@ -32,7 +32,7 @@ fn price_within<R: Wait + Clock + RandomSource + AllocGlobal>(
     }
 }
 
-/// Fires the timers that are due each millisecond, until the sender of `stop` sends or is dropped.
+/// Once a millisecond, fires the timers that are due. Ends when the sender of `stop` sends or is dropped.
 fn keep_time<R>(rt: &R, mut timers: Driver, mut stop: Receiver<(), &R>) -> io::Result<()>
 where
     R: Wait + Clock + RandomSource + AllocGlobal,
