@@ -126,6 +126,8 @@ uses_that_are =
       is_registered_by = λ s waker logs gave.
           ap (λ xs. registered_if (is_registered (receiver_at xs)) s.handed) logs ∙ ap (registered_if true) gave;
       used_its_waker = used_it;
+      has_used_none = λ s. refl;
+      has_used_it = λ s used. refl;
       woke_its_task = λ cx waker wakes. (waker, used_it waker, inr wakes);
       its_own = λ half. refl;
       waits = refl;
@@ -158,7 +160,10 @@ uses_that_are =
           homes = has_message tt ∷ bare ∷ [];
           allowed = (wakers_that_pass WakingHalf Waker (λ about message. ⊤)).was_used tt tt (Thread half) tt;
         },
-        record { over = over_finished; woken = λ found. (Thread half, record { took = refl; used = refl; woken = same }) },
+        record {
+          over = over_finished;
+          woken = λ found. (Thread half, record { took = refl; used = refl; woken = same });
+        },
         sleeps_on (side_by blocks (Thread half)) half refl refl refl,
         parker_at given number states.there,
       );

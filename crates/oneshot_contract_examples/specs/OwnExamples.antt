@@ -27,7 +27,8 @@ use Rattle.oneshot_ends.specs.NoLostWakeup.{SleepsOn, ParkerAt, HasGivenTokenOf,
 use Rattle.oneshot_ends.specs.OwnWakers.{RealWaker, IsTaskOf, WaitsForTask, IsHalfOf, IsNoThread, WaitsByNoThread, WaitsByHalvesOf, BlockHas, is_waiting}
 use Rattle.oneshot_ends.specs.PatienceExamples.{in_time, half_of}
 use Rattle.oneshot_ends.specs.Tokens.{ParkingView}
-use Rattle.oneshot_ends.specs.Woken.{Sending, HasWoken, HasEnded}
+use Rattle.oneshot_ends.specs.Woken.{Sending, sending_by, HasWoken, HasEnded}
+use Rattle.oneshot_ends.specs.declared.waker.Used.{Used}
 use Rattle.oneshot_contract_examples.specs.ExampleLogs.{claims, polled, sent_over}
 
 -- a side with this log, which gave or took this waker
@@ -89,6 +90,10 @@ pub record UsesThatAre : Type 0 where
   pub is_registered_by : (s : Side ⊤ RealWaker ⊤) (waker : Waker) → s.log ≡ polled → s.handed ≡ Some (Task waker)
       → registered_by s ≡ Some waker
   pub used_its_waker : (waker : Waker) → HasUsed waker (sender_of_task waker)
+  -- what a ground shows before and after its `wake`
+  pub has_used_none : (s : Side ⊤ RealWaker ⊤) → sending_by s None ≡ record { side = s; used = None; given = None }
+  pub has_used_it : (s : Side ⊤ RealWaker ⊤) (used : Used) → sending_by s (Some used)
+      ≡ record { side = s; used = Some used.waker.value; given = used.given }
   pub woke_its_task : (cx : Context) (waker : Waker) → CopyWakes waker cx → HasUsedWakerOf cx (sender_of_task waker)
   pub its_own : (half : WakingHalf) → IsHalfOf {K = ℕ} half.pass.table_id (Thread half)
   pub waits : is_waiting (receiver_at blocks) ≡ true

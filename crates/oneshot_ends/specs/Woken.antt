@@ -33,11 +33,15 @@ abbrev pub given_of : Option Used → Option Given
 given_of None = None
 given_of (Some used) = used.given
 
--- The ground of a sender: its side, the waker that it used once it used one, and evidence of the token once it gave one.
+-- the ground of a sender: its side, the waker that it used, if it has, and evidence of the token that it gave, if it has
 pub record Sending (T W P : Type 0) : Type 0 where
   pub side : Side T W P
   pub used : Option W
   pub given : Option Given
+
+abbrev pub sending_by : {T P : Type 0} → Side T (AnyWaker WakingHalf Waker) P → Option Used
+    → Sending T (AnyWaker WakingHalf Waker) P
+sending_by side used = record { side = side; used = waker_of used; given = given_of used }
 
 -- by the log of its ground: how far the sender is, and whether it found its receiver waiting
 abbrev pub phase : {T W P : Type 0} → Sending T W P → SenderAt

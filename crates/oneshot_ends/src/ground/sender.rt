@@ -67,11 +67,11 @@ impl<T, P: Promise<T>> Model for SenderBackend<T, P> {
     ghost use Rattle.oneshot_ends.specs.declared.token.WakingHalf.{WakingHalf};
     ghost use Rattle.futures.specs.declared.task.waker.Waker.{Waker};
     ghost use Rattle.oneshot_ends.specs.Grounds.{left_of};
-    ghost use Rattle.oneshot_ends.specs.Woken.{Sending, waker_of, given_of};
+    ghost use Rattle.oneshot_ends.specs.Woken.{Sending, sending_by};
 
     ghost Value = { Sending T (AnyWaker WakingHalf Waker) P };
 
-    ghost view = { λ s. record { side = left_of s.freed.value s.side; used = waker_of s.used; given = given_of s.used } };
+    ghost view = { λ s. sending_by (left_of s.freed.value s.side) s.used };
 }
 
 impl<T, P: Promise<T>> SenderBackend<T, P> {
