@@ -15,8 +15,8 @@ use Rattle.oneshot_machine.specs.Phases.{By, sending, dropping, finished, overta
 use Rattle.oneshot_machine.specs.Phases.{blocked, Waiting, first, idle, waits, claimed, withdrew, overdue, full, unclosed, disconnected, resolved, gone, ended}
 use Rattle.oneshot_machine.specs.Slots.{Held, away, vacant, held}
 use Rattle.oneshot_drive.specs.BetweenCalls.{IsFresh, IsError, LastLeaves, Rests, AtRest, IsClosedAt, IsOpenAt, Leaves, LeavesClosed, LeavesTimed, IsReady}
-use Rattle.oneshot_drive.specs.BetweenCalls.{Hands, send_reply, try_recv_reply, recv_reply, timed_reply, received}
-use Rattle.oneshot_drive.specs.Blocking.{Parks, Returns}
+use Rattle.oneshot_drive.specs.BetweenCalls.{send_reply, try_recv_reply, recv_reply, timed_reply, received}
+use Rattle.oneshot_drive.specs.Blocking.{Parks}
 use Rattle.oneshot_drive.specs.Grounds.{GroundState, SenderAsks, SenderMakes, ReceiverAsks, ReceiverMakes}
 use Rattle.oneshot_drive.specs.Polls.{Polled, IsPolled, LeavesPolled, LeavesTask, LeavesTried, StaysRegistered, IsDisconnected, WritesItsCopy, HandsNoWaker, poll_reply, poll_received}
 use Rattle.oneshot_drive.specs.Wakes.{Wakes, SenderWoke}
@@ -143,19 +143,9 @@ pub record RepliesThatAre : Type 0 where
 pub record HandsThatAre : Type 0 where
   pub ready : IsReady (Some true) (idle after_load)
   pub closed_without : (c : Closing) → IsReady {W = Bool} None (disconnected c)
-  pub untouched : Hands (Some true) (Some true) (idle after_load)
-  pub taken : (c : Closing) → Hands (Some true) None (disconnected c)
-  pub another_came_back : Hands (Some true) (Some false) (idle after_timeout)
-  pub returned : Returns (Some true) (Some true)
-  pub kept_by_the_sender : Returns (Some true) None
 
 pub record HandsThatAreNot : Type 0 where
   pub open_without : (o : Open) → IsReady {W = Bool} None (idle o) → ⊥
-  pub taken_while_open : (o : Open) → Hands (Some true) None (idle o) → ⊥
-  pub taken_by_a_future : (c : Closing) → Hands (Some true) None (resolved c) → ⊥
-  pub another_while_closed : (c : Closing) → Hands (Some true) (Some false) (disconnected c) → ⊥
-  pub found_one : (o : Open) → Hands None (Some true) (idle o) → ⊥
-  pub returned_another : Returns (Some true) (Some false) → ⊥
 
 -- GROUNDS, whole ones: their steps, the message's slot and the waker's
 abbrev pub log_of : List (Event ℕ ℕ) → Log ℕ ℕ
