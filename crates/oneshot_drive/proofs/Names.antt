@@ -12,7 +12,6 @@ pub use Rattle.oneshot_drive.specs.Polls.{hand_after, WritesHand, WritesCopies, 
 pub use Rattle.oneshot_drive.specs.Polls.{leaves_resolved, leaves_over, leaves_gone, leaves_uncopied, leaves_waiting, leaves_its_copy, leaves_claimed, EndsPoll, tried_resolved, tried_its_copy}
 pub use Rattle.oneshot_drive.specs.Polls.{is_disconnected, poll_end, MayLeave, WritesItsCopy, wakers_handed, HandsNoWaker, LeavesTried, tried_received, tried_closed, tried_uncopied, tried_claimed}
 pub use Rattle.oneshot_drive.specs.Polls.{is_registered}
-pub use Rattle.oneshot_drive.specs.Wakes.{wakes, wakes_none, SenderWoke, Wakes}
 pub use Rattle.oneshot_drive.specs.declared.found.Found.{Found}
 pub use Rattle.oneshot_errors.specs.declared.recv.RecvError.{RecvError}
 pub use Rattle.oneshot_errors.specs.declared.recv_timeout.RecvTimeoutError.{RecvTimeoutError}

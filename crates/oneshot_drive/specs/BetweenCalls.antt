@@ -11,7 +11,6 @@ use Rattle.oneshot_machine.specs.declared.machine.Step.TheVariants.{TakeWaker, W
 use Rattle.oneshot_machine.specs.declared.states.Op.TheVariants.{Swap}
 use Rattle.oneshot_machine.specs.declared.states.TheConstants.{UNPARKING, DISCONNECTED, EMPTY}
 use Rattle.oneshot_machine.specs.Logs.{Event, Log, Grows, sender_of, handed, worded}
-use Rattle.oneshot_machine.specs.Over.{IsLate}
 use Rattle.oneshot_machine.specs.Phases.{By, SenderAt, fresh, finished, overtaken, Closing, closed_itself, Open, after_load, after_timeout, ReceiverAt, first, idle, waits, claimed}
 use Rattle.oneshot_machine.specs.Phases.{disconnected, resolved}
 use Rattle.oneshot_machine.specs.Slots.{Held, away, vacant, held, SenderMay}
@@ -60,7 +59,6 @@ pub record Finishes {T W : Type 0} (last : ℕ) (here : Bool) (woken : W → Typ
 
 -- Between the two states it found the receiver gone. It owns both slots, and the message's is unchanged.
 pub record IsOvertaken {T W : Type 0} (before after : GroundState T W) : Type 0 where
-  pub late : IsLate (sender_of after.log)
   pub message : after.message ≡ before.message
   pub waker : after.waker ≡ vacant
 
