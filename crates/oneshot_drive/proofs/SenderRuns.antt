@@ -1,5 +1,6 @@
 -- The steps of each call of the sender are a run.
-use Rattle.oneshot_drive.proofs.Names.{◌≡◌, ℕ, Bool, true, false, List, [], ◌∷◌, Some, refl, sym, ◌∙◌, TakeWaker, Wake, Free, Send, IntoInner, DropError, SendAdd, SendTakeWaker, SendFinal, SendWake, SendLateWake}
+use Rattle.oneshot_drive.proofs.Names.{◌≡◌, ℕ, Bool, true, false, List, [], ◌∷◌, Some, refl, sym, ◌∙◌, TakeWaker, Wake, Free, Send, IntoInner, DropError, SendAdd, SendTakeWaker, SendFinal}
+use Rattle.oneshot_drive.proofs.Names.{SendWake, SendLateWake}
 use Rattle.oneshot_drive.proofs.Names.{DropTakeWaker, DropFinal, DropWake, DropLateWake, IntoFree, ErrorFree, SenderPos, Swap, Add, Xor, Log, Grows, did, wrote, took, handed, worded, Goes, Answers}
 use Rattle.oneshot_drive.proofs.Names.{last, more, SenderRan, sender_step, sender_row, and_then, finishing, LastFinds, finds_waiting, finds_overdue, finds_gone}
 use Rattle.oneshot_drive.proofs.Names.{Finishes, send_reply, RECEIVING, DISCONNECTED, EMPTY, MESSAGE}

@@ -102,7 +102,11 @@ module _ {T W : Type 0} where
   enters : (p : ReceiverPos) {r : Reply} {xs : List (Event T W)} {log : List Noted}
       → Run receiver_step receiver_row (acts p) xs r → words xs ≡ log → RunsWith T W (beside p) r log
   enters (Ref Park) {xs = xs} made same =
-      record { run = clocked false ∷ xs; is_run = more (Timed TimedPark) (clocked false) xs refl refl made; same = same }
+      record {
+        run = clocked false ∷ xs;
+        is_run = more (Timed TimedPark) (clocked false) xs refl refl made;
+        same = same;
+      }
   enters _ made same = record { run = _; is_run = made; same = same }
 
   with_its_clock : {p : ReceiverPos} {r : Reply} {xs : List (Event T W)} → Run receiver_step receiver_row p xs r
