@@ -25,7 +25,7 @@ mod NewEnds
 mod LentGrounds
 pub mod Taken
 mod OpenTaken
-mod TimeoutEnds
+pub mod TimeoutEnds
 mod PollingTokens
 mod PolledEnds
 mod TaskWakers
