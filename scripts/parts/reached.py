@@ -31,7 +31,7 @@ EXAMPLES = re.compile(
 
 # Why no example has to reach some definitions: "crate.File", and names there, also as patterns of the shell.
 UNREACHED = [
-    ("oneshot_drive.Blocking", "EndsAt HandAt Path ReceiveBy Refills Stretch end_of load_of ref_end value_end",
+    ("oneshot_drive.Blocking", "EndsAt Path ReceiveBy Stretch end_of load_of ref_end value_end",
      "the clauses of `find`, from which those of the drivers that call it are proved"),
     ("oneshot_ends.Keeps", "*_stays *_stays_on has_lent_on has_lent_back",
      "proofs that the grounds of a receiver cite"),

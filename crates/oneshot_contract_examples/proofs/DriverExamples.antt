@@ -1,6 +1,6 @@
 -- Proofs of the examples of ends, of what a call leaves, of replies and of hands.
-use Rattle.oneshot_drive.proofs.Names.{true, false, inl, inr, refl, closed_itself, found_closed, after_load, after_timeout, blocked, waits, withdrew, rests_new, rests_open, rests_closed}
-use Rattle.oneshot_drive.proofs.Names.{leaves_open, leaves_closed, left_received, left_closed, timed_received, timed_out, timed_closed, as_it_was, sender_took, came_back, returned, taken}
+use Rattle.oneshot_drive.proofs.Names.{inl, inr, refl, closed_itself, found_closed, after_load, after_timeout, blocked, waits, withdrew, rests_new, rests_open, rests_closed}
+use Rattle.oneshot_drive.proofs.Names.{leaves_open, leaves_closed, left_received, left_closed, timed_received, timed_out, timed_closed}
 use Rattle.oneshot_contract_examples.specs.DriverExamples.{message}
 use Rattle.oneshot_drive.proofs.Names.{Polled, unpolled, left_copy, kept_copy, found_sender}
 use Rattle.oneshot_contract_examples.specs.DriverExamples.{PhasesThatAre, PhasesThatAreNot, CallsThatLeave, CallsThatDoNot, RepliesThatAre, HandsThatAre, HandsThatAreNot}
@@ -152,20 +152,10 @@ hands_that_are =
     record {
       ready = λ e. absurd (cc);
       closed_without = λ _ _. refl;
-      untouched = as_it_was _ _;
-      taken = sender_took true;
-      another_came_back = came_back true false;
-      returned = returned _;
-      kept_by_the_sender = taken true;
     }
 
 pub hands_that_are_not : HandsThatAreNot
 hands_that_are_not =
     record {
       open_without = λ _ ready. let e = ready refl in cc;
-      taken_while_open = λ _ h. elim h [ ];
-      taken_by_a_future = λ _ h. elim h [ ];
-      another_while_closed = λ _ h. elim h [ ];
-      found_one = λ _ h. elim h [ ];
-      returned_another = λ h. elim h [ ];
     }

@@ -1,18 +1,10 @@
 -- Proofs of the examples of grounds and of the wakers that a call passes on.
-use Rattle.oneshot_drive.proofs.Names.{◌≡◌, ℕ, true, List, [], ◌∷◌, None, refl, sym, subst, arith, Sent, Send, Event, Grows, receiver_of, ReceiverAt, blocked, first, idle, after_load}
-use Rattle.oneshot_contract_examples.specs.RunExamples.{waking}
+use Rattle.oneshot_drive.proofs.Names.{◌≡◌, ℕ, true, List, [], None, refl, sym, subst, Event, Grows, receiver_of, ReceiverAt, blocked, first, idle, after_load}
 use Rattle.oneshot_drive.proofs.Names.{disconnected, found_closed, waits, polled, is_away, is_vacant, IsSlot, rests_new, rests_open, rests_closed}
-use Rattle.oneshot_contract_examples.proofs.RunExamples.{runs_that_are}
 use Rattle.oneshot_contract_examples.proofs.RowExamples.{slots_that_are, slots_that_are_not}
 use Rattle.oneshot_drive.proofs.Names.{parks_waiting, parks_overdue, GroundState, StandsIn, receiver_slots, WritesCopies}
 use Rattle.oneshot_contract_examples.specs.DriverExamples.{log_of, GroundsThatAre, GroundsThatAreNot, WakersThatAre, WakersThatAreNot}
-use Rattle.oneshot_drive.proofs.Names.{WritesItsCopy, left_copy, wakers_handed, HandsNoWaker, Wakes, wakes, wakes_none, SenderWoke}
-use Rattle.std.proofs.Common.{false, ap, ◌∙◌, true≢false}
-use Rattle.oneshot_machine.specs.declared.machine.Step.TheVariants.{Wake}
-use Rattle.oneshot_machine.specs.Logs.{handed}
-use Rattle.oneshot_machine.proofs.GrownLogs.{words_after}
-use Rattle.oneshot_contract_examples.specs.DriverExamples.{real, met_it}
-use Rattle.oneshot_drive.specs.Wakes.{found_receiver_waiting}
+use Rattle.oneshot_drive.proofs.Names.{WritesItsCopy, left_copy, wakers_handed, HandsNoWaker}
 
 pub grounds_that_are : GroundsThatAre
 grounds_that_are =
@@ -87,24 +79,6 @@ wakers_that_are =
       its_own_copy = record { steps = _; grows = begun _; own = (tt, (tt, (refl, (tt, tt)))) };
       a_later_copy = record { steps = _; grows = begun _; own = (tt, (tt, (refl, tt))) };
       no_copy = record { steps = _; grows = begun _; own = (tt, (tt, tt)) };
-      wakes =
-          record {
-            ran = record { run = waking; is_run = runs_that_are.wakes; grows = begun _; gives = refl; gets = refl };
-            wakes = wakes 1 refl refl refl refl;
-          };
-      wakes_for_real =
-          record {
-            ran =
-                record {
-                  run = waking;
-                  is_run = runs_that_are.wakes;
-                  grows = record { whole = refl; channel = refl; list = refl };
-                  gives = refl;
-                  gets = refl;
-                };
-            wakes = wakes 1 refl refl refl refl;
-          };
-      wakes_nobody = wakes_none refl refl;
       looks_alone = record { steps = _; grows = begun _; none = refl };
     }
 
@@ -114,41 +88,12 @@ all_its_own xs wrote = subst (WritesCopies None) (sym wrote.grows.list) wrote.ow
 hands_none : (xs : List (Event ℕ ℕ)) → HandsNoWaker (log_of []) (log_of xs) → wakers_handed xs ≡ []
 hands_none xs hands = subst (λ steps. wakers_handed steps ≡ []) (sym hands.grows.list) hands.none
 
--- the waker that a `send` used is the one that it took
-used : {woken : ℕ → Type 0} → Wakes {T = ℕ} woken waking → woken 1
-used {woken} (wakes k found took is_used it) = let one : k ≡ 1 = cc in subst woken one it
-used (wakes_none found is_used) = absurd (cc found)
-
-wakes_another : SenderWoke (λ waker. waker ≡ 2) Send (log_of []) (log_of waking) Sent (7 ∷ []) [] → ⊥
-wakes_another woke =
-    let all = subst (Wakes (λ waker. waker ≡ 2)) (sym woke.ran.grows.list) woke.wakes in
-    let e : 1 ≡ 2 = used {woken = λ waker. waker ≡ 2} all in omega (arith, e)
-
--- a real sender that found its receiver waiting used a waker
-used_one : {woken : ℕ → Type 0} → SenderWoke woken Send (real []) (real met_it) Sent (7 ∷ []) [] → (k : ℕ) × woken k
-used_one woke =
-    elim woke.wakes [
-      | wakes k found took used woken ↦ (k, woken)
-      | wakes_none none used ↦ absurd (true≢false (ap found_receiver_waiting (words_after woke.ran.run woke.ran.grows)
-          ∙ none))
-    ]
-
-used_unasked : Wakes {T = ℕ} {W = ℕ} (λ waker. waker ≡ 1) (handed Wake 1 ∷ []) → ⊥
-used_unasked woke =
-    elim woke [
-      | wakes k found took used woken ↦ let e : false ≡ true = found in cc e
-      | wakes_none none used ↦ let e : 1 ∷ [] ≡ [] = used in cc e
-    ]
-
 pub wakers_that_are_not : WakersThatAreNot
 wakers_that_are_not =
     record {
       another_copy = λ wrote. let e = (all_its_own _ wrote).1.0 in cc;
       the_old_copy = λ wrote. let e = (all_its_own _ wrote).1.0 in cc;
       a_refused_copy = λ wrote. let e = (all_its_own _ wrote).1.0 in cc;
-      wakes_another = wakes_another;
-      wakes_by_nothing = λ woke. (used_one woke).1;
-      wakes_unasked = used_unasked;
       takes_it_back = λ hands. let e = hands_none _ hands in cc;
       writes_one = λ hands. let e = hands_none _ hands in cc;
       copies_one = λ hands. let e = hands_none _ hands in cc;

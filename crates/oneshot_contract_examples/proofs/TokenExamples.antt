@@ -1,15 +1,12 @@
 -- The examples of tokens, computed.
 use Rattle.std.proofs.Common.{◌≡◌, ℕ, Bool, List, [], ◌∷◌, Option, refl, sym, subst, arith}
-use Rattle.oneshot_machine.specs.declared.machine.Step.TheVariants.{Wake}
-use Rattle.oneshot_machine.specs.Logs.{handed}
-use Rattle.oneshot_drive.specs.Wakes.{Wakes, wakes, wakes_none}
 use Rattle.oneshot_word.specs.declared.any_waker.AnyWaker.TheVariants.{Thread}
 use Rattle.oneshot_ends.specs.declared.token.Given.{Given}
 use Rattle.oneshot_ends.specs.declared.token.Half.{Half}
 use Rattle.oneshot_ends.specs.declared.token.Half.TheVariants.{Both}
 use Rattle.oneshot_ends.specs.Tokens.{undivided, divides, gives, takes, Life, and_then, made, was_divided, was_given}
 use Rattle.oneshot_ends.specs.Woken.{IsWoken}
-use Rattle.oneshot_contract_examples.specs.TokenExamples.{any_wakes, none_wakes, up_to_its_wake, TokensThatAreNot, LivesThatAre, LivesThatAreNot, StepsThatWake, StepsThatDoNot}
+use Rattle.oneshot_contract_examples.specs.TokenExamples.{TokensThatAreNot, LivesThatAre, LivesThatAreNot}
 use Rattle.oneshot_contract_examples.specs.TokenExamples.{WakersThatWoke, WakersThatDidNot}
 use Rattle.oneshot_ends.proofs.TokenLives.{halves_gave, halves_took}
 use Rattle.oneshot_ends.proofs.Tokens.{Has, has, undivided_has}
@@ -52,24 +49,6 @@ lives_that_are_not =
       takes_first = takes_first;
       gave_and_took = λ e. cc;
     }
-
-pub steps_that_wake : StepsThatWake
-steps_that_wake = record { by_its_waker = wakes 1 refl refl refl tt; nobody_waits = wakes_none refl refl }
-
-left_out : Wakes any_wakes (up_to_its_wake []) → ⊥
-left_out (wakes k found took used woken) = cc
-left_out (wakes_none found used) = cc
-
-another : Wakes any_wakes (up_to_its_wake (handed Wake 2 ∷ [])) → ⊥
-another (wakes k found took used woken) = cc
-another (wakes_none found used) = cc
-
-vain : Wakes none_wakes (up_to_its_wake (handed Wake 1 ∷ [])) → ⊥
-vain (wakes k found took used woken) = woken
-vain (wakes_none found used) = cc
-
-pub steps_that_do_not : StepsThatDoNot
-steps_that_do_not = record { leaves_it_out = left_out; by_another = another; in_vain = vain }
 
 pub wakers_that_woke : WakersThatWoke
 wakers_that_woke =

@@ -5,21 +5,18 @@ use Rattle.oneshot_errors.specs.declared.recv.RecvError.{RecvError}
 use Rattle.oneshot_errors.specs.declared.recv_timeout.RecvTimeoutError.TheVariants as Timed
 use Rattle.oneshot_errors.specs.declared.try_recv.TryRecvError.TheVariants as E
 use Rattle.oneshot_machine.specs.declared.machine.Reply.TheVariants as R
-use Rattle.oneshot_machine.specs.declared.machine.Step.TheVariants.{WriteWaker, Withdraw, Wake, WakeOwn}
-use Rattle.oneshot_machine.specs.declared.machine.sender.SenderCall.TheVariants.{Send}
+use Rattle.oneshot_machine.specs.declared.machine.Step.TheVariants.{WriteWaker, Withdraw, WakeOwn}
 use Rattle.oneshot_machine.specs.declared.states.Op.TheVariants.{Load, Swap, Exchange, Add}
-use Rattle.oneshot_machine.specs.declared.states.TheConstants.{RECEIVING, UNPARKING, DISCONNECTED, EMPTY, MESSAGE}
-use Rattle.oneshot_contract_examples.specs.RunExamples.{waking}
+use Rattle.oneshot_machine.specs.declared.states.TheConstants.{RECEIVING, DISCONNECTED, EMPTY, MESSAGE}
 use Rattle.oneshot_machine.specs.Logs.{Event, Log, did, handed, copied, worded}
 use Rattle.oneshot_machine.specs.Phases.{By, sending, dropping, finished, overtaken, Closing, closed_itself, found_closed, Got, Open, after_load, after_timeout, Swapping, polled, again}
 use Rattle.oneshot_machine.specs.Phases.{blocked, Waiting, first, idle, waits, claimed, withdrew, overdue, full, unclosed, disconnected, resolved, gone, ended}
 use Rattle.oneshot_machine.specs.Slots.{Held, away, vacant, held}
 use Rattle.oneshot_drive.specs.BetweenCalls.{IsFresh, IsError, LastLeaves, Rests, AtRest, IsClosedAt, IsOpenAt, Leaves, LeavesClosed, LeavesTimed, IsReady}
-use Rattle.oneshot_drive.specs.BetweenCalls.{Hands, send_reply, try_recv_reply, recv_reply, timed_reply, received}
-use Rattle.oneshot_drive.specs.Blocking.{Parks, Returns}
+use Rattle.oneshot_drive.specs.BetweenCalls.{send_reply, try_recv_reply, recv_reply, timed_reply, received}
+use Rattle.oneshot_drive.specs.Blocking.{Parks}
 use Rattle.oneshot_drive.specs.Grounds.{GroundState, SenderAsks, SenderMakes, ReceiverAsks, ReceiverMakes}
 use Rattle.oneshot_drive.specs.Polls.{Polled, IsPolled, LeavesPolled, LeavesTask, LeavesTried, StaysRegistered, IsDisconnected, WritesItsCopy, HandsNoWaker, poll_reply, poll_received}
-use Rattle.oneshot_drive.specs.Wakes.{Wakes, SenderWoke}
 
 -- a message
 abbrev pub message : ℕ
@@ -143,19 +140,9 @@ pub record RepliesThatAre : Type 0 where
 pub record HandsThatAre : Type 0 where
   pub ready : IsReady (Some true) (idle after_load)
   pub closed_without : (c : Closing) → IsReady {W = Bool} None (disconnected c)
-  pub untouched : Hands (Some true) (Some true) (idle after_load)
-  pub taken : (c : Closing) → Hands (Some true) None (disconnected c)
-  pub another_came_back : Hands (Some true) (Some false) (idle after_timeout)
-  pub returned : Returns (Some true) (Some true)
-  pub kept_by_the_sender : Returns (Some true) None
 
 pub record HandsThatAreNot : Type 0 where
   pub open_without : (o : Open) → IsReady {W = Bool} None (idle o) → ⊥
-  pub taken_while_open : (o : Open) → Hands (Some true) None (idle o) → ⊥
-  pub taken_by_a_future : (c : Closing) → Hands (Some true) None (resolved c) → ⊥
-  pub another_while_closed : (c : Closing) → Hands (Some true) (Some false) (disconnected c) → ⊥
-  pub found_one : (o : Open) → Hands None (Some true) (idle o) → ⊥
-  pub returned_another : Returns (Some true) (Some false) → ⊥
 
 -- GROUNDS, whole ones: their steps, the message's slot and the waker's
 abbrev pub log_of : List (Event ℕ ℕ) → Log ℕ ℕ
@@ -200,32 +187,18 @@ pub record GroundsThatAreNot : Type 0 where
   pub parks_open : (o : Open) → Parks false (idle o) → ⊥
   pub parks_until_what_is_over : Parks true overdue → ⊥
 
--- the log of a real end, which has operations alone, and that of a real `send` that found its receiver waiting
-abbrev pub real : List (Event ℕ ℕ) → Log ℕ ℕ
-real list = record { whole = false; channel = []; list = list }
-
-abbrev pub met_it : List (Event ℕ ℕ)
-met_it = worded Add RECEIVING ∷ worded (Swap MESSAGE) UNPARKING ∷ []
-
--- WAKERS, by whole logs, and by a real one
+-- WAKERS, by whole logs
 pub record WakersThatAre : Type 0 where
   pub its_own_copy : WritesItsCopy (log_of []) (log_of registering)
   pub a_later_copy : WritesItsCopy (log_of [])
       (log_of (copied (Some 5) ∷ copied (Some 6) ∷ handed WriteWaker 6 ∷ []))
   pub no_copy : WritesItsCopy (log_of []) (log_of (copied None ∷ did WakeOwn ∷ []))
-  -- a `send` uses the waker that it took, and so wakes its receiver
-  pub wakes : SenderWoke (λ waker. waker ≡ 1) Send (log_of []) (log_of waking) R.Sent (7 ∷ []) []
-  pub wakes_for_real : SenderWoke (λ waker. waker ≡ 1) Send (real []) (real met_it) R.Sent (7 ∷ []) []
-  pub wakes_nobody : Wakes {T = ℕ} {W = ℕ} (λ waker. ⊥) (worded Add EMPTY ∷ [])
   pub looks_alone : HandsNoWaker (log_of []) (log_of (worded Load EMPTY ∷ []))
 
 pub record WakersThatAreNot : Type 0 where
   pub another_copy : WritesItsCopy (log_of []) (log_of (copied (Some 5) ∷ handed WriteWaker 6 ∷ [])) → ⊥
   pub the_old_copy : WritesItsCopy (log_of []) (log_of (handed Withdraw 5 ∷ handed WriteWaker 5 ∷ [])) → ⊥
   pub a_refused_copy : WritesItsCopy (log_of []) (log_of (copied None ∷ handed WriteWaker 5 ∷ [])) → ⊥
-  pub wakes_another : SenderWoke (λ waker. waker ≡ 2) Send (log_of []) (log_of waking) R.Sent (7 ∷ []) [] → ⊥
-  pub wakes_by_nothing : SenderWoke (λ waker. ⊥) Send (real []) (real met_it) R.Sent (7 ∷ []) [] → ⊥
-  pub wakes_unasked : Wakes {T = ℕ} {W = ℕ} (λ waker. waker ≡ 1) (handed Wake 1 ∷ []) → ⊥
   pub takes_it_back : HandsNoWaker (log_of []) (log_of (handed Withdraw 5 ∷ [])) → ⊥
   pub writes_one : HandsNoWaker (log_of []) (log_of (handed WriteWaker 5 ∷ [])) → ⊥
   pub copies_one : HandsNoWaker (log_of []) (log_of (copied (Some 5) ∷ [])) → ⊥

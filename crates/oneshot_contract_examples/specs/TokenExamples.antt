@@ -1,12 +1,6 @@
--- Examples that the definitions accept or refuse: states and lives of a token, steps of a sender that wake or do not,
--- and wakers that were used or not.
+-- Examples that the definitions accept or refuse: states and lives of a token, and wakers that were used or not.
 use Rattle.std.specs.Prelude.{◌≡◌, ℕ, ⊤, Bool, true, false, List, [], ◌∷◌, Some, None}
 use Rattle.crossbeam_utils.specs.Token.{IsSamePass}
-use Rattle.oneshot_machine.specs.declared.machine.Step.TheVariants.{TakeWaker, Wake}
-use Rattle.oneshot_machine.specs.declared.states.Op.TheVariants.{Add, Swap}
-use Rattle.oneshot_machine.specs.declared.states.TheConstants.{RECEIVING, UNPARKING, EMPTY, MESSAGE}
-use Rattle.oneshot_machine.specs.Logs.{Event, handed, worded}
-use Rattle.oneshot_drive.specs.Wakes.{Wakes}
 use Rattle.oneshot_word.specs.declared.any_waker.AnyWaker.TheVariants.{Thread, Task}
 use Rattle.oneshot_ends.specs.declared.token.Given.{Given}
 use Rattle.oneshot_ends.specs.declared.token.Half.{Half}
@@ -37,25 +31,6 @@ pub record LivesThatAreNot : Type 0 where
   pub gives_undivided : {is_there : Bool} {halves : List Half} → Life (gives ∷ []) is_there halves → ⊥
   pub takes_first : {is_there : Bool} {halves : List Half} → Life (takes ∷ divides ∷ []) is_there halves → ⊥
   pub gave_and_took : took (Waking true) ≡ true → ⊥
-
--- a `send` that found a receiver waiting, up to the use of its waker, named 1
-abbrev pub up_to_its_wake : List (Event ⊤ ℕ) → List (Event ⊤ ℕ)
-up_to_its_wake rest = worded Add RECEIVING ∷ handed TakeWaker 1 ∷ worded (Swap MESSAGE) UNPARKING ∷ rest
-
-abbrev pub any_wakes : ℕ → Type 0
-any_wakes waker = ⊤
-
-abbrev pub none_wakes : ℕ → Type 0
-none_wakes waker = ⊥
-
-pub record StepsThatWake : Type 0 where
-  pub by_its_waker : Wakes any_wakes (up_to_its_wake (handed Wake 1 ∷ []))
-  pub nobody_waits : Wakes {T = ⊤} none_wakes (worded Add EMPTY ∷ [])
-
-pub record StepsThatDoNot : Type 0 where
-  pub leaves_it_out : Wakes any_wakes (up_to_its_wake []) → ⊥
-  pub by_another : Wakes any_wakes (up_to_its_wake (handed Wake 2 ∷ [])) → ⊥
-  pub in_vain : Wakes none_wakes (up_to_its_wake (handed Wake 1 ∷ [])) → ⊥
 
 -- A WAKER THAT WAS USED: for a thread, with the evidence of its own half
 pub record WakersThatWoke : Type 0 where

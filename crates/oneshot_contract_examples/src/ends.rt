@@ -7,11 +7,11 @@ ghost use Rattle.oneshot_contract_examples.specs.EndExamples.{CopiesThatAreNot, 
 ghost use Rattle.oneshot_contract_examples.specs.EndExamples.{RealGroundsThatAreNot, OrderedLogs, UnorderedLogs};
 ghost use Rattle.oneshot_contract_examples.specs.OwnExamples.{UsesThatAre, UsesThatAreNot};
 ghost use Rattle.oneshot_contract_examples.specs.TakenExamples.{TakesThatAre, TakesThatAreNot};
-ghost use Rattle.oneshot_contract_examples.specs.TokenExamples.{TokensThatAreNot, LivesThatAre, LivesThatAreNot, StepsThatWake, StepsThatDoNot, WakersThatWoke, WakersThatDidNot};
+ghost use Rattle.oneshot_contract_examples.specs.TokenExamples.{TokensThatAreNot, LivesThatAre, LivesThatAreNot, WakersThatWoke, WakersThatDidNot};
 
 /// Examples that the definitions accept or refuse: open and closed ends, logs of calls, copies of wakers, grounds,
-/// states and lives of a token, steps of a sender and wakers that wake, logs that have an order, uses of a parker's
-/// own waker, and messages that a receiver took.
+/// states and lives of a token, wakers that wake, logs that have an order, uses of a parker's own waker, and messages
+/// that a receiver took.
 pub fn examples_are_so<T>()
     ensures ends { (channel : TableId) → EndsThatAre channel }
     ensures no_ends { (channel : TableId) → EndsThatAreNot channel }
@@ -24,8 +24,6 @@ pub fn examples_are_so<T>()
     ensures no_states { TokensThatAreNot }
     ensures lives { LivesThatAre }
     ensures no_lives { LivesThatAreNot }
-    ensures wakes { StepsThatWake }
-    ensures no_wakes { StepsThatDoNot }
     ensures woken { WakersThatWoke }
     ensures unwoken { WakersThatDidNot }
     ensures orders { OrderedLogs }

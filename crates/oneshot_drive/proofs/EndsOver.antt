@@ -13,14 +13,15 @@ use Rattle.oneshot_machine.specs.Noted.{Noted}
 use Rattle.oneshot_machine.specs.Phases.{finished, blocked, Row, sender_next, sender_at, phase_from}
 use Rattle.oneshot_machine.proofs.GrownLogs.{words_after}
 use Rattle.oneshot_machine.proofs.RunsByRows.{next_passes}
-use Rattle.oneshot_drive.specs.Wakes.{found_receiver_waiting, SenderWoke, wakes, wakes_none}
+use Rattle.oneshot_drive.specs.Wakes.{found_receiver_waiting}
 use Rattle.oneshot_drive.specs.declared.found.Found.{Found}
 use Rattle.oneshot_drive.specs.declared.found.Found.TheVariants as F
-use Rattle.oneshot_machine.specs.Over.{SenderIsOver, over_finished, over_late, over_overtaken, FoundTheEnd, found_message, found_unclosed}
+use Rattle.oneshot_machine.specs.Over.{IsLate, is_overtaken, SenderIsOver, over_finished, over_late, over_overtaken, FoundTheEnd, found_message, found_unclosed}
 use Rattle.oneshot_drive.specs.BetweenCalls.{LastLeaves, last_finished, last_overtaken}
 use Rattle.oneshot_machine.specs.Over.{found_no_sender, HasLeft, left_first, left_last}
 use Rattle.oneshot_drive.proofs.AfterOperations.{lone, at_word, one_of, sender_lands, lands, sender_still, still}
 use Rattle.oneshot_drive.proofs.SenderCalls.{is_swap}
+use Rattle.oneshot_drive.proofs.SenderRuns.{SenderWoke}
 
 -- a sender that owes its last word leaves it
 owed_over : (by : By) → Each (λ n next after. LastLeaves by (not (n == DISCONNECTED)) next)
@@ -28,7 +29,7 @@ owed_over : (by : By) → Each (λ n next after. LastLeaves by (not (n == DISCON
 owed_over sending = (last_finished, (last_finished, (last_overtaken, tt)))
 owed_over dropping = (last_finished, (last_finished, (last_overtaken, tt)))
 
--- it is then over, and finished if it found the receiver
+-- it is then over, finished if it found the receiver, and else overtaken
 pub last_is_over : {by : By} {is_here : Bool} {at : SenderAt} → LastLeaves by is_here at → SenderIsOver by at
 last_is_over last_finished = over_finished
 last_is_over last_overtaken = over_overtaken
@@ -37,6 +38,10 @@ pub last_found : {by : By} {is_here : Bool} {at : SenderAt} → LastLeaves by is
     → at ≡ finished by
 last_found last_finished e = refl
 last_found last_overtaken e = absurd (cc e)
+
+pub last_late : {by : By} {is_here : Bool} {at : SenderAt} → LastLeaves by is_here at → is_here ≡ false → IsLate at
+last_late last_finished e = absurd (cc e)
+last_late {by} last_overtaken e = is_overtaken by
 
 pub over_at : {by : By} {at next : SenderAt} → next ≡ at → SenderIsOver by at → SenderIsOver by next
 over_at {by} is over = subst (SenderIsOver by) (sym is) over
@@ -119,11 +124,7 @@ module _ {T W : Type 0} where
   woken_by {before = before} was woke found =
       let list = words_after woke.ran.run woke.ran.grows in
       let alone = ap (λ xs. xs ++ words woke.ran.run) (fresh_log (words before.list) was) in
-      let so = sym (ap found_receiver_waiting (list ∙ alone)) ∙ found in
-      elim woke.wakes [
-        | wakes k waited took used woken ↦ (k, woken)
-        | wakes_none none_waited used ↦ absurd (let e = sym none_waited ∙ so in cc e)
-      ]
+      woke.woke (sym (ap found_receiver_waiting (list ∙ alone)) ∙ found)
 
 -- the swap of a receiver's drop
 drops : (at : ReceiverAt) → Each (λ n next after. HasLeft next) (landings (Swap DISCONNECTED) (receiver_moves at))

@@ -1,18 +1,17 @@
 -- The names of other crates and of this one's definitions that the proofs use, exported from one place.
 pub use Rattle.futures.specs.declared.task.Poll.TheVariants.{Ready, Pending}
-pub use Rattle.oneshot_drive.specs.BetweenCalls.{AtRest, rests_open, IsClosedAt, LeavesClosed, left_received, left_closed, LeavesTimed, timed_received, timed_out, timed_closed, IsReady, Hands}
+pub use Rattle.oneshot_drive.specs.BetweenCalls.{AtRest, rests_open, IsClosedAt, LeavesClosed, left_received, left_closed, LeavesTimed, timed_received, timed_out, timed_closed, IsReady}
 pub use Rattle.oneshot_machine.specs.Over.{is_late, is_overtaken}
-pub use Rattle.oneshot_drive.specs.BetweenCalls.{as_it_was, sender_took, came_back, rests_new, rests_closed, leaves_open, leaves_closed, Rests, Leaves, finishing, LastFinds}
+pub use Rattle.oneshot_drive.specs.BetweenCalls.{rests_new, rests_closed, leaves_open, leaves_closed, Rests, Leaves, finishing, LastFinds}
 pub use Rattle.oneshot_machine.specs.Over.{IsLate}
 pub use Rattle.oneshot_drive.specs.BetweenCalls.{finds_waiting, finds_overdue, finds_gone, Finishes, send_reply, IsFresh, IsError, Owes, IsOvertaken, IsOpenAt}
-pub use Rattle.oneshot_drive.specs.Blocking.{Path, value_end, EndsAt, Returns, returned, taken, Refills, refilled, HandAt, Stretch, nothing, answers, onward, ReceiveBy, by_ref, by_value, load_of}
-pub use Rattle.oneshot_drive.specs.Blocking.{write_of, wait_of, end_of, WaitedHand, parks_waiting, parks_overdue, asked_of, ref_end, Parks}
+pub use Rattle.oneshot_drive.specs.Blocking.{Path, value_end, EndsAt, Stretch, nothing, answers, onward, ReceiveBy, by_ref, by_value, load_of}
+pub use Rattle.oneshot_drive.specs.Blocking.{write_of, wait_of, end_of, parks_waiting, parks_overdue, asked_of, ref_end, Parks}
 pub use Rattle.oneshot_drive.specs.Grounds.{GroundState, StandsWith, Stands, receiver_slots, ReceiverAsks, ReceiverMakes, StandsIn, SenderMakes, SenderAsks}
 pub use Rattle.oneshot_drive.specs.Polls.{hand_after, WritesHand, WritesCopies, WroteCopies, Polled, unpolled, left_copy, kept_copy, found_sender, has_resolved, IsPolled, LeavesPolled}
 pub use Rattle.oneshot_drive.specs.Polls.{leaves_resolved, leaves_over, leaves_gone, leaves_uncopied, leaves_waiting, leaves_its_copy, leaves_claimed, EndsPoll, tried_resolved, tried_its_copy}
 pub use Rattle.oneshot_drive.specs.Polls.{is_disconnected, poll_end, MayLeave, WritesItsCopy, wakers_handed, HandsNoWaker, LeavesTried, tried_received, tried_closed, tried_uncopied, tried_claimed}
 pub use Rattle.oneshot_drive.specs.Polls.{is_registered}
-pub use Rattle.oneshot_drive.specs.Wakes.{wakes, wakes_none, SenderWoke, Wakes}
 pub use Rattle.oneshot_drive.specs.declared.found.Found.{Found}
 pub use Rattle.oneshot_errors.specs.declared.recv.RecvError.{RecvError}
 pub use Rattle.oneshot_errors.specs.declared.recv_timeout.RecvTimeoutError.{RecvTimeoutError}

@@ -1,6 +1,6 @@
 -- After a call that does not end the receiver its hand is ready: it has a waker, or the receiver is closed.
 use Rattle.oneshot_drive.proofs.Names.{◌≡◌, ◌≢◌, Option, Result, Err, refl, IsClosedAt, IsOpenAt, Leaves, leaves_open, leaves_closed, LeavesClosed, left_received, left_closed, LeavesTimed}
-use Rattle.oneshot_drive.proofs.Names.{timed_received, timed_out, timed_closed, Hands, as_it_was, sender_took, came_back, IsReady, RecvError, RecvTimeoutError, TryRecvError, ReceiverAt}
+use Rattle.oneshot_drive.proofs.Names.{timed_received, timed_out, timed_closed, IsReady, RecvError, RecvTimeoutError, TryRecvError, ReceiverAt}
 use Rattle.oneshot_drive.specs.BetweenCalls.{leaves_received}
 use Rattle.oneshot_errors.specs.declared.recv_timeout.RecvTimeoutError.TheVariants as Timed
 use Rattle.oneshot_errors.specs.declared.try_recv.TryRecvError.TheVariants as Tried
@@ -45,12 +45,3 @@ pub open_too_late : {T : Type 0} {result : Result T RecvTimeoutError} {at : Rece
     → result ≡ Err Timed.Timeout → IsOpenAt at
 open_too_late timed_out late = refl
 open_too_late _ late = absurd (cc late)
-
--- after a receive with a deadline
-pub ready_timed : {T W : Type 0} (result : Result T RecvTimeoutError) (before after : Option W) (at at' : ReceiverAt)
-    → IsReady before at → (IsClosedAt at → result ≡ Err Timed.Disconnected) → LeavesTimed result at'
-    → Hands before after at' → IsReady after at'
-ready_timed result _ _ at _ ready stays leaves (as_it_was hand q) =
-    λ none. let is = stays (ready none) in closed_in_time leaves (λ late. absurd (cc))
-ready_timed result _ _ at _ ready stays leaves (sender_took k c) = λ none. refl
-ready_timed result _ _ at _ ready stays leaves (came_back k back) = λ none. absurd (cc none)

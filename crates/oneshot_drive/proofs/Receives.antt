@@ -4,8 +4,8 @@ use Rattle.oneshot_drive.proofs.Names.{Value, Close, Take, CloseOnly, StartLoad,
 use Rattle.oneshot_drive.proofs.Names.{clocked, worded, after_timeout, ReceiverAt, idle, full, Got, at_once, unclosed, Swapping, Closing, closed_itself, disconnected}
 use Rattle.oneshot_drive.proofs.Names.{receiver_moves, receiver_next, empty}
 use Rattle.oneshot_drive.proofs.Names.{filled, receiver_step, receiver_row, Goes, last, more, Ran, ReceiverRan, vacant, receiver_moved, and_then, GroundState, StandsWith, Stands, receiver_slots}
-use Rattle.oneshot_drive.proofs.Names.{ReceiverAsks, ReceiverMakes, Path, value_end, EndsAt, Returns, returned, taken, Refills, refilled, HandAt, AtRest, rests_open, IsClosedAt, LeavesClosed}
-use Rattle.oneshot_drive.proofs.Names.{left_received, left_closed, LeavesTimed, timed_received, timed_out, timed_closed, IsReady, Hands, as_it_was, sender_took, came_back, is_room, has_row, Each}
+use Rattle.oneshot_drive.proofs.Names.{ReceiverAsks, ReceiverMakes, Path, value_end, EndsAt, AtRest, rests_open, IsClosedAt, LeavesClosed}
+use Rattle.oneshot_drive.proofs.Names.{left_received, left_closed, LeavesTimed, timed_received, timed_out, timed_closed, IsReady, is_room, has_row, Each}
 use Rattle.oneshot_drive.proofs.Names.{landings, DISCONNECTED}
 use Rattle.oneshot_errors.specs.declared.recv_timeout.RecvTimeoutError.TheVariants as Timed
 use Rattle.oneshot_drive.specs.declared.found.Found.TheVariants as F
@@ -142,23 +142,9 @@ module _ {T W : Type 0} where
   gone_freed {l} {k} is path s =
       ran (subst (λ o. Path (Value RecvLoad) o l k) is.leads path) (did Steps.Free ∷ []) (last _ refl refl) s refl refl
 
-  -- its hand: without a deadline no waker is taken back after the wait
-  pub hand_back : (s : GroundState T W) {hand after : Option W} (f : Found) → EndsAt false f s → HandAt f hand after
-      → Returns hand after
-  hand_back s F.Message at hand = hand
-  hand_back s F.Closed at hand = hand
-  hand_back s F.Overwritten at hand = hand
-  hand_back s F.Nothing at hand = let timed = at.0 in absurd (cc)
-
--- the hand after the call
-pub hands : {W : Type 0} {hand after : Option W} {q : ReceiverAt} → Returns hand after → (c : Closing)
-    → q ≡ disconnected c → Hands hand after q
-hands {q} (returned hand) c at = as_it_was hand q
-hands (taken k) c at = rw at (sender_took k c)
-
-pub out_hands : {W : Type 0} {hand after : Option W} {q : ReceiverAt} → Refills hand after → q ≡ idle after_timeout
-    → Hands hand after q
-out_hands (refilled k back) at = rw at (came_back k back)
+-- a closed receiver needs no waker in its hand
+pub closed_ready : {W : Type 0} {hand : Option W} {q : ReceiverAt} (c : Closing) → q ≡ disconnected c → IsReady hand q
+closed_ready c at none = subst IsClosedAt (sym at) refl
 
 pub full_leaves : {T : Type 0} {q : ReceiverAt} (x : T) → q ≡ disconnected closed_itself → LeavesTimed (Ok x) q
 full_leaves x at = subst (λ q. LeavesTimed (Ok x) q) (sym at) (timed_received x)

@@ -1,11 +1,11 @@
 -- The obligations of each call of the sender to its ground.
 use Rattle.oneshot_drive.proofs.Names.{◌≡◌, ℕ, Bool, true, false, not, [], ◌∷◌, refl, sym, ◌∙◌, subst, ◌==◌, TakeWaker, Wake, Op, Swap, Add, Xor, Log, Grows, sender_of, wrote, handed, worded, By}
-use Rattle.oneshot_drive.proofs.Names.{sending, dropping, SenderAt, fresh, owes, found_gone, no_sender, sender_moves, Share, none, empty, filled, Slots, Held, away, vacant, held}
+use Rattle.oneshot_drive.proofs.Names.{sending, dropping, SenderAt, fresh, owes, found_gone, sender_moves, Share, none, empty, filled, Slots, Held, away, vacant, held}
 use Rattle.oneshot_drive.proofs.Names.{IsSlot, is_away, is_vacant}
-use Rattle.oneshot_drive.proofs.Names.{is_held, SlotChange, stays_away, stays_vacant, stays_held, gives_room, gives_thing, gets_room, gets_thing, In, finds, SenderMay, SenderFinds}
-use Rattle.oneshot_drive.proofs.Names.{leads_exactly, and_then}
-use Rattle.oneshot_drive.proofs.Names.{sender_moved, GroundState, StandsWith, SenderMakes, IsFresh, IsError, IsLate, is_late, is_overtaken, Owes, LastFinds, finds_waiting, finds_overdue, finds_gone}
-use Rattle.oneshot_drive.proofs.Names.{Finishes, IsOvertaken, is_in, is_room, put_in, as_before, turned, has_row, landings_of, landed, Each, each, found_so, sender_apart, RECEIVING, DISCONNECTED}
+use Rattle.oneshot_drive.proofs.Names.{is_held, SlotChange, stays_away, stays_vacant, stays_held, gives_room, gives_thing, gets_room, gets_thing, finds, SenderMay, SenderFinds}
+use Rattle.oneshot_drive.proofs.Names.{and_then}
+use Rattle.oneshot_drive.proofs.Names.{GroundState, StandsWith, SenderMakes, IsFresh, IsError, IsLate, is_late, Owes, LastFinds, finds_waiting, finds_overdue, finds_gone}
+use Rattle.oneshot_drive.proofs.Names.{Finishes, IsOvertaken, is_in, is_room, put_in, as_before, turned, has_row, landings_of, landed, Each, each, found_so, RECEIVING, DISCONNECTED}
 use Rattle.oneshot_drive.proofs.Names.{EMPTY, MESSAGE}
 use Rattle.oneshot_machine.specs.Phases.{finished}
 use Rattle.oneshot_drive.proofs.AfterOperations.{Lone, lone, unlisted, at_word, not_at, sender_asks, sender_lands, sender_still}
@@ -19,7 +19,7 @@ is_swap _ = false
 record LastEndsAt (n : ℕ) (next : SenderAt) (after : Slots) : Type 0 where
   here : Bool
   finds : LastFinds n here
-  late : here ≡ false → IsLate next × (after.1 ≡ empty) × ¬ (after.0 ≡ none)
+  late : here ≡ false → (after.1 ≡ empty) × ¬ (after.0 ≡ none)
   given : here ≡ true → after.0 ≡ none
 
 still_here : {n : ℕ} {next : SenderAt} → LastFinds n true → LastEndsAt n next (none, none)
@@ -31,7 +31,7 @@ last_ends (owes sending) = (
   (
     still_here finds_overdue,
     (
-      record { here = false; finds = finds_gone; late = λ e. (is_overtaken sending, refl, λ e. cc); given = λ e. cc },
+      record { here = false; finds = finds_gone; late = λ e. (refl, λ e. cc); given = λ e. cc },
       tt,
     ),
   ),
@@ -41,7 +41,7 @@ last_ends (owes dropping) = (
   (
     still_here finds_overdue,
     (
-      record { here = false; finds = finds_gone; late = λ e. (is_overtaken dropping, refl, λ e. cc); given = λ e. cc },
+      record { here = false; finds = finds_gone; late = λ e. (refl, λ e. cc); given = λ e. cc },
       tt,
     ),
   ),
@@ -174,20 +174,14 @@ module _ {T W : Type 0} where
         }
 
   -- where that found the receiver gone
-  late_over : {at then : SenderAt} {new n : ℕ} {m m' : Held T} {w w' : Held W}
-      → ((next : SenderAt) (before after : Slots) → In (Swap new, before, n, next, after) (sender_moves at)
-      → then ≡ next) → SenderFinds at (Swap new) n m w m' w' → not (n == DISCONNECTED) ≡ false → ¬ (m ≡ away)
-      → IsLate then × (m' ≡ m) × (w' ≡ vacant)
-  late_over {at} {w'} leads_to (finds {before} {after} {next} row message waker) e has =
+  late_over : {at : SenderAt} {new n : ℕ} {m m' : Held T} {w w' : Held W} → SenderFinds at (Swap new) n m w m' w'
+      → not (n == DISCONNECTED) ≡ false → ¬ (m ≡ away) → (m' ≡ m) × (w' ≡ vacant)
+  late_over {at} {w'} (finds row message waker) e has =
       let ends =
       each LastEndsAt (landings_of is_swap (sender_moves at)) (last_ends at)
       (landed is_swap (sender_moves at) refl row) in
-      let late = ends.late (here_by ends.finds ∙ e) in (
-        subst IsLate (sym (leads_to next before after row)) late.0,
-        unmoved message late.2 has,
-        is_room
-            (subst (λ s. IsSlot s w') late.1 (turned waker)),
-      )
+      let late = ends.late (here_by ends.finds ∙ e) in
+      (unmoved message late.1 has, is_room (subst (λ s. IsSlot s w') late.0 (turned waker)))
 
   -- where it found the receiver, it gave its message
   pub given_over : {at : SenderAt} {new n : ℕ} {m m' : Held T} {w w' : Held W} → SenderFinds at (Swap new) n m w m' w'
@@ -198,18 +192,9 @@ module _ {T W : Type 0} where
       (landed is_swap (sender_moves at) refl row) in
       slot_left (subst (λ s. IsSlot s m') (ends.given (here_by ends.finds ∙ e)) (turned message))
 
-  module _ {b k j z : GroundState T W} {word : ℕ} (y : W) (is : Owes word b) (message : k.message ≡ b.message) where
-    pub overtaken_as : (n : ℕ) → SenderMakes (Swap word) n k j → Grows k.log j.log (worded (Swap word) n ∷ [])
-        → Grows j.log z.log (handed Wake y ∷ []) → z.message ≡ j.message → z.waker ≡ j.waker
-        → not (n == DISCONNECTED) ≡ false
-        → IsOvertaken b z
-    overtaken_as n made t u kept waker e =
-        let late =
-        late_over (λ next before after row. sender_moved (Swap word) n t ∙ leads_exactly no_sender
-        (sender_moves (sender_of k.log)) (sender_apart (sender_of k.log)) row) made e
-        (λ gone. is.has_slot (sym message ∙ gone)) in
-        record {
-          late = subst IsLate (sym (sender_still (handed Wake y ∷ []) refl u)) late.0;
-          message = kept ∙ late.1 ∙ message;
-          waker = waker ∙ late.2;
-        }
+  pub overtaken_as : {b z : GroundState T W} {at : SenderAt} {word : ℕ} {m m' : Held T} {w w' : Held W} → Owes word b
+      → m ≡ b.message → (n : ℕ) → SenderFinds at (Swap word) n m w m' w' → z.message ≡ m' → z.waker ≡ w'
+      → not (n == DISCONNECTED) ≡ false → IsOvertaken b z
+  overtaken_as is message n made kept waker e =
+      let late = late_over made e (λ gone. is.has_slot (sym message ∙ gone)) in
+      record { message = kept ∙ late.0 ∙ message; waker = waker ∙ late.1 }

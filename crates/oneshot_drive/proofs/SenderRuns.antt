@@ -1,13 +1,18 @@
 -- The steps of each call of the sender are a run.
-use Rattle.oneshot_drive.proofs.Names.{◌≡◌, ℕ, Bool, true, false, [], ◌∷◌, Some, refl, TakeWaker, Wake, Free, Send, IntoInner, DropError, SendAdd, SendTakeWaker, SendFinal, SendWake, SendLateWake}
+use Rattle.oneshot_drive.proofs.Names.{◌≡◌, ℕ, Bool, true, false, List, [], ◌∷◌, Some, refl, sym, ◌∙◌, TakeWaker, Wake, Free, Send, IntoInner, DropError, SendAdd, SendTakeWaker, SendFinal}
+use Rattle.oneshot_drive.proofs.Names.{SendWake, SendLateWake}
 use Rattle.oneshot_drive.proofs.Names.{DropTakeWaker, DropFinal, DropWake, DropLateWake, IntoFree, ErrorFree, SenderPos, Swap, Add, Xor, Log, Grows, did, wrote, took, handed, worded, Goes, Answers}
-use Rattle.oneshot_drive.proofs.Names.{last, more, SenderRan, sender_step, sender_row, and_then, wakes, wakes_none, SenderWoke, finishing, LastFinds, finds_waiting, finds_overdue, finds_gone}
+use Rattle.oneshot_drive.proofs.Names.{last, more, SenderRan, sender_step, sender_row, and_then, finishing, LastFinds, finds_waiting, finds_overdue, finds_gone}
 use Rattle.oneshot_drive.proofs.Names.{Finishes, send_reply, RECEIVING, DISCONNECTED, EMPTY, MESSAGE}
+use Rattle.oneshot_machine.specs.declared.machine.Reply.{Reply}
 use Rattle.oneshot_machine.specs.declared.machine.Reply.TheVariants as R
 use Rattle.oneshot_machine.specs.declared.machine.Seen.TheVariants as S
 use Rattle.oneshot_machine.specs.declared.machine.Step.TheVariants.{DropMessage}
+use Rattle.oneshot_machine.specs.declared.machine.sender.SenderCall.{SenderCall}
 use Rattle.oneshot_machine.specs.declared.machine.sender.SenderCall.TheVariants.{Drop}
 use Rattle.oneshot_machine.specs.declared.machine.sender.SenderPos.TheVariants.{DropFree}
+use Rattle.oneshot_machine.specs.Logs.{words}
+use Rattle.oneshot_drive.specs.Wakes.{found_receiver_waiting}
 
 -- after its last operation a sender wakes the receiver, then replies whether it was here
 abbrev send_wake : Bool → SenderPos
@@ -34,6 +39,15 @@ drop_final finds_overdue = refl
 drop_late : {n : ℕ} → LastFinds n false → sender_row DropFinal (S.Word n) ≡ Some (Goes DropLateWake)
 drop_late finds_gone = refl
 
+-- between the two logs a ground made one run of the call, and used the waker of a receiver that it found waiting
+pub record SenderWoke {T W : Type 0} (woken : W → Type 0) (call : SenderCall) (before after : Log T W) (reply : Reply)
+    (given got : List T) : Type 0 where
+  pub ran : SenderRan call before after reply given got
+  pub woke : found_receiver_waiting (words ran.run) ≡ true → (k : W) × woken k
+
+none_waits : {W : Type 0} {woken : W → Type 0} {waits : Bool} → waits ≡ false → waits ≡ true → (k : W) × woken k
+none_waits none found = absurd (let e = sym none ∙ found in cc e)
+
 module _ {T W : Type 0} (woken : W → Type 0) where
   -- the runs of `send`
   pub send_ran : {l k j : Log T W} {x : T} (n : ℕ) → n ≡ EMPTY → Grows l k (wrote x ∷ [])
@@ -48,7 +62,7 @@ module _ {T W : Type 0} (woken : W → Type 0) where
           gives = refl;
           gets = refl;
         };
-        wakes = wakes_none (rw e) refl;
+        woke = none_waits (rw e);
       }
 
   pub send_refused : {l k j : Log T W} {x : T} (n : ℕ) → n ≡ DISCONNECTED → Grows l k (wrote x ∷ [])
@@ -62,7 +76,7 @@ module _ {T W : Type 0} (woken : W → Type 0) where
           gives = refl;
           gets = refl;
         };
-        wakes = wakes_none (rw e) refl;
+        woke = none_waits (rw e);
       }
 
   pub send_woke : {l k j z : Log T W} {x : T} (n : ℕ) (here : Bool) → n ≡ RECEIVING → Grows l k (wrote x ∷ [])
@@ -80,7 +94,7 @@ module _ {T W : Type 0} (woken : W → Type 0) where
           gives = refl;
           gets = refl;
         };
-        wakes = wakes f.waker (rw e) refl refl f.woke;
+        woke = λ _. (f.waker, f.woke);
       }
 
   -- those of the drop
@@ -89,7 +103,7 @@ module _ {T W : Type 0} (woken : W → Type 0) where
   drop_ran n e s =
       record {
         ran = record { run = worded Xor n ∷ []; is_run = last _ refl (rw e); grows = s; gives = refl; gets = refl };
-        wakes = wakes_none (rw e) refl;
+        woke = none_waits (rw e);
       }
 
   pub drop_woke : {l k j : Log T W} (n : ℕ) → n ≡ RECEIVING → Grows l k (worded Xor n ∷ [])
@@ -105,7 +119,7 @@ module _ {T W : Type 0} (woken : W → Type 0) where
           gives = refl;
           gets = refl;
         };
-        wakes = wakes f.waker (rw e) refl refl f.woke;
+        woke = λ _. (f.waker, f.woke);
       }
 
   pub drop_freed_late : {l k j z : Log T W} {was : W → Type 0} (n : ℕ) → n ≡ RECEIVING → Grows l k (worded Xor n ∷ [])
@@ -123,7 +137,7 @@ module _ {T W : Type 0} (woken : W → Type 0) where
           gives = refl;
           gets = refl;
         };
-        wakes = wakes f.waker (rw e) refl refl (still f.waker f.woke);
+        woke = λ _. (f.waker, still f.waker f.woke);
       }
 
   pub drop_freed : {l k j : Log T W} (n : ℕ) → n ≡ DISCONNECTED → Grows l k (worded Xor n ∷ [])
@@ -138,7 +152,7 @@ module _ {T W : Type 0} (woken : W → Type 0) where
           gives = refl;
           gets = refl;
         };
-        wakes = wakes_none (rw e) refl;
+        woke = none_waits (rw e);
       }
 
 module _ {T W : Type 0} where

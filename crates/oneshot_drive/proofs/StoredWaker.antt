@@ -1,8 +1,8 @@
 -- What a receive that blocks does before it waits: its load, its waker in the slot, and its first swap.
-use Rattle.oneshot_drive.proofs.Names.{◌≡◌, ℕ, Bool, true, false, [], ◌∷◌, Option, Some, None, refl, sym, ap, ◌∙◌, subst, Found, ReceiverPos, Ref, Value, StartSwap, RecvSwap, Load, Swap, Log, Grows}
+use Rattle.oneshot_drive.proofs.Names.{◌≡◌, ℕ, Bool, true, false, [], ◌∷◌, Option, Some, None, refl, ap, ◌∙◌, subst, Found, ReceiverPos, Ref, Value, StartSwap, RecvSwap, Load, Swap, Log, Grows}
 use Rattle.oneshot_drive.proofs.Names.{receiver_of, handed, worded, ReceiverAt, idle, after_load, waits, blocked, swapped, storing, unclosed, receiver_moves, none, empty, filled, receiver_step}
 use Rattle.oneshot_drive.proofs.Names.{receiver_row, Outcome, Goes, Held, vacant, held, IsSlot, ReceiverFinds, GroundState, StandsWith, Stands, ReceiverAsks, ReceiverMakes, IsReady, Path, ReceiveBy}
-use Rattle.oneshot_drive.proofs.Names.{by_ref, by_value, load_of, write_of, wait_of, end_of, EndsAt, Returns, returned, taken, refilled, HandAt, WaitedHand, landings, RECEIVING, DISCONNECTED, EMPTY}
+use Rattle.oneshot_drive.proofs.Names.{by_ref, by_value, load_of, write_of, wait_of, end_of, EndsAt, landings, RECEIVING, DISCONNECTED, EMPTY}
 use Rattle.oneshot_drive.proofs.Names.{MESSAGE}
 use Rattle.oneshot_drive.specs.declared.found.Found.TheVariants as F
 use Rattle.oneshot_machine.specs.declared.machine.Seen.TheVariants as S
@@ -136,15 +136,3 @@ module _ {T W : Type 0} where
       → Grows k j (worded (Swap RECEIVING) n ∷ []) → Grows j z (handed Steps.Withdraw u ∷ [])
       → Path (write_of way) (end_of way f) l z
   back_path way over y u n e s t v = on (writes way y s) (swaps_back way over u n e t v)
-
--- the hand has its waker again, or the sender took it, or it came back at the deadline
-pub back : {W : Type 0} {hand : Option W} {w : Held W} (y z : W) → hand ≡ Some y → w ≡ held y → w ≡ held z
-    → Returns hand (Some z)
-back {hand} y z is has was = let same : Some z ≡ hand = cc in subst (λ h. Returns hand h) (sym same) (returned hand)
-
-pub waited_hand : {W : Type 0} {hand before : Option W} (after : Option W) (f : Found) (y : W) → hand ≡ Some y
-    → before ≡ None → WaitedHand f before after → HandAt f hand after
-waited_hand _ F.Message y is empty_hand hand = rw (is, hand, empty_hand) (taken y)
-waited_hand _ F.Closed y is empty_hand hand = rw (is, hand, empty_hand) (taken y)
-waited_hand _ F.Overwritten y is empty_hand hand = rw (is, hand, empty_hand) (taken y)
-waited_hand _ F.Nothing y is empty_hand hand = rw (is, hand.1) (refilled y hand.0)

@@ -1,5 +1,5 @@
 -- The states of an end between its calls, and what a call leaves and replies.
-use Rattle.std.specs.Prelude.{◌≡◌, ℕ, Bool, true, false, IsTrue, List, [], ◌∷◌, Option, Some, None, Result, Ok, Err}
+use Rattle.std.specs.Prelude.{◌≡◌, ℕ, Bool, true, false, IsTrue, List, [], ◌∷◌, Option, None, Result, Ok, Err}
 use Rattle.oneshot_errors.specs.declared.recv.RecvError.{RecvError}
 use Rattle.oneshot_errors.specs.declared.recv_timeout.RecvTimeoutError.{RecvTimeoutError}
 use Rattle.oneshot_errors.specs.declared.recv_timeout.RecvTimeoutError.TheVariants as Timed
@@ -11,7 +11,6 @@ use Rattle.oneshot_machine.specs.declared.machine.Step.TheVariants.{TakeWaker, W
 use Rattle.oneshot_machine.specs.declared.states.Op.TheVariants.{Swap}
 use Rattle.oneshot_machine.specs.declared.states.TheConstants.{UNPARKING, DISCONNECTED, EMPTY}
 use Rattle.oneshot_machine.specs.Logs.{Event, Log, Grows, sender_of, handed, worded}
-use Rattle.oneshot_machine.specs.Over.{IsLate}
 use Rattle.oneshot_machine.specs.Phases.{By, SenderAt, fresh, finished, overtaken, Closing, closed_itself, Open, after_load, after_timeout, ReceiverAt, first, idle, waits, claimed}
 use Rattle.oneshot_machine.specs.Phases.{disconnected, resolved}
 use Rattle.oneshot_machine.specs.Slots.{Held, away, vacant, held, SenderMay}
@@ -60,7 +59,6 @@ pub record Finishes {T W : Type 0} (last : ℕ) (here : Bool) (woken : W → Typ
 
 -- Between the two states it found the receiver gone. It owns both slots, and the message's is unchanged.
 pub record IsOvertaken {T W : Type 0} (before after : GroundState T W) : Type 0 where
-  pub late : IsLate (sender_of after.log)
   pub message : after.message ≡ before.message
   pub waker : after.waker ≡ vacant
 
@@ -115,13 +113,6 @@ pub data LeavesTimed {T : Type 0} : Result T RecvTimeoutError → ReceiverAt →
 -- The hand of a receiver that may block: it has a waker, unless the receiver is closed.
 abbrev pub IsReady : {W : Type 0} → Option W → ReceiverAt → Type 0
 IsReady hand q = hand ≡ None → IsClosedAt q
-
--- The hand before and after a call that blocks: unchanged; or empty, because the sender took the waker,
--- and the receiver is closed; or, after the deadline, with a waker again, perhaps another.
-pub data Hands {W : Type 0} : Option W → Option W → ReceiverAt → Type 0 where
-  as_it_was : (hand : Option W) (q : ReceiverAt) → Hands hand hand q
-  sender_took : (k : W) (c : Closing) → Hands (Some k) None (disconnected c)
-  came_back : (k back : W) → Hands (Some k) (Some back) (idle after_timeout)
 
 abbrev pub send_reply : Bool → Reply
 send_reply true = Sent

@@ -1,5 +1,5 @@
 -- How each receive that blocks goes through its positions, and how it ends.
-use Rattle.std.specs.Prelude.{◌≡◌, Bool, true, false, List, [], ◌∷◌, Option, Some, None}
+use Rattle.std.specs.Prelude.{◌≡◌, Bool, true, false, List, [], ◌∷◌, Some}
 use Rattle.oneshot_drive.specs.declared.found.Found.{Found}
 use Rattle.oneshot_drive.specs.declared.found.Found.TheVariants as F
 use Rattle.oneshot_machine.specs.declared.machine.Reply.{Reply}
@@ -90,22 +90,3 @@ EndsAt timed F.Nothing s = (timed ≡ true) × Stands (idle after_timeout) s
 pub data Parks : Bool → ReceiverAt → Type 0 where
   parks_waiting : (timed : Bool) (w : Waiting) → Parks timed (waits w)
   parks_overdue : Parks false overdue
-
--- the hand is unchanged, or empty because the sender took the waker
-pub data Returns {W : Type 0} : Option W → Option W → Type 0 where
-  returned : (hand : Option W) → Returns hand hand
-  taken : (k : W) → Returns (Some k) None
-
--- the hand had a waker and has one again, perhaps another
-pub data Refills {W : Type 0} : Option W → Option W → Type 0 where
-  refilled : (k back : W) → Refills (Some k) (Some back)
-
--- the hand before and after a receive that found this
-abbrev pub HandAt : {W : Type 0} → Found → Option W → Option W → Type 0
-HandAt F.Nothing before after = Refills before after
-HandAt _ before after = Returns before after
-
--- the hand before and after a wait, during which the waker was in its slot
-abbrev pub WaitedHand : {W : Type 0} → Found → Option W → Option W → Type 0
-WaitedHand {W} F.Nothing before after = (back : W) × (after ≡ Some back)
-WaitedHand _ before after = after ≡ before

@@ -9,9 +9,8 @@ ghost use Rattle.oneshot_machine.specs.Logs.{receiver_of};
 ghost use Rattle.oneshot_machine.specs.Slots.{away};
 ghost use Rattle.oneshot_machine.specs.Receiver.{receiver_step, receiver_row};
 ghost use Rattle.oneshot_machine.specs.Runs.{Ran, ReceiverRan};
-ghost use Rattle.oneshot_drive.specs.Blocking.{Returns};
 ghost use Rattle.oneshot_machine.specs.Over.{FoundTheEnd};
-ghost use Rattle.oneshot_drive.specs.BetweenCalls.{AtRest, IsClosedAt, LeavesClosed, LeavesTimed, IsReady, Hands, recv_reply, timed_reply, received};
+ghost use Rattle.oneshot_drive.specs.BetweenCalls.{AtRest, IsClosedAt, LeavesClosed, LeavesTimed, IsReady, recv_reply, timed_reply, received};
 
 use crate::found::Found;
 use crate::ground::BlockGround;
@@ -23,8 +22,7 @@ use std::sync::Wait;
 /// Blocks until the sender sends or is dropped, and leaves the receiver closed.
 ///
 /// `g` is between two calls. `rt` permits blocking. `hand` has the waker with which the sender wakes the
-/// receiver; it may be empty if the receiver is closed. The call leaves `hand` unchanged, or empty if the
-/// sender took the waker.
+/// receiver; it may be empty if the receiver is closed, and is after the call if the sender took the waker.
 ///
 /// - `Ok`: the message.
 /// - `Err`: the sender was dropped without sending, or the receiver was closed before.
@@ -41,7 +39,6 @@ pub fn recv_ref<T, W: Drop, G: BlockGround<T, W>>(
     ensures rests { AtRest (G.state g.new) }
     ensures leaves { LeavesClosed result (receiver_of (G.state g.new).log) }
     ensures stays { IsClosedAt (receiver_of (G.state g.old).log) → IsErr result }
-    ensures hand { Hands hand.old hand.new (receiver_of (G.state g.new).log) }
     ensures has { G.has g.new hand.new }
     ensures given { IfOk result (λ message. G.gives g.old message) }
     ensures had { IfOk result (λ message. G.had g.new message) }
@@ -55,7 +52,7 @@ pub fn recv_ref<T, W: Drop, G: BlockGround<T, W>>(
 
 /// Blocks until the sender sends or is dropped, or until the deadline is over by the ground's clock.
 ///
-/// `g`, `rt` and `hand` are as for `recv_ref`, but after `Timeout` the hand may have another waker.
+/// `g`, `rt` and `hand` are as for `recv_ref`. After `Timeout` the hand has a waker, perhaps another.
 ///
 /// - `Ok`: the message. The receiver is closed.
 /// - `Err(Timeout)`: the deadline is over, and the call's last operation found that the sender had not
@@ -75,7 +72,7 @@ pub fn recv_deadline<T, W: Drop, G: BlockGround<T, W>>(
     ensures rests { AtRest (G.state g.new) }
     ensures leaves { LeavesTimed result (receiver_of (G.state g.new).log) }
     ensures stays { IsClosedAt (receiver_of (G.state g.old).log) → result ≡ Err Disconnected }
-    ensures hand { Hands hand.old hand.new (receiver_of (G.state g.new).log) }
+    ensures ready { IsReady hand.new (receiver_of (G.state g.new).log) }
     ensures has { G.has g.new hand.new }
     ensures given { IfOk result (λ message. G.gives g.old message) }
     ensures had { IfOk result (λ message. G.had g.new message) }
@@ -104,7 +101,7 @@ pub fn recv_timeout<T, W: Drop, G: BlockGround<T, W>>(
     ensures rests { AtRest (G.state g.new) }
     ensures leaves { LeavesTimed result (receiver_of (G.state g.new).log) }
     ensures stays { IsClosedAt (receiver_of (G.state g.old).log) → result ≡ Err Disconnected }
-    ensures hand { Hands hand.old hand.new (receiver_of (G.state g.new).log) }
+    ensures ready { IsReady hand.new (receiver_of (G.state g.new).log) }
     ensures has { G.has g.new hand.new }
     ensures endless { representable ≡ false → ¬ (result ≡ Err Timeout) }
     ensures given { IfOk result (λ message. G.gives g.old message) }
@@ -131,7 +128,7 @@ fn receive<T, W: Drop, G: BlockGround<T, W>>(
     ensures rests { AtRest (G.state g.new) }
     ensures leaves { LeavesTimed result (receiver_of (G.state g.new).log) }
     ensures stays { IsClosedAt (receiver_of (G.state g.old).log) → result ≡ Err Disconnected }
-    ensures hand { Hands hand.old hand.new (receiver_of (G.state g.new).log) }
+    ensures ready { IsReady hand.new (receiver_of (G.state g.new).log) }
     ensures has { G.has g.new hand.new }
     ensures endless { timed ≡ false → ¬ (result ≡ Err Timeout) }
     ensures given { IfOk result (λ message. G.gives g.old message) }
@@ -171,7 +168,6 @@ pub fn recv<T, W: Drop, G: BlockGround<T, W>>(
     ensures found { FoundTheEnd (receiver_of (G.state g.new).log) }
     ensures freed { (G.state g.new).message ≡ away }
     ensures stays { IsClosedAt (receiver_of (G.state g.old).log) → IsErr result }
-    ensures hand { Returns hand.old hand.new }
     ensures given { IfOk result (λ message. G.gives g.old message) }
     ensures had { IfOk result (λ message. G.had g.new message) }
     ensures keeps { G.keeps g.old g.new }

@@ -8,8 +8,7 @@ ghost use Rattle.oneshot_machine.specs.Logs.{sender_of, Grows};
 ghost use Rattle.oneshot_machine.specs.Phases.{By, sending, dropping, finished, owes};
 ghost use Rattle.oneshot_machine.specs.Runs.{SenderRan};
 ghost use Rattle.oneshot_machine.specs.Slots.{away, held};
-ghost use Rattle.oneshot_drive.specs.Wakes.{SenderWoke};
-ghost use Rattle.oneshot_machine.specs.Over.{IsLate, SenderIsOver};
+ghost use Rattle.oneshot_machine.specs.Over.{IsLate};
 ghost use Rattle.oneshot_drive.specs.BetweenCalls.{IsFresh, IsError, Owes, LastLeaves, Finishes, IsOvertaken, send_reply};
 
 use crate::ground::{ErrorGround, SenderGround};
@@ -24,12 +23,9 @@ pub fn send<T, W, G: SenderGround<T, W>>(g: &mut G, message: T) -> bool
     requires fresh { IsFresh (G.state g.old) }
     requires kept { G.admits g.old message }
     ensures run { SenderRan Send (G.state g.old).log (G.state g.new).log (send_reply result) (message ∷ []) [] }
-    ensures woke { SenderWoke (G.woken g.new) Send (G.state g.old).log (G.state g.new).log
-        (send_reply result) (message ∷ []) [] }
     ensures refused { result ≡ false →
         IsError (held message) (G.state g.new) }
     ensures late { result ≡ false → IsLate (sender_of (G.state g.new).log) }
-    ensures over { SenderIsOver sending (sender_of (G.state g.new).log) }
     ensures sent { result ≡ true → sender_of (G.state g.new).log ≡ finished sending }
     ensures ended { G.ended sending g.new }
     ensures bounded { MakesWithin (sender_bound Send) (G.state g.old).log (G.state g.new).log }
@@ -53,8 +49,6 @@ pub fn send<T, W, G: SenderGround<T, W>>(g: &mut G, message: T) -> bool
 pub fn drop_sender<T, W, G: SenderGround<T, W>>(g: &mut G)
     requires { IsFresh (G.state g.old) }
     ensures run { SenderRan Drop (G.state g.old).log (G.state g.new).log Done [] [] }
-    ensures woke { SenderWoke (G.woken g.new) Drop (G.state g.old).log (G.state g.new).log Done [] [] }
-    ensures over { SenderIsOver dropping (sender_of (G.state g.new).log) }
     ensures ended { G.ended dropping g.new }
     ensures bounded { MakesWithin (sender_bound Drop) (G.state g.old).log (G.state g.new).log }
 {

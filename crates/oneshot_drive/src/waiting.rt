@@ -7,7 +7,7 @@ ghost use Rattle.oneshot_machine.specs.Logs.{receiver_of};
 ghost use Rattle.oneshot_machine.specs.Phases.{idle, after_load, waits, blocked, overdue};
 ghost use Rattle.oneshot_machine.specs.TableRows.{Goes};
 ghost use Rattle.oneshot_drive.specs.declared.found.Found.TheVariants as F;
-ghost use Rattle.oneshot_drive.specs.Blocking.{Path, ReceiveBy, load_of, write_of, wait_of, asked_of, ref_end, end_of, EndsAt, HandAt, WaitedHand};
+ghost use Rattle.oneshot_drive.specs.Blocking.{Path, ReceiveBy, load_of, write_of, wait_of, asked_of, ref_end, end_of, EndsAt};
 ghost use Rattle.oneshot_drive.specs.BetweenCalls.{AtRest, IsClosedAt, IsReady};
 ghost use Rattle.oneshot_drive.specs.Grounds.{Stands};
 
@@ -30,7 +30,7 @@ pub(crate) fn find<T, W: Drop, G: BlockGround<T, W>>(
         → Path (load_of way) (end_of way result) (G.state g.old).log (G.state g.new).log }
     ensures ends { EndsAt timed result (G.state g.new) }
     ensures stays { IsClosedAt (receiver_of (G.state g.old).log) → result ≡ F.Closed }
-    ensures hand { HandAt result hand.old hand.new }
+    ensures hand { result ≡ F.Nothing → ¬ (hand.new ≡ None) }
     ensures has { G.has g.new hand.new }
     ensures keeps { G.keeps g.old g.new }
 {
@@ -55,7 +55,7 @@ fn store_and_wait<T, W: Drop, G: BlockGround<T, W>>(
     ensures path { (way : ReceiveBy timed)
         → Path (write_of way) (end_of way result) (G.state g.old).log (G.state g.new).log }
     ensures ends { EndsAt timed result (G.state g.new) }
-    ensures hand { HandAt result hand.old hand.new }
+    ensures hand { result ≡ F.Nothing → ¬ (hand.new ≡ None) }
     ensures has { G.has g.new hand.new }
     ensures keeps { G.keeps g.old g.new }
 {
@@ -88,7 +88,7 @@ fn wait<T, W: Drop, G: BlockGround<T, W>>(
     ensures path { (way : ReceiveBy timed)
         → Path (wait_of way) (end_of way result) (G.state g.old).log (G.state g.new).log }
     ensures ends { EndsAt timed result (G.state g.new) }
-    ensures hand { WaitedHand result hand.old hand.new }
+    ensures hand { result ≡ F.Nothing → ¬ (hand.new ≡ None) }
     ensures has { G.has g.new hand.new }
     ensures keeps { G.keeps g.old g.new }
 {
@@ -126,7 +126,7 @@ fn stop<T, W: Drop, G: BlockGround<T, W>>(g: &mut G, rt: &impl Wait, hand: &mut 
     requires has { G.has g.old None }
     ensures path { Path (Timed EndSwap) (ref_end result) (G.state g.old).log (G.state g.new).log }
     ensures ends { EndsAt true result (G.state g.new) }
-    ensures hand { WaitedHand result hand.old hand.new }
+    ensures hand { result ≡ F.Nothing → ¬ (hand.new ≡ None) }
     ensures has { G.has g.new hand.new }
     ensures keeps { G.keeps g.old g.new }
 {

@@ -1,5 +1,5 @@
 -- The examples of deadlines, computed.
-use Rattle.std.proofs.Common.{◌≡◌, refl, arith}
+use Rattle.std.proofs.Common.{refl, arith}
 use Rattle.oneshot_ends.specs.DeadlineExamples.{DeadlinesThatAre, DeadlinesThatAreNot}
 
 pub deadlines_that_are : DeadlinesThatAre

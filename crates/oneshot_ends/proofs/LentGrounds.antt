@@ -1,11 +1,10 @@
 -- A ground that was lent has the phase and the slots of the receiver's own ground, and keeps what that keeps.
-use Rattle.std.proofs.Common.{◌≡◌, ℕ, List, Option, refl, sym, ◌∙◌, subst}
+use Rattle.std.proofs.Common.{◌≡◌, ℕ, List, refl, sym, ◌∙◌, subst}
 use Rattle.std.proofs.Math.Nat.{le_refl}
 use Rattle.futures.specs.declared.task.context.Context.{Context}
 use Rattle.oneshot_machine.specs.Logs.{receiver_of}
 use Rattle.oneshot_machine.specs.Phases.{ReceiverAt, Share}
 use Rattle.oneshot_machine.specs.Slots.{IsSlot}
-use Rattle.oneshot_drive.specs.BetweenCalls.{IsReady}
 use Rattle.oneshot_drive.specs.Grounds.{GroundState, StandsIn}
 use Rattle.oneshot_word.specs.Side.{Side}
 use Rattle.oneshot_ends.specs.Grounds.{state_of, lent}
@@ -38,11 +37,6 @@ module _ {T W P : Type 0} {Phases : ReceiverAt → Type 0} where
 
   pub given_back : (names : List ℕ) (s : Side T W P) → StandsIn Phases (lent names s) → StandsIn Phases (state_of s)
   given_back names s = stands_again refl (λ share m. m) (λ share w. w)
-
--- and the hand beside it is as ready
-pub hand_lent : {T W V P : Type 0} {own s : Side T W P} (hand : Option V) → s ≡ own
-    → IsReady hand (receiver_of (state_of own).log) → IsReady hand (receiver_of (state_of s).log)
-hand_lent hand is ready = subst (λ s. IsReady hand (receiver_of (state_of s).log)) (sym is) ready
 
 -- what an operation of the receiver's own ground keeps, a ground that it is lent to keeps
 module _ {T P : Type 0} {a b : Side T RealWaker P} (keeps : KeepsOwn a b) where

@@ -1,5 +1,5 @@
 -- Examples of deadlines that are over, far or after a timeout, and of those that are not.
-use Rattle.std.specs.Prelude.{◌≡◌, ℕ, ◌+◌, true, false, Option, Some, None}
+use Rattle.std.specs.Prelude.{◌≡◌, ◌+◌, true, false, Option, Some, None}
 use Rattle.std.specs.Duration.{as_nanos}
 use Rattle.std.specs.declared.time.Duration.{Duration}
 use Rattle.std.specs.Time.{instant_nanos, FitsClock}

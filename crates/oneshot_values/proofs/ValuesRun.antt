@@ -1,5 +1,5 @@
 -- An end's log belongs to an order of operations, and each order to a run.
-use Rattle.std.proofs.Common.{◌≡◌, ◌≤◌, ◌+◌, ℕ, zero, suc, Bool, true, false, Option, Some, None, sym, List, [], ◌∷◌, ◌++◌, arith, length, length-append, refl, ap, ◌∙◌}
+use Rattle.std.proofs.Common.{◌≡◌, ◌≤◌, ◌+◌, ℕ, zero, suc, Bool, true, false, Option, Some, None, sym, List, [], ◌∷◌, ◌++◌, arith, length, length-append, refl, ap, ◌∙◌, subst}
 use Rattle.std.specs.Prelude.{filter, Result, Ok, Err, IfOk, ◌&&◌, ◌||◌, is_some}
 use Rattle.std.proofs.lemmas.List.{map-append}
 use Rattle.std.proofs.lemmas.List.Elements.{filter-append}
@@ -120,12 +120,15 @@ receiver_runs T form took ys calls (xs, word, order) so =
       gets = λ calls was.
           gets_so took (message_replies calls) (λ m. one_call_gets T UnnamedWaker m form calls xs ys word order was)
           (so ∙ shows was);
-      one_gets = λ message calls was. one_call_gets T UnnamedWaker message form calls xs ys word order was;
     }
 
 pub error_runs : {T : Type 0} (message : T) (xs : List Noted) → SenderIsOrdered xs → ErrorRuns message xs
 error_runs {T} message xs (ys, word, order) =
     record { ys = ys; word = word; order = order; run = states_run T message xs ys word order }
+
+few : (b : Bool) → one_if b ≤ 1
+few true = omega arith
+few false = omega arith
 
 -- a `try_recv` that returned the message was the only call that did
 pub only_the_last_got : {T : Type 0} (result : Result T TryRecvError) {before after : List Noted} {took : Option T} →
@@ -133,9 +136,10 @@ pub only_the_last_got : {T : Type 0} (result : Result T TryRecvError) {before af
     → HasCalls T as_receiver before → ReceiverGrew T TryRecv before after (try_recv_reply result)
     → ReceiverRuns T as_receiver took after → IfOk result (λ message. OnlyTheLastGot T after)
 only_the_last_got (Err error) add calls grew runs = tt
-only_the_last_got (Ok message) {before} {after} add (calls, was) grew runs =
+only_the_last_got (Ok message) {before} {after} {took} add (calls, was) grew runs =
     let last : ReceiverStart × Reply = (TryRecv, R.Message) in
     let more = add as_receiver calls before after R.Message TryRecv refl was grew in
-    let one : message_replies (calls ++ last ∷ []) ≤ 1 = runs.one_gets message (calls ++ last ∷ []) more in
+    let one : message_replies (calls ++ last ∷ []) ≤ 1 =
+    subst (λ n. n ≤ 1) (sym (runs.gets (calls ++ last ∷ []) more)) (few (is_some took)) in
     let sum : message_replies (calls ++ last ∷ []) ≡ message_replies calls + 1 = messages_more calls last in
     (calls, more, omega (arith, one, sum))

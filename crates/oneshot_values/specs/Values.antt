@@ -1,5 +1,5 @@
 -- What the laws state of the values that a program holds: each has the log of a run of the model.
-use Rattle.std.specs.Prelude.{◌≡◌, ◌≤◌, ℕ, Bool, true, false, Option, Some, is_some, List, [], ◌∷◌, ◌++◌, filter, length}
+use Rattle.std.specs.Prelude.{◌≡◌, ℕ, Bool, true, false, Option, is_some, List, [], ◌∷◌, ◌++◌, filter, length}
 use Rattle.oneshot_machine.specs.declared.machine.Reply.{Reply}
 use Rattle.oneshot_machine.specs.declared.machine.receiver.ReceiverStart.{ReceiverStart}
 use Rattle.oneshot_machine.specs.declared.machine.Reply.TheVariants as R
@@ -35,9 +35,6 @@ pub record ReceiverRuns (T : Type 0) (form : Form) (took : Option T) (ys : List 
   -- exactly one of them returned the message if the receiver took one, and otherwise none
   pub gets : (calls : List (ReceiverStart × Reply)) → ReceiverCalled T UnnamedWaker form calls ys
       → message_replies calls ≡ one_if (is_some took)
-  -- at most one of them returned the message
-  pub one_gets : T → (calls : List (ReceiverStart × Reply)) → ReceiverCalled T UnnamedWaker form calls ys
-      → message_replies calls ≤ 1
 
 -- The log of a receiver whose last call is a `try_recv` that returned the message, and no call before it did.
 abbrev pub OnlyTheLastGot : (T : Type 0) → List Noted → Type 0

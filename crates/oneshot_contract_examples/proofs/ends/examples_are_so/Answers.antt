@@ -1,5 +1,5 @@
 -- Proofs of the goals that `examples_are_so` leaves.
-use Rattle.oneshot_contract_examples.proofs.TokenExamples.{tokens_that_are_not, lives_that_are, lives_that_are_not, steps_that_wake, steps_that_do_not, wakers_that_woke, wakers_that_did_not}
+use Rattle.oneshot_contract_examples.proofs.TokenExamples.{tokens_that_are_not, lives_that_are, lives_that_are_not, wakers_that_woke, wakers_that_did_not}
 use Rattle.oneshot_contract_examples.proofs.EndExamples.{ends_that_are, ends_that_are_not, calls_that_grow, calls_that_do_not_grow, copies_that_are}
 use Rattle.oneshot_contract_examples.proofs.EndExamples.{copies_that_are_not}
 use Rattle.oneshot_contract_examples.proofs.EndExamples.{real_grounds_that_are, real_grounds_that_are_not, ordered_logs, unordered_logs}
@@ -21,8 +21,6 @@ returns g c =
       no_states = tokens_that_are_not;
       lives = lives_that_are;
       no_lives = lives_that_are_not;
-      wakes = steps_that_wake;
-      no_wakes = steps_that_do_not;
       woken = wakers_that_woke;
       unwoken = wakers_that_did_not;
       orders = ordered_logs;

@@ -2,7 +2,7 @@
 use Rattle.oneshot_drive.proofs.Names.{rules, refl, sym, ◌∙◌, Store, receiver_of, disconnected, closed_itself, filled, empty, StandsWith, by_ref, is_in, DISCONNECTED}
 use Rattle.oneshot_drive.proofs.AfterOperations.{asks, took_message}
 use Rattle.oneshot_drive.proofs.RestLoads.{rests_over}
-use Rattle.oneshot_drive.proofs.Receives.{full_asks, ended_full, full_ran, full_leaves, shut, shut_ran, over_leaves, out_rests, out_leaves, hands, out_hands}
+use Rattle.oneshot_drive.proofs.Receives.{full_asks, ended_full, full_ran, full_leaves, shut, shut_ran, over_leaves, out_rests, out_leaves, closed_ready}
 use Rattle.oneshot_drive.proofs.Stretches.{whole}
 use Rattle.oneshot_drive.proofs.blocking.receive.Given as given
 use Rattle.oneshot_drive.proofs.blocking.receive.Goals as goal
@@ -33,7 +33,7 @@ returns-in-Message g c =
       rests = rests_over over;
       leaves = full_leaves c.take_message.result over.phase;
       stays = λ is_closed. let e = sym c.in-Message.is ∙ c.find.ensures.stays is_closed in absurd (cc);
-      hand = hands (rw c.in-Message.is at c.find.ensures.hand) closed_itself over.phase;
+      ready = closed_ready closed_itself over.phase;
       endless = search rules;
       given = gives _ _ _ c.find.ensures.keeps (gives _ _ _ c.store.ensures.keeps c.take_message.ensures.given);
       has = g.met.G.BlockGround.has_on _ _ _ (on _ _ _ c.store.ensures.keeps c.take_message.ensures.keeps)
@@ -50,7 +50,7 @@ returns-in-Closed g c =
       rests = rests_over ends.1;
       leaves = over_leaves ends.1;
       stays = λ is_closed. refl;
-      hand = hands (rw c.in-Closed.is at c.find.ensures.hand) ends.0 ends.1.phase;
+      ready = closed_ready ends.0 ends.1.phase;
       endless = search rules;
       given = search rules;
       has = c.find.ensures.has;
@@ -74,7 +74,7 @@ returns-in-Overwritten g c =
       rests = rests_over over;
       leaves = over_leaves over;
       stays = λ is_closed. refl;
-      hand = hands (rw c.in-Overwritten.is at c.find.ensures.hand) closed_itself over.phase;
+      ready = closed_ready closed_itself over.phase;
       endless = search rules;
       given = search rules;
       has = g.met.G.BlockGround.has_on _ _ _ c.store-in-Overwritten.ensures.keeps c.find.ensures.has;
@@ -90,7 +90,7 @@ returns-in-Nothing g c =
       rests = out_rests ends.1;
       leaves = out_leaves ends.1.phase;
       stays = λ is_closed. let e = sym c.in-Nothing.is ∙ c.find.ensures.stays is_closed in absurd (cc);
-      hand = out_hands (rw c.in-Nothing.is at c.find.ensures.hand) ends.1.phase;
+      ready = λ none. absurd (c.find.ensures.hand c.in-Nothing.is none);
       endless = λ untimed out. let timed = ends.0 in absurd (cc);
       given = search rules;
       has = c.find.ensures.has;

@@ -3,7 +3,7 @@ use Rattle.oneshot_drive.proofs.Names.{refl, ◌∙◌, [], ◌∷◌, did, took
 use Rattle.oneshot_machine.specs.declared.machine.Step.TheVariants as Steps
 use Rattle.oneshot_machine.specs.Over.{FoundTheEnd}
 use Rattle.oneshot_drive.proofs.EndsOver.{found, stays_at}
-use Rattle.oneshot_drive.proofs.Receives.{has_message, full_freed, gone, gone_freed, hand_back}
+use Rattle.oneshot_drive.proofs.Receives.{has_message, full_freed, gone, gone_freed}
 use Rattle.oneshot_drive.proofs.blocking.recv.Goals as goal
 
 pub free-requires : goal.free-requires
@@ -21,8 +21,6 @@ returns-in_default g c =
           (found c.find.result (g.G.ReceiverGround.state c.find.new.g) c.find.ensures.ends);
       freed = c.free.ensures.message;
       stays = λ _. refl;
-      hand = hand_back
-          (g.G.ReceiverGround.state c.find.new.g) c.find.result c.find.ensures.ends c.find.ensures.hand;
       given = tt;
       had = tt;
       keeps = g.G.ReceiverGround.keeps_on _ _ _ c.find.ensures.keeps c.free.ensures.keeps;
@@ -47,10 +45,6 @@ returns-clause-found g c =
     stays_at FoundTheEnd (did Steps.Free ∷ []) refl c.free-2.ensures.log
     (stays_at FoundTheEnd (took c.take_message-message.result ∷ []) refl c.take_message-message.ensures.log
     (found c.find.result (g.G.ReceiverGround.state c.find.new.g) c.find.ensures.ends))
-
-pub returns-clause-hand : goal.returns-clause-hand
-returns-clause-hand g c =
-    hand_back (g.G.ReceiverGround.state c.find.new.g) c.find.result c.find.ensures.ends c.find.ensures.hand
 
 pub returns-clause-given : goal.returns-clause-given
 returns-clause-given g c =

@@ -21,8 +21,6 @@ returns-in-3 g c =
     xored_over c.xor.result c.requires c.in-3.is c.xor.ensures.finds c.xor.ensures.log in
     record {
       run = ran.ran;
-      woke = ran;
-      over = over;
       ended = g.G.SenderGround.ended_by dropping _ over (woken_by c.requires.phase ran);
       bounded = drop_few ran.ran;
     }
@@ -46,8 +44,6 @@ returns-then-not-finish g c =
     (xored_owes c.xor.result c.requires c.in-0.is c.xor.ensures.finds c.xor.ensures.log))) in
     record {
       run = ran.ran;
-      woke = ran;
-      over = over;
       ended = g.G.SenderGround.ended_by dropping _ over (woken_by c.requires.phase ran);
       bounded = drop_few ran.ran;
     }
@@ -60,8 +56,6 @@ returns-else-not-finish g c =
     (xored_owes c.xor.result c.requires c.in-0.is c.xor.ensures.finds c.xor.ensures.log)) in
     record {
       run = ran.ran;
-      woke = ran;
-      over = over;
       ended = g.G.SenderGround.ended_by dropping _ over (woken_by c.requires.phase ran);
       bounded = drop_few ran.ran;
     }
@@ -87,8 +81,6 @@ returns-in-2 g c =
     sender_stays_over (did Free ∷ []) refl c.free-in-2.ensures.log (late_over gone.stands) in
     record {
       run = ran.ran;
-      woke = ran;
-      over = over;
       ended = g.G.SenderGround.ended_by dropping _ over (woken_by c.requires.phase ran);
       bounded = drop_few ran.ran;
     }

@@ -17,9 +17,8 @@ returns-clause-finishes g c =
 
 pub returns-clause-gone : goal.returns-clause-gone
 returns-clause-gone g c gone =
-    overtaken_as c.take_waker-waker.result c.requires c.take_waker-waker.ensures.message c.swap-found.result
-    c.swap-found.ensures.finds c.swap-found.ensures.log c.wake.ensures.log c.wake.ensures.message
-    c.wake.ensures.waker gone
+    overtaken_as c.requires c.take_waker-waker.ensures.message c.swap-found.result c.swap-found.ensures.finds
+    c.wake.ensures.message c.wake.ensures.waker gone
 
 pub wake-requires : goal.wake-requires
 wake-requires g c = c.swap-found.ensures.owed _ c.take_waker-waker.ensures.owed

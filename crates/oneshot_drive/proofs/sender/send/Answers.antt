@@ -1,10 +1,10 @@
 -- Proofs of the goals that `send` leaves.
-use Rattle.oneshot_drive.proofs.Names.{[], ◌∷◌, rules, refl, Send, Add, sender_of, sending, fresh, none, filled, Reply, StandsWith, SenderWoke, message_kept, send_few}
+use Rattle.oneshot_drive.proofs.Names.{[], ◌∷◌, rules, refl, Send, Add, sender_of, sending, fresh, none, filled, Reply, StandsWith, message_kept, send_few}
 use Rattle.oneshot_machine.specs.Over.{SenderIsOver, over_finished}
 use Rattle.oneshot_drive.proofs.AfterOperations.{sender_asks}
 use Rattle.oneshot_drive.proofs.SenderCalls.{slot_left, written, send_owes, added_here, added_waiting, added, added_none, refused_error, overtaken_error, is_too_late}
-use Rattle.oneshot_drive.proofs.SenderRuns.{send_ran, send_refused, send_woke}
-use Rattle.oneshot_drive.proofs.EndsOver.{over_at, last_is_over, last_found, late_over, woken_by}
+use Rattle.oneshot_drive.proofs.SenderRuns.{SenderWoke, send_ran, send_refused, send_woke}
+use Rattle.oneshot_drive.proofs.EndsOver.{over_at, last_is_over, last_found, last_late, late_over, woken_by}
 use Rattle.oneshot_drive.proofs.sender.send.Given as given
 use Rattle.oneshot_drive.proofs.sender.send.Goals as goal
 use Rattle.oneshot_drive.proofs.sender.send.Goals.{After-write_message, After-add}
@@ -45,10 +45,8 @@ returns-in-3 g c =
     c.add.ensures.log in
     record {
       run = did.ran;
-      woke = did;
       refused = search rules;
       late = search rules;
-      over = over;
       sent = λ _. here.stands.phase;
       ended = let_go g c'.After-add over did;
       bounded = send_few did.ran;
@@ -67,10 +65,8 @@ returns-in-0 g c =
     c.finish.ensures.finishes in
     record {
       run = did.ran;
-      woke = did;
       refused = λ gone. overtaken_error (c.finish.ensures.gone gone) kept;
-      late = λ gone. (c.finish.ensures.gone gone).late;
-      over = last_is_over last;
+      late = last_late last;
       sent = last_found last;
       ended = let_go g c'.After-add (last_is_over last) did;
       bounded = send_few did.ran;
@@ -87,11 +83,9 @@ returns-in-2 g c =
     c.add.ensures.log in
     record {
       run = did.ran;
-      woke = did;
       refused = λ _. refused_error c.args.message gone.stands
           (message_kept c.add.ensures.finds c.write_message.ensures.message gone.stands.message);
       late = λ _. is_too_late gone.stands;
-      over = late_over gone.stands;
       sent = search rules;
       ended = let_go g c'.After-add (late_over gone.stands) did;
       bounded = send_few did.ran;

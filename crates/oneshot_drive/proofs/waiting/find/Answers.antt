@@ -1,5 +1,5 @@
 -- Proofs of the goals that `find` leaves.
-use Rattle.oneshot_drive.proofs.Names.{rules, refl, at_once, returned, EMPTY, MESSAGE}
+use Rattle.oneshot_drive.proofs.Names.{rules, refl, at_once, EMPTY, MESSAGE}
 use Rattle.oneshot_drive.proofs.RestLoads.{load_asks, loaded, loaded_full, loaded_open, loaded_closed, loaded_none, never}
 use Rattle.oneshot_drive.proofs.StoredWaker.{full_at_once, found_none, over_at_once, ready_waker}
 use Rattle.oneshot_drive.proofs.waiting.find.Goals as goal
@@ -14,7 +14,7 @@ returns-in-4 g c =
       path = λ way. full_at_once way c.load.result c.in-4.is c.load.ensures.log;
       ends = (at_once, refl, full);
       stays = λ is_closed. never MESSAGE refl c.in-4.is is_closed c.load.ensures.finds;
-      hand = returned c.args.hand.now;
+      hand = search rules;
       has = g.met.G.BlockGround.has_on _ _ _ c.load.ensures.keeps c.requires.has;
       keeps = c.load.ensures.keeps;
     }
@@ -44,7 +44,7 @@ returns-in-2 g c =
       path = λ way. over_at_once way c.load.result c.in-2.is c.load.ensures.log;
       ends = loaded_closed (loaded c.load.result c.requires.rests c.load.ensures.finds c.load.ensures.log) c.in-2.is;
       stays = λ is_closed. refl;
-      hand = returned c.args.hand.now;
+      hand = search rules;
       has = g.met.G.BlockGround.has_on _ _ _ c.load.ensures.keeps c.requires.has;
       keeps = c.load.ensures.keeps;
     }

@@ -22,7 +22,7 @@ returns-in-0-clause-ends g c =
     c.withdraw.ensures.log c.withdraw.ensures.message c.withdraw.ensures.waker
 
 pub returns-in-0-clause-hand : goal.returns-in-0-clause-hand
-returns-in-0-clause-hand g c = (c.withdraw.result, refl)
+returns-in-0-clause-hand g c nothing none = cc
 
 pub returns-in-4-clause-path : goal.returns-in-4-clause-path
 returns-in-4-clause-path g c = stops_to _ c.swap.result MESSAGE refl c.in-4.is c.swap.ensures.log

@@ -1,7 +1,6 @@
 -- Proofs of the goals that `store_and_wait` leaves.
 use Rattle.oneshot_drive.proofs.Names.{◌≡◌, Some, rules, subst, is_room, waker_kept}
-use Rattle.oneshot_drive.proofs.StoredWaker.{over_message, over_end, stored_asks, stored, stored_waits, stored_there, over_word, stored_path, back_path, withdrew_full, withdrew_over, back}
-use Rattle.oneshot_drive.proofs.StoredWaker.{waited_hand}
+use Rattle.oneshot_drive.proofs.StoredWaker.{over_message, over_end, stored_asks, stored, stored_waits, stored_there, over_word, stored_path, back_path, withdrew_full, withdrew_over}
 use Rattle.oneshot_drive.proofs.waiting.store_and_wait.Goals as goal
 
 pub write_waker-requires-clause-slot : goal.write_waker-requires-clause-slot
@@ -27,11 +26,6 @@ returns-then-word-eq-EMPTY-clause-path g c way =
     stored_path way c.in-Some.waker c.swap-word.result c.if-word-eq-EMPTY.true c.write_waker.ensures.log
     c.swap-word.ensures.log (c.wait.ensures.path way)
 
-pub returns-then-word-eq-EMPTY-clause-hand : goal.returns-then-word-eq-EMPTY-clause-hand
-returns-then-word-eq-EMPTY-clause-hand g c =
-    let is : c.args.hand.now ≡ Some c.in-Some.waker = search rules in
-    waited_hand _ c.wait.result c.in-Some.waker is (search rules) c.wait.ensures.hand
-
 pub returns-then-word-eq-EMPTY-clause-keeps : goal.returns-then-word-eq-EMPTY-clause-keeps
 returns-then-word-eq-EMPTY-clause-keeps g c =
     let on = g.G.ReceiverGround.keeps_on in
@@ -49,7 +43,6 @@ withdraw-requires g c = (
 pub returns-then-word-eq-MESSAGE : goal.returns-then-word-eq-MESSAGE
 returns-then-word-eq-MESSAGE g c =
     let on = g.G.ReceiverGround.keeps_on in
-    let is : c.args.hand.now ≡ Some c.in-Some.waker = search rules in
     let found =
     stored c.requires.open c.write_waker.ensures.log c.write_waker.ensures.message c.write_waker.ensures.waker
     c.swap-word.result c.swap-word.ensures.finds c.swap-word.ensures.log in
@@ -58,8 +51,7 @@ returns-then-word-eq-MESSAGE g c =
           c.if-word-eq-MESSAGE.true c.write_waker.ensures.log c.swap-word.ensures.log c.withdraw.ensures.log;
       ends = withdrew_full found c.withdraw.ensures.log c.withdraw.ensures.message
           c.withdraw.ensures.waker c.args.timed c.if-word-eq-MESSAGE.true;
-      hand = back c.in-Some.waker c.withdraw.result is (waker_kept c.swap-word.ensures.finds c.write_waker.ensures.waker
-          (stored_there found c.if-word-eq-EMPTY.false)) c.withdraw.ensures.was;
+      hand = search rules;
       has = g.met.G.BlockGround.has_back _ _ _ c.withdraw.ensures.was c.withdraw.ensures.keeps
           (g.met.G.BlockGround.has_on _ _ _ c.swap-word.ensures.keeps c.write_waker.ensures.has);
       keeps = on _ _ _ c.write_waker.ensures.keeps (on _ _ _ c.swap-word.ensures.keeps c.withdraw.ensures.keeps);
@@ -68,7 +60,6 @@ returns-then-word-eq-MESSAGE g c =
 pub returns-else-word-eq-MESSAGE : goal.returns-else-word-eq-MESSAGE
 returns-else-word-eq-MESSAGE g c =
     let on = g.G.ReceiverGround.keeps_on in
-    let is : c.args.hand.now ≡ Some c.in-Some.waker = search rules in
     let found =
     stored c.requires.open c.write_waker.ensures.log c.write_waker.ensures.message c.write_waker.ensures.waker
     c.swap-word.result c.swap-word.ensures.finds c.swap-word.ensures.log in
@@ -78,8 +69,7 @@ returns-else-word-eq-MESSAGE g c =
           c.write_waker.ensures.log c.swap-word.ensures.log c.withdraw.ensures.log;
       ends = withdrew_over found c.withdraw.ensures.log c.withdraw.ensures.message
           c.withdraw.ensures.waker c.args.timed c.if-word-eq-EMPTY.false c.if-word-eq-MESSAGE.false;
-      hand = back c.in-Some.waker c.withdraw.result is (waker_kept c.swap-word.ensures.finds c.write_waker.ensures.waker
-          (stored_there found c.if-word-eq-EMPTY.false)) c.withdraw.ensures.was;
+      hand = search rules;
       has = g.met.G.BlockGround.has_back _ _ _ c.withdraw.ensures.was c.withdraw.ensures.keeps
           (g.met.G.BlockGround.has_on _ _ _ c.swap-word.ensures.keeps c.write_waker.ensures.has);
       keeps = on _ _ _ c.write_waker.ensures.keeps (on _ _ _ c.swap-word.ensures.keeps c.withdraw.ensures.keeps);

@@ -41,7 +41,6 @@ decided : (g : given.Over) (c : After-load g) {word : ℕ} {f : Found} → Decid
       path : (way : ReceiveBy c.args.timed) → Path (wait_of way) (end_of way f)
           (g.G.ReceiverGround.state c.args.g.now).log (g.G.ReceiverGround.state c.load.new.self).log;
       ends : EndsAt c.args.timed f (g.G.ReceiverGround.state c.load.new.self);
-      hand : c.loop.hand ≡ c.args.hand.now;
       has : g.G.ReceiverGround.has c.load.new.self c.loop.hand;
       keeps : g.G.ReceiverGround.keeps c.args.g.now c.load.new.self;
     }
@@ -55,17 +54,20 @@ decided g c by e =
           c.park.ensures.log.0 c.park.ensures.log.1 c.load.result c.load.ensures.log by e;
       ends = woke_at (woke c.park.ensures.log.0 c.is_over.ensures.waits c.park.ensures.log.1 c.park.ensures.message
           c.park.ensures.waker c.load.result c.load.ensures.finds c.load.ensures.log) c.args.timed by e;
-      hand = c.loop.invariant.hand;
       has = subst (λ hand. g.G.ReceiverGround.has c.load.new.self hand)
           (sym (c.loop.invariant.hand ∙ c.requires.empty)) (g.met.G.BlockGround.has_on _ _ _ keeps c.requires.has);
       keeps = keeps;
     }
 
 pub returns-in-4 : goal.returns-in-4
-returns-in-4 g c = decided g (goal.at.returns-in-4 g c).After-load by_message c.in-4.is
+returns-in-4 g c =
+    let d = decided g (goal.at.returns-in-4 g c).After-load by_message c.in-4.is in
+    record { path = d.path; ends = d.ends; hand = search rules; has = d.has; keeps = d.keeps }
 
 pub returns-in-2 : goal.returns-in-2
-returns-in-2 g c = decided g (goal.at.returns-in-2 g c).After-load by_end c.in-2.is
+returns-in-2 g c =
+    let d = decided g (goal.at.returns-in-2 g c).After-load by_end c.in-2.is in
+    record { path = d.path; ends = d.ends; hand = search rules; has = d.has; keeps = d.keeps }
 
 pub loop-preserved : goal.loop-preserved
 loop-preserved g c =

@@ -3,13 +3,12 @@ use Rattle.std.proofs.Common.{[], ◌∷◌, refl, sym, ap, subst}
 use Rattle.std.specs.Prelude.{◌↔◌, IsTrue}
 use Rattle.oneshot_machine.specs.declared.machine.receiver.ReceiverStart.TheVariants.{RecvTimeout}
 use Rattle.oneshot_drive.specs.BetweenCalls.{LeavesTimed}
-use Rattle.oneshot_drive.proofs.ReadyHands.{ready_timed}
 use Rattle.oneshot_ends.specs.Deadlines.{HasEnd}
 use Rattle.oneshot_ends.proofs.CallsAnswered.{one_answered}
 use Rattle.oneshot_ends.proofs.EndViews.{same_steps, same_about, same_took, lent_about, kept_about}
 use Rattle.oneshot_ends.proofs.GrewByRuns.{grew_by, closed_before, at_end}
 use Rattle.oneshot_ends.proofs.OwnWakers.{has_lent}
-use Rattle.oneshot_ends.proofs.LentGrounds.{as_lent, given_back, hand_lent}
+use Rattle.oneshot_ends.proofs.LentGrounds.{as_lent, given_back}
 use Rattle.oneshot_ends.proofs.TimeoutEnds.{ends_where_held}
 use Rattle.oneshot_ends.proofs.Taken.{rests_so, lent_found, took_by, timed_takes}
 use Rattle.oneshot_ends.proofs.receiver.Receiver.recv_after.Goals as goal
@@ -22,9 +21,7 @@ pub invariant_of-self : goal.invariant_of-self
 invariant_of-self g c =
     record {
       rests = given_back (_ ∷ _ ∷ []) c.recv_timeout.new.g.ground.now c.recv_timeout.ensures.rests;
-      ready = ready_timed c.recv_timeout.result c.self.inside.hand c.recv_timeout.new.hand _ _
-          (hand_lent c.self.inside.hand (ap (λ r. r.now) c.lend-lent.ensures.ground) c.self.invariant.ready)
-          c.recv_timeout.ensures.stays c.recv_timeout.ensures.leaves c.recv_timeout.ensures.hand;
+      ready = c.recv_timeout.ensures.ready;
       calls = one_answered (RecvTimeout c.has_end-has_end.result) refl c.self.invariant.calls
           (grew_by (ap (λ r. r.now) c.lend-lent.ensures.ground) refl c.recv_timeout.new.g.ground.now
           (RecvTimeout c.has_end-has_end.result) c.recv_timeout.ensures.run);

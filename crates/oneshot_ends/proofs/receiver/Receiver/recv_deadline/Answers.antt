@@ -2,12 +2,12 @@
 use Rattle.std.proofs.Common.{[], ◌∷◌, refl, ap}
 use Rattle.oneshot_machine.specs.declared.machine.receiver.ReceiverStart.TheVariants.{RecvDeadline}
 use Rattle.oneshot_drive.specs.BetweenCalls.{LeavesTimed}
-use Rattle.oneshot_drive.proofs.ReadyHands.{closed_in_time, open_too_late, ready_timed}
+use Rattle.oneshot_drive.proofs.ReadyHands.{closed_in_time, open_too_late}
 use Rattle.oneshot_ends.proofs.CallsAnswered.{one_answered}
 use Rattle.oneshot_ends.proofs.EndViews.{same_steps, same_about, same_took, lent_about, kept_about}
 use Rattle.oneshot_ends.proofs.GrewByRuns.{grew_by, closed_before, at_end}
 use Rattle.oneshot_ends.proofs.OwnWakers.{has_lent}
-use Rattle.oneshot_ends.proofs.LentGrounds.{as_lent, given_back, hand_lent}
+use Rattle.oneshot_ends.proofs.LentGrounds.{as_lent, given_back}
 use Rattle.oneshot_ends.proofs.Taken.{rests_so, lent_found, took_by, timed_takes}
 use Rattle.oneshot_ends.proofs.receiver.Receiver.recv_deadline.Goals as goal
 
@@ -19,9 +19,7 @@ pub invariant_of-self : goal.invariant_of-self
 invariant_of-self g c =
     record {
       rests = given_back (_ ∷ _ ∷ []) c.recv_deadline.new.g.ground.now c.recv_deadline.ensures.rests;
-      ready = ready_timed c.recv_deadline.result c.self.inside.hand c.recv_deadline.new.hand _ _
-          (hand_lent c.self.inside.hand (ap (λ r. r.now) c.lend-lent.ensures.ground) c.self.invariant.ready)
-          c.recv_deadline.ensures.stays c.recv_deadline.ensures.leaves c.recv_deadline.ensures.hand;
+      ready = c.recv_deadline.ensures.ready;
       calls = one_answered RecvDeadline refl c.self.invariant.calls
           (grew_by (ap (λ r. r.now) c.lend-lent.ensures.ground) refl c.recv_deadline.new.g.ground.now
           RecvDeadline c.recv_deadline.ensures.run);
