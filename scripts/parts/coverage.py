@@ -1,11 +1,13 @@
-"""What covers what, as docs/COVERAGE.md prints it: which files call each public function of oneshot_channel, and which
-have each word of oneshot-run in an input."""
+"""What covers what, as docs/COVERAGE.md prints it: which files and pairs of scripts call each public function of
+oneshot_channel, and which have each word of oneshot-run in an input."""
 import functools
 import re
 
-from parts.contracts import CALLING, exported, files, needed
+from parts.compare import Differs
+from parts.contracts import CALLING, exported, needed, written
 from parts.functions import functions
 from parts.pages import TOP
+from parts.pairs import ALL, FULL, OF_TWO, SHORT, scripts_of
 from parts.printed import shown, table
 from parts.reference import STARTS
 from parts.sources import CRATES, code_of, crates, section, sources, text_of
@@ -14,12 +16,12 @@ from parts.sources import CRATES, code_of, crates, section, sources, text_of
 KINDS = {
     "Unit": ["oneshot_program_tests"],
     "Race": ["oneshot_rounds"],
-    "Interleaving": ["oneshot_explored", "oneshot_calls"],
+    "Interleaving": ["oneshot_explored", "oneshot_calls", "oneshot_conformance"],
     "Out of memory": ["oneshot_out_of_memory"],
     "Original": ["oneshot_original_tests"],
 }
-# Scripts of the gate that have inputs of oneshot-run.
-SCRIPTS = {"Interleaving": ["parts/pairs.py"], "Out of memory": ["faults"], "Unit": ["parts/leads.txt"]}
+# The kinds of tests that have inputs of oneshot-run, with the scripts of the gate that have some.
+WITH_INPUTS = {"Unit": ["parts/leads.txt"], "Interleaving": [], "Out of memory": ["faults"]}
 # How tests name a value of each type; one of another name is of the first type that has the call.
 NAMED = {
     "sender": "Sender", "receiver": "Receiver", "future": "AsyncReceiver", "ticket": "Ticket", "request": "Request",
@@ -51,6 +53,21 @@ CALLED = {
                "try": "AsyncReceiver::try_recv", "poll": "AsyncReceiver::poll", "polls": "AsyncReceiver::poll",
                "await": "AsyncReceiver::poll", "drop": "AsyncReceiver::drop"},
 }
+# The calls in place of these, by the kind of a channel (oneshot_explored); none where its ends lack the call.
+OF_KIND = {
+    "promise": {"Sender::send": "Sender::send_kept"},
+    "request": {"Sender::is_closed": "Request::is_cancelled", "Sender::send": "Request::fits Request::answer",
+                "Sender::drop": "Request::drop", "Sender::into_raw": "", "Sender::from_raw": "",
+                "Receiver::is_closed": "Ticket::is_closed", "Receiver::try_recv": "Ticket::try_take",
+                "Receiver::recv": "Ticket::wait", "Receiver::recv_timeout": "Ticket::wait_for",
+                "Receiver::into_future": "Ticket::into_future", "Receiver::drop": "Ticket::drop"},
+}
+# What makes the ends, and what brings one of them on another channel.
+MADE_BY = {"promise": ["channel_for"], "request": ["request"]}
+BROUGHT_BY = ["Sender::send", "Receiver::recv"]
+# How the script of a sender, or of a future, stands in a test. Each other script is a receiver's.
+OF_SENDER = re.compile(r'\b(?:Act|duel)\(\s*(?:&rt,\s*)?("[^"]*")|\bfor sends in \[([^]]*)\]')
+OF_FUTURE = re.compile(r'\bBy::Future\(("[^"]*")\)')
 # The families of positions of the words, by where a word begins.
 FAMILIES = [("Look", "LookPos"), ("Try", "TryPos"), ("Async(?:Try)", "FuturePos"), ("Async", "AsyncDropPos"),
             ("Ref", "RefPos"), ("Timed|.*Clock", "TimedPos"), ("Recv", "ValuePos"),
@@ -102,14 +119,15 @@ def changed_in(text, old):
 
 
 def contracts():
-    """The file of each contract."""
-    return {function.name: file for file in files(CALLING) for function in functions(code_of(file))}
+    """The file of each function that has a clause, by the name of the call."""
+    return {contract.name: contract.file for contract in written(CALLING)
+            if re.search(r"\s(ensures|requires)\s", contract.text)}
 
 
 def is_edited(call, edit, function):
     """Whether an edit of this function changes this call: the call itself, or its driver."""
     owner, _, name = call.rpartition("::")
-    if function in (call, f"Drop for {call}"):
+    if function.split(" for ")[-1] == call:
         return True
     drivers = DRIVERS.get(call, [name] if owner in ("Sender", "Receiver", "AsyncReceiver", "SendError") else [])
     return edit.parts[-3] == "oneshot_drive" and function in drivers
@@ -150,22 +168,35 @@ def calls_of(words, end, kinds):
     return made
 
 
+def plain(text):
+    """A text with the words of scripts as CALLED has them: of each length of time, and of either task."""
+    return re.sub(r"\b(?:zero|far|long|past)(?=timeout|deadline)|(?<=\bpoll)[12]", "", text)
+
+
+def quoted(text):
+    return re.findall(r'"((?:[^"\\]|\\.)*)"', text)
+
+
 @functools.cache
 def called_in(text):
-    """The calls that the scripts in the texts of a file make. Each is a text, or a line of one that begins with a
-    channel: what stands there before ` = `. Both ends' looks follow such a line."""
-    called = set()
-    for script in re.findall(r'"((?:[^"\\]|\\.)*)"', re.sub(r"\b(?:zero|far|long|past)|(?<=\bpoll)[12]", "", text)):
+    """The calls that the scripts in the texts of a file make. Each is a script of one end, or the life of a channel: a
+    line names the kind of channel, and each line after it has a call before ` = `. Both ends' looks follow such a
+    line."""
+    called, text = set(), plain(text)
+    are_futures = "of_future(" in text and "Receiving::new(" not in text
+    for script in quoted(" ".join(map("".join, OF_SENDER.findall(text)))):
+        called.update(calls_of(script.split(), "S", {"S": "S"}))
+    for script in quoted(" ".join(OF_FUTURE.findall(text))):
+        called.update(calls_of(script.split(), "R", {"R": "future"}))
+    for script in quoted(OF_FUTURE.sub("", OF_SENDER.sub("", text))):
         channel, *lines = re.split(r"\\n|\n", script)
-        if channel in ("channel", "async_channel"):
-            kinds = {"S": "S", "R": "R" if channel == "channel" else "future"}
-            for end, *words in (line.split(" = ")[0].split() for line in lines):
-                called.update(calls_of(words, end, kinds), calls_of(["closed"], "S", {"S": "S"}),
-                              calls_of(["closed", "full"], "R", kinds))
-        else:
-            words = script.split()
-            called.update(calls_of(words, "S", {"S": "S"}),
-                          calls_of(words, "R", {"R": "R"}) or calls_of(words, "R", {"R": "future"}))
+        if channel not in ("channel", "async_channel"):
+            called.update(calls_of(script.split(), "R", {"R": "future" if are_futures else "R"}))
+            continue
+        kinds = {"S": "S", "R": "R" if channel == "channel" else "future"}
+        for end, *words in (line.split(" = ")[0].split() for line in lines):
+            called.update(calls_of(words, end, kinds), calls_of(["closed"], "S", {"S": "S"}),
+                          calls_of(["closed", "full"], "R", kinds))
     return called
 
 
@@ -176,28 +207,86 @@ def testing(call, kind, known):
         has_scripts = "oneshot_calls" in uses and ("oneshot_channel" in uses or "oneshot" in uses)
         for file in sources(crate):
             if call in made_in(code_of(file), known) or has_scripts and call in called_in(code_of(file)):
-                yield file
+                yield shown(file)
+
+
+def imported(file):
+    """The files beside this one from which it imports, each with the names."""
+    for module, names in re.findall(r"(?m)^use super::(\w+)::([^;]*);", code_of(file)):
+        yield file.with_name(f"{module}.rt"), re.findall(r"\w+", names)
+
+
+def racing(file):
+    """What the tests of a file race, as text: the file without those that have to fail, and the scripts that it
+    imports; and how many rounds each race has. Nothing if the file has no race."""
+    text = code_of(file)
+    texts = [text, *(code_of(other) for other, _ in imported(file))]
+    rounds = [found[1] for found in (re.search(r"\bconst ROUNDS: u64 = ([\d_]+);", one) for one in texts) if found]
+    if not rounds or "#[test]" not in text:
+        return "", 0
+    failing = re.findall(r"#\[should_panic[^\n]*\]\nfn (\w+)", text)
+    for function in functions(text):
+        if function.name in failing:
+            text = text.replace(function.head + function.body, "")
+    scripts = [found[0] for other, names in imported(file) for name in names
+               for found in re.finditer(rf"\bconst {name}: \[[^;]*;[^;]*;", code_of(other))]
+    return "\n".join([text, *scripts]), int(rounds[0])
+
+
+def raced(call, known):
+    """The files in which this call races with one of the other end, each with the rounds of a race."""
+    for file in sources(*KINDS["Race"]):
+        text, rounds = racing(file)
+        if call in made_in(text, known) or call in called_in(text):
+            yield f"{shown(file)} ({rounds:,})"
+
+
+@functools.cache
+def made_by_pair(pair):
+    """The calls that the program makes for a pair: those of both scripts, and those that make and bring the ends."""
+    of_kind = OF_KIND.get(pair.kind, {})
+    scripts = [("S", pair.sender), ("R", pair.receiver)]
+    made = {other for end, script in scripts for call in calls_of(plain(script).split(), end, {end: end})
+            for other in of_kind.get(call, call).split()}
+    return made | {*MADE_BY.get(pair.kind, ["channel"]), *(BROUGHT_BY if pair.kind in OF_TWO[1:] else [])}
+
+
+def counted(is_so):
+    """Of how many pairs of the gate this is so, and in brackets of how many with --all; nothing if of none."""
+    short, whole = (sum(map(is_so, pairs)) for pairs in (SHORT, ALL + FULL))
+    return f"{short} ({whole})" if short or whole else ""
+
+
+def look_at_pairs(known):
+    """The program has to make each call that a pair is said to make. No text of it names the drop of an end as such."""
+    made = set().union(*(made_in(code_of(file), known) for file in sources(*KINDS["Interleaving"])))
+    lacks = {call for pair in SHORT + ALL for call in made_by_pair(pair)} - made
+    if lost := sorted(call for call in lacks if not call.endswith("::drop")):
+        raise Differs(f"{KINDS['Interleaving'][0]} makes no call of {', '.join(lost)}")
 
 
 def of_calls():
     """Prints the table of the calls."""
     known, changed, stated, rows = tuple(calls()), list(edits()), contracts(), []
+    look_at_pairs(known)
     for call in known:
         edited = [edit.stem for edit, function in changed if is_edited(call, edit, function)]
-        cells = [[shown(file) for file in testing(call, kind, known)] for kind in KINDS]
-        file = stated.get(call) or stated.get(f"Drop for {call}")
-        rows.append((f"`{call}`", shown(file) if file else "", joined(edited), *map(joined, cells)))
+        cells = {kind: joined(testing(call, kind, known)) for kind in KINDS}
+        cells["Race"] = joined(raced(call, known))
+        cells["Interleaving"] = counted(lambda pair: call in made_by_pair(pair))
+        file = shown(stated[call]) if call in stated else "none"
+        rows.append((f"`{call}`", file, joined(edited), *cells.values()))
     return table(["Call", "Contract", "Edits", *KINDS], rows)
 
 
 @functools.cache
 def words_in(text, alone):
-    """The words of the scripts in the texts of a file, each as "S word" or "R .. word". `alone`: scripts may lack
-    their first letter."""
+    """The words of the inputs in the texts of a file, each with what its end is. `alone`: the letter of an end may
+    lack."""
     found = set()
-    for line in re.split(r"\\n|\n|, ", "\n".join(re.findall(r'"((?:[^"\\]|\\.)*)"', text)) if '"' in text else text):
-        words = [word for word in re.sub(r"poll([12])", "poll", line).split() if not word.isdigit()]
-        for end in "SR" if alone and words[:1] not in (["S"], ["R"]) else words[:1]:
+    for line in re.split(r"\\n|\n|, ", "\n".join(quoted(text)) if '"' in text else text):
+        words = [word for word in line.split() if not word.isdigit()]
+        for end in words[:1] if words[:1] in (["S"], ["R"]) else "SR" if alone else "":
             kind, names = end, []
             for word in words if words[:1] != [end] else words[1:]:
                 if word not in STARTS.get(kind, {}):
@@ -217,11 +306,12 @@ def of_words():
         family = "SenderPos" if kind in ("S", "error") else family
         edited = [edit.stem for edit, function in changed
                   if edit.parts[-3] == "oneshot_machine" and function.startswith(f"{family}::")]
-        cells = []
-        for test in KINDS:
-            texts = sources(*crates_of(test)) + [TOP / "scripts" / name for name in SCRIPTS.get(test, [])]
-            cells.append([shown(file) for file in texts
-                          if (kind, word) in words_in(text_of(file), file.suffix != ".rt")])
+        cells = {}
+        for test, scripts in WITH_INPUTS.items():
+            texts = sources(*crates_of(test)) + [TOP / "scripts" / name for name in scripts]
+            cells[test] = joined(shown(file) for file in texts
+                                 if (kind, word) in words_in(text_of(file), file.suffix != ".rt"))
+        cells["Interleaving"] = counted(lambda pair: (kind, word) in words_in(scripts_of(pair), False))
         begins = {"error": "S send .. ", "future": "R future .. "}.get(kind, f"{kind} ")
-        rows.append((f"`{begins}{word}`", joined(edited), *map(joined, cells)))
-    return table(["Word", "Edits of its table", *KINDS], rows)
+        rows.append((f"`{begins}{word}`", joined(edited), *cells.values()))
+    return table(["Word", "Edits of its table", *WITH_INPUTS], rows)

@@ -1,5 +1,6 @@
-//! The copies of wakers that a future keeps outside its channel. Both tasks of a program under the scheduler have one
-//! number, by which a future distinguishes them, so only how many it keeps counts.
+//! The copies of wakers that a future keeps outside its channel. The two tasks of a program under the scheduler are in
+//! two queues, and have the same number there. A future distinguishes tasks by this number, so only how many copies it
+//! keeps counts.
 
 use oneshot_machine::machine::{End, Step};
 use oneshot_replay::{Made, WakerName};

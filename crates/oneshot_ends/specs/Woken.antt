@@ -33,7 +33,7 @@ abbrev pub given_of : Option Used → Option Given
 given_of None = None
 given_of (Some used) = used.given
 
--- the ground of a sender: its side, the waker that it used, if it has, and evidence of the token that it gave, if it has
+-- the ground of a sender: its side, the waker that it used, if any, and evidence of the token that it gave, if any
 pub record Sending (T W P : Type 0) : Type 0 where
   pub side : Side T W P
   pub used : Option W

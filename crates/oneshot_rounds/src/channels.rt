@@ -1,4 +1,4 @@
-//! Channels by the ten thousand.
+//! Makes a channel for each round.
 
 use oneshot_channel::{Receiver, Sender, channel};
 use std::test::Fail;

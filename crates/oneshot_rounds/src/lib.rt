@@ -1,4 +1,5 @@
-//! Rounds by the ten thousand, in each of which both ends of a channel race on real threads.
+//! Rounds in which both ends of a channel race on real threads: 10,000 for each pair of calls, and 100 or 1,000 where
+//! something else is compared.
 #![tactic(auto)]
 
 #[cfg(test)]
