@@ -33,7 +33,8 @@ abbrev pub given_of : Option Used → Option Given
 given_of None = None
 given_of (Some used) = used.given
 
--- The ground of a sender: its side, the waker that it used once it used one, and evidence of the token once it gave one.
+-- The ground of a sender: its side, the waker that it used, once it used one, and evidence of the token, once it gave
+-- one.
 pub record Sending (T W P : Type 0) : Type 0 where
   pub side : Side T W P
   pub used : Option W
