@@ -7,8 +7,8 @@ use Rattle.oneshot_word.specs.Side.{Side}
 use Rattle.oneshot_ends.specs.declared.copies.Copies.{Copies}
 use Rattle.oneshot_ends.specs.OwnWakers.{RealWaker, IsCopyFor, WaitsForTask}
 
--- The copy in hand has the number of the poll's task, and wakes that task. If the context could make no waker
--- in this poll, only the number is known.
+-- Beside the copy in hand is the number of the poll's task, and the copy has the numbers of this task and of its queue.
+-- If the context could make no waker in this poll, only the number beside the copy is known.
 abbrev pub HasMade : Context → Context → Copies Waker → Type 0
 HasMade before after copies =
     IsSomeAnd copies.hand (λ copy. (copy.task ≡ before.turn.task)
@@ -18,7 +18,7 @@ HasMade before after copies =
 abbrev pub HasNoneOf : ℕ → Copies Waker → Type 0
 HasNoneOf task copies = IfSome copies.hand (λ copy. copy.task ≢ task)
 
--- the copy in hand wakes the context's task
+-- the copy in hand is one for the context's task
 abbrev pub HasCopyFor : Context → Copies Waker → Type 0
 HasCopyFor cx copies = IsSomeAnd copies.hand (λ copy. IsCopyFor cx copy.waker)
 

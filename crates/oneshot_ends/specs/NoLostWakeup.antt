@@ -60,7 +60,7 @@ pub record HasUsed {T P : Type 0} (waker : Waker) (sender : Sending T RealWaker 
   pub found : found_waiting sender ≡ true
   pub woke : WokeBy (Task waker) sender
 
--- It has used a waker that wakes the task of this context.
+-- It has used a copy for the task of this context.
 abbrev pub HasUsedWakerOf : {T P : Type 0} → Context → Sending T RealWaker P → Type 0
 HasUsedWakerOf cx sender = (waker : Waker) × HasUsed waker sender × IsCopyFor cx waker
 
@@ -87,8 +87,8 @@ module _ {T P : Type 0} (keeps : P → T → Type 0) where
       → AtOneMoment keeps sender.side future → WaitsByNoThread future
       → is_waiting (receiver_at future.log) ≡ true → sender.side.handed ≡ Some taken → IsNoThread taken
 
-  -- A sender that has ended and found a future waiting has used the waker that the future gave last. So it has woken
-  -- the task of the last poll that registered: the copy that it left is for this task.
+  -- A sender that has ended and found a future waiting, which gave a copy for this context's task last, has used a copy
+  -- for this task. It is the one that the future gave last (`WokenIsPut` of `oneshot_word`).
   abbrev pub EndedSendersWokeTasks : Type 0
   EndedSendersWokeTasks =
       (by : By) (sender : Sending T RealWaker P) (future : Side T RealWaker P) (cx : Context)

@@ -46,8 +46,9 @@ WaitsByNoThread = WaitsBy IsNoThread
 abbrev pub RealWaker : Type 0
 RealWaker = AnyWaker WakingHalf Waker
 
--- This waker wakes the context's task. If the context could make no waker in this poll, it has asked for the task to
--- be polled again, and this says nothing.
+-- A copy for the context's task: it has the numbers of this task and of its queue. If the context could make no waker
+-- in this poll, this says nothing. By the source of `futures`, the context then has asked for the task to be polled
+-- again.
 abbrev pub IsCopyFor : Context → Waker → Type 0
 IsCopyFor cx waker = (cx.lacks_waker ≡ true) ⊎ Wakes waker cx
 

@@ -13,8 +13,9 @@ use Rattle.oneshot_ends.specs.Tokens.{ParkingView}
 abbrev pub waits_until : Deadline → NextReading → Patience
 waits_until deadline next = record { deadline = deadline; next = next; reading = None; spins = 0; late = false }
 
--- The clock was read, or the reading that the call took for its deadline is used once; the deadline is over or not by
--- that reading. Once it is over, 17 spins are left, or those that were left before.
+-- There is a reading, by which the deadline is over or not. It is the one that the call took for its deadline, if that
+-- was not used yet; otherwise this does not state that the clock was read for it. Once the deadline is over, 17 spins
+-- are left, or those that were left before.
 pub record Reads (over : Bool) (before after : Patience) : Type 0 where
   pub first : (reading : Reading) → before.next ≡ Taken reading → after.reading ≡ Some reading
   pub due : after.next ≡ Due
@@ -23,7 +24,7 @@ pub record Reads (over : Bool) (before after : Patience) : Type 0 where
   pub spins : after.spins ≡ (if over then max before.spins 17 else before.spins)
   pub late : after.late ≡ over
 
--- it spins at most 17 times, and 17 times more once its deadline is over
+-- it counts at most 17 spins, and 17 more once its deadline is over
 abbrev pub most_spins : Bool → ℕ
 most_spins late = if late then 34 else 17
 
@@ -44,8 +45,8 @@ unread patience = record patience { reading = None }
 abbrev pub spun : Patience → Patience
 spun patience = record patience { reading = None; spins = patience.spins + 1 }
 
--- A park that may spin spins once. Any other sleeps: without a deadline until the token is taken, and not at all if it
--- was taken before.
+-- A park that may spin counts one spin, and leaves the token. Any other sleeps: without a deadline until the token is
+-- taken, and not at all if it was taken before. What a counted spin does is not stated.
 pub record Parked (timed : Bool) (before after : Patience) (half next : ParkingView) : Type 0 where
   pub spins : MaySpin timed before → (after ≡ spun before) × (next ≡ half)
   pub rests : ¬ MaySpin timed before → after ≡ unread before

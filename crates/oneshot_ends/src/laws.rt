@@ -118,9 +118,9 @@ pub fn an_error_is_in_an_order<T, P: Promise<T>>(error: &SendError<T, P>)
     error.is_in_an_order();
 }
 
-/// The token of a blocking receiver is given at most once, taken at most once, and never taken before it is
-/// given. Once it is given, it is there until it is taken. The rule of both halves of its parker has exactly the states
-/// that a token's life can lead to. A parker has one waking half.
+/// In each life that leads through the states of its rule, the token of a blocking receiver is given at most once,
+/// taken at most once, and never taken before it is given. Once it is given, it is there until it is taken. The rule of
+/// both halves of its parker has exactly the states that a token's life can lead to. A parker has one waking half.
 pub fn a_token_is_given_once_and_then_taken()
     ensures states { LivesLeadToStates }
     ensures once { TokensAreGivenOnce }
@@ -133,8 +133,8 @@ pub fn a_token_is_given_once_and_then_taken()
 /// - if the sender found its receiver waiting, it has given the token of the parker whose half the receiver gave;
 /// - a receiver that sleeps on a parker has that parker's token there;
 /// - from a future that waits, the sender took no thread's waker;
-/// - if the sender found a future waiting, it has used the copy that the future gave last, which is a waker of the task
-///   of the last poll that registered (clause `woken` of the poll);
+/// - if the sender found a future waiting, and the future gave a copy for a poll's task last (clause `woken` of the
+///   poll), it has used a copy for this task;
 /// - it has used the waker of a future that is registered.
 ///
 /// No contract states what the use of a task's waker does: `wake` of `src/waker.rt` calls `Waker::wake`.

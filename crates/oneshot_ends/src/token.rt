@@ -128,7 +128,8 @@ impl ParkingHalf {
     ghost use Rattle.oneshot_ends.specs.NoLostWakeup.{SleepsOn};
     ghost use Rattle.oneshot_ends.specs.OwnWakers.{is_waiting};
 
-    /// Releases the half's share of the parker. Its receiver does not wait.
+    /// Releases the half's share of the parker. The receiver that is passed does not wait. No clause states that it is
+    /// the half's own.
     pub(crate) fn let_go<T, P: Promise<T>>(self, receiver: &ChannelReceiver<T, P>)
         requires { is_waiting (receiver_at receiver.now.log) ≡ false }
     {

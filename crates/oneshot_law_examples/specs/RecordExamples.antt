@@ -1,4 +1,4 @@
--- Worked traces that satisfy the record of all laws, and damaged ones that it refuses, each by one field.
+-- Worked traces that satisfy the record of all laws, and damaged ones that it refuses, one for each field.
 use Rattle.std.specs.Prelude.{ℕ, ◌+◌, true, false, Bool, map, List, [], ◌∷◌, Option, Some, None, IsTrue}
 use Rattle.oneshot_world.specs.World.{World, opening, turn}
 use Rattle.oneshot_world.specs.declared.script.AsyncCall.TheVariants as AC
@@ -85,7 +85,8 @@ abbrev pub IsWrong : SenderScript ℕ → ReceiverScript → Example → Type 0
 IsWrong s r x =
     (moves : List Move) (freed : Bool) (rest : Option (Rest ℕ)) → IsRight s r moves (shows x freed rest) → ⊥
 
--- Each field of the record refuses a damaged trace under its own name.
+-- For each field of the record, a damaged trace under its name that the record refuses. The proof uses this field; no
+-- run shows the trace, so the field `run` refuses it too.
 pub record WrongRecords : Type 0 where
   pub run : IsRight sends (receiving [] RL.Stop) [] (shows nothing_moved true (Some (NotSent 7))) → ⊥
   pub an_entry_a_move : (freed : Bool) (rest : Option (Rest ℕ))
@@ -119,7 +120,7 @@ pub record WrongRecords : Type 0 where
   pub calls_bounded : IsWrong sends (receiving (TryRecv ∷ []) RL.Drop) (twice 3 sent_then_taken)
   pub soon_answered : IsWrong drops (receiving (TryRecv ∷ RecvRef ∷ []) RL.Stop) (twice 3 tried_then_received)
 
--- and so do the fields of a run's own records
+-- the same for the fields of a run's own records
 pub record WrongRuns : Type 0 where
   -- no entry of such a run, too many entries, a block that is not freed, a message that is elsewhere
   pub tells_another_entry : (freed : Bool) (rest : Option (Rest ℕ))

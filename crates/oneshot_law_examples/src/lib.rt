@@ -57,8 +57,8 @@ pub fn examples()
     ensures wrong_polls { WrongPolls }
 {}
 
-/// The same for the records that contracts name: which worked traces and runs satisfy them, and which field
-/// refuses each damaged one.
+/// The same for the records that contracts name: which worked traces and runs satisfy them, and a damaged one for each
+/// field that they refuse.
 pub fn records()
     ensures wakers { WakersAreComputed }
     ensures right { RightRecords }

@@ -91,13 +91,13 @@ stays_there true waker = refl
 stays_there false waker = refl
 
 -- and one that is used up was in a slot that the operation leaves to the sender
-used_away : {W : Type 0} (closes finishing idle : Bool) (waker : Option W)
-    → slot_if_own (not (idle || finishing)) (if closes && finishing then None else waker)
-    ≡ slot_if_own (not (idle || finishing)) waker
+used_away : {W : Type 0} (closes finishing is_empty : Bool) (waker : Option W)
+    → slot_if_own (not (is_empty || finishing)) (if closes && finishing then None else waker)
+    ≡ slot_if_own (not (is_empty || finishing)) waker
 used_away true true true waker = refl
 used_away true true false waker = refl
-used_away true false idle waker = refl
-used_away false finishing idle waker = refl
+used_away true false is_empty waker = refl
+used_away false finishing is_empty waker = refl
 
 slot_after : {W : Type 0} (op : Op) (word : ℕ) (lying : Bool) (waker : Option W)
     → slot_if_own (keeps_waker op word lying) (waker_after op word waker)

@@ -46,7 +46,7 @@ pub fn open<T: Send + Drop, H: Send + Drop, K: Send + Drop, P: Promise<T>>(
     }
 }
 
-/// Releases both sides of a new table, of which no end was made.
+/// Releases both sides of a new table, by which no operation was performed.
 pub fn discard<T: Drop, H: Drop, K: Drop, P: Promise<T>>(
     sender: SenderSide<T, H, K, P>,
     receiver: ReceiverSide<T, H, K, P>,
