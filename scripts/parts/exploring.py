@@ -97,7 +97,7 @@ class Explorer:
         return Result(pair, written, errors.read().decode(errors="replace"), finish(auditor), ended)
 
     def explore_all(self, pairs, told, seconds=1e9, until=1e18):
-        """Goes through pairs, each for so many seconds, and begins none after `until`. IsRun each result, also those
+        """Goes through pairs, each for so many seconds, and begins none after `until`. Tells each result, also those
         of the pairs that an interrupt ends."""
         def one(pair):
             left = until - time.monotonic()
