@@ -138,7 +138,7 @@ passed_one it_passed is = cc is
 pub tables_are_of_runs : {T P : Type 0} (H K W : Type 0) (keeps : P → T → Type 0) → TablesAreOfRuns H K W keeps
 tables_are_of_runs H K W keeps m q _ _ _ opened = maker_before
 tables_are_of_runs H K W keeps m q _ _ _ dealt = dealer_before
-tables_are_of_runs {T} H K W keeps m q _ _ _ (is_run {w} {h} xs ys {given} {taken} order message waker same claim) =
+tables_are_of_runs {T} H K W keeps m q _ _ _ (runs {w} {h} xs ys {given} {taken} order message waker same claim) =
     let sent : Passes h given taken = passes keeps q given m message same in
     let run : IsOfARun sent.it xs ys w = states_run T sent.it xs ys w order in
     is_run sent.it xs ys run (slots_so sent.it run.sender run.receiver run.sends run.run order sent.only message waker)
