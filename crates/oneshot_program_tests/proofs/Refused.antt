@@ -28,5 +28,5 @@ worlds_are a b h = cc
 pub comes_back : {T : Type 0} (message : T) (error : ErrorScript) (t : TraceView T)
     → IsReplayed (sends message error) drops moves t → t.rest ≡ Some (Rest.InError message)
 comes_back message error t replayed =
-    let told = run_is 1 (opening (sends message error) drops) replayed.worlds moves t.entries replayed.tells in
+    let told = run_is 1 (opening (sends message error) drops) replayed.worlds moves t.entries replayed.is_run in
     replayed.rest ∙ rw (sym (worlds_are _ (t.entries, replayed.worlds) told)) refl
