@@ -14,7 +14,7 @@ module _ {T W : Type 0} where
       begins_fresh t (ap (λ (s : Plain T W). sender_at s.log) e ∙ at) (ap (λ (s : Plain T W). s.message) e) owns
 
 pub write_message-requires : goal.write_message-requires
-write_message-requires g c = record { slot = c.requires.1; kept = tt }
+write_message-requires g c = record { slot = c.requires.1; promise = tt }
 
 pub add-found-requires : goal.add-found-requires
 add-found-requires g c =
