@@ -22,7 +22,7 @@ use std::sync::Wait;
 /// Blocks until the sender sends or is dropped, and leaves the receiver closed.
 ///
 /// `g` is between two calls. `rt` permits blocking. `hand` has the waker with which the sender wakes the
-/// receiver; it may be empty if the receiver is closed, and is after the call if the sender took the waker.
+/// receiver; it may be empty if the receiver is closed.
 ///
 /// - `Ok`: the message.
 /// - `Err`: the sender was dropped without sending, or the receiver was closed before.

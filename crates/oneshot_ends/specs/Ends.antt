@@ -98,7 +98,7 @@ pub record TimeoutRan (T : Type 0) (timeout : Duration) (reading : Option Instan
   pub held : IsTrue has_end ↔ HasEnd timeout reading
   pub grew : ReceiverGrew T (RecvTimeout has_end) before after reply
 
--- The log of a receiver or a future between two calls is that of some calls that it has replied to.
+-- The log of a receiver or a future between two calls is that of some calls that have returned.
 abbrev pub HasCalls : (T : Type 0) → Form → List Noted → Type 0
 HasCalls T form log = (calls : List (ReceiverStart × Reply)) × ReceiverCalled T UnnamedWaker form calls log
 

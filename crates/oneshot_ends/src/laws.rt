@@ -34,7 +34,7 @@ pub fn an_error_was_refused<T, P: Promise<T>>(error: &SendError<T, P>)
     error.was_refused();
 }
 
-/// A receiver's log is that of calls that it has replied to, whatever a program did with it: it has the
+/// A receiver's log is that of calls that have returned, whatever a program did with the receiver: it has the
 /// operations of one run of each call.
 pub fn a_receiver_has_its_calls<T, Rt, P: Promise<T>>(receiver: &Receiver<T, Rt, P>)
     ensures { HasCalls T as_receiver receiver.now.log }
@@ -42,7 +42,7 @@ pub fn a_receiver_has_its_calls<T, Rt, P: Promise<T>>(receiver: &Receiver<T, Rt,
     let _ground = &receiver.ground;
 }
 
-/// A future's log is that of calls that it has replied to, first as a receiver and then as a future.
+/// A future's log is that of calls that have returned, first those of a receiver and then those of a future.
 pub fn a_future_has_its_calls<T, Rt, P: Promise<T>>(future: &AsyncReceiver<T, Rt, P>)
     ensures { HasCalls T as_future future.now.log }
 {
@@ -78,8 +78,9 @@ pub fn an_unfinished_future_took_none<T, Rt, P: Promise<T>>(future: &AsyncReceiv
 }
 
 /// The message that a receiver or a future took is the one that its channel's sender gave, at each moment that the
-/// rule of the shared table allows (`AtOneMoment`). That the sender gave a message, its `send` guarantees (`gave`);
-/// that the receiver took one, the receive that returned it (`had`).
+/// rule of the shared table allows (`AtOneMoment`). The driver of a `send` guarantees that the sender gave the message
+/// if the `send` returns `Ok` (`gave`). The driver of a receive guarantees that the receiver took the message that the
+/// receive returns (`had`).
 pub fn what_was_taken_was_given<T, P: Promise<T>>()
     ensures { TookWhatWasGiven P.keeps }
 {}

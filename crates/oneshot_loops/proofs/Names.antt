@@ -6,10 +6,10 @@ use Rattle.std.specs.Str.{bytes_eq}
 use Rattle.oneshot_loops.specs.declared.channels.Channel.{Channel}
 use Rattle.oneshot_loops.specs.declared.channels.Channel.TheVariants.{Oneshot, Futures, Crossbeam}
 use Rattle.oneshot_loops.specs.declared.channels.TheConstants.{CHANNELS}
-use Rattle.oneshot_loops.specs.declared.loops.Awaited.TheVariants.{MakeSendBlockOn, MakeSendAwait, PollPending, JoinTwo, RoundTripAwait}
+use Rattle.oneshot_loops.specs.declared.loops.Awaited.TheVariants.{MakeSendBlockOn, MakeSendAwait, PollPending, RoundTripAwait}
 use Rattle.oneshot_loops.specs.declared.loops.Loop.{Loop}
-use Rattle.oneshot_loops.specs.declared.loops.Loop.TheVariants.{MakeSendReceiveDrop, MakeDrop, MakeSendRecv, MakePollSendPoll, MakeSendReceiveDropLarge, MakeDropLarge, MakeSendRecvLarge}
-use Rattle.oneshot_loops.specs.declared.loops.Loop.TheVariants.{MakePollSendPollLarge, MakeAnswerWait, RoundTrip, Awaited}
+use Rattle.oneshot_loops.specs.declared.loops.Loop.TheVariants.{MakeSendReceiveDrop, MakeDrop, MakeSendRecv, MakePollSendPoll, MakeSendReceiveDropLarge}
+use Rattle.oneshot_loops.specs.declared.loops.Loop.TheVariants.{RoundTrip, Awaited}
 use Rattle.oneshot_loops.specs.declared.loops.TheConstants.{LOOPS}
 use Rattle.oneshot_loops.specs.Channel.{channel_name}
 use Rattle.oneshot_loops.specs.Loop.{name_of}
@@ -23,15 +23,10 @@ loop_named-name MakeDrop = refl
 loop_named-name MakeSendRecv = refl
 loop_named-name MakePollSendPoll = refl
 loop_named-name MakeSendReceiveDropLarge = refl
-loop_named-name MakeDropLarge = refl
-loop_named-name MakeSendRecvLarge = refl
-loop_named-name MakePollSendPollLarge = refl
-loop_named-name MakeAnswerWait = refl
 loop_named-name RoundTrip = refl
 loop_named-name (Awaited MakeSendBlockOn) = refl
 loop_named-name (Awaited MakeSendAwait) = refl
 loop_named-name (Awaited PollPending) = refl
-loop_named-name (Awaited JoinTwo) = refl
 loop_named-name (Awaited RoundTripAwait) = refl
 
 abbrev pub channel_named : List ℕ → Option Channel

@@ -1,16 +1,15 @@
 -- The name of each loop.
 use Rattle.std.specs.Prelude.{ℕ, List, codes}
 use Rattle.oneshot_loops.specs.declared.loops.Awaited.{Awaited as AwaitedLoop}
-use Rattle.oneshot_loops.specs.declared.loops.Awaited.TheVariants.{MakeSendBlockOn, MakeSendAwait, PollPending, JoinTwo, RoundTripAwait}
+use Rattle.oneshot_loops.specs.declared.loops.Awaited.TheVariants.{MakeSendBlockOn, MakeSendAwait, PollPending, RoundTripAwait}
 use Rattle.oneshot_loops.specs.declared.loops.Loop.{Loop}
-use Rattle.oneshot_loops.specs.declared.loops.Loop.TheVariants.{MakeSendReceiveDrop, MakeDrop, MakeSendRecv, MakePollSendPoll, MakeSendReceiveDropLarge, MakeDropLarge, MakeSendRecvLarge}
-use Rattle.oneshot_loops.specs.declared.loops.Loop.TheVariants.{MakePollSendPollLarge, MakeAnswerWait, RoundTrip, Awaited}
+use Rattle.oneshot_loops.specs.declared.loops.Loop.TheVariants.{MakeSendReceiveDrop, MakeDrop, MakeSendRecv, MakePollSendPoll, MakeSendReceiveDropLarge}
+use Rattle.oneshot_loops.specs.declared.loops.Loop.TheVariants.{RoundTrip, Awaited}
 
 abbrev pub awaited_name : AwaitedLoop → List ℕ
 awaited_name MakeSendBlockOn = codes "make_send_block_on"
 awaited_name MakeSendAwait = codes "make_send_await"
 awaited_name PollPending = codes "poll_pending"
-awaited_name JoinTwo = codes "join_two"
 awaited_name RoundTripAwait = codes "round_trip_await"
 
 abbrev pub name_of : Loop → List ℕ
@@ -19,9 +18,5 @@ name_of MakeDrop = codes "make_drop"
 name_of MakeSendRecv = codes "make_send_recv"
 name_of MakePollSendPoll = codes "make_poll_send_poll"
 name_of MakeSendReceiveDropLarge = codes "make_send_receive_drop_4096"
-name_of MakeDropLarge = codes "make_drop_4096"
-name_of MakeSendRecvLarge = codes "make_send_recv_4096"
-name_of MakePollSendPollLarge = codes "make_poll_send_poll_4096"
-name_of MakeAnswerWait = codes "make_answer_wait"
 name_of RoundTrip = codes "round_trip"
 name_of (Awaited kind) = awaited_name kind

@@ -1,4 +1,4 @@
-//! Rounds whose receivers are futures: awaited by an executor, polled while pending, or joined.
+//! Rounds whose receivers are futures: awaited by an executor, or polled while pending.
 
 ghost use Rattle.futures.specs.Task.{Keeps};
 
@@ -9,7 +9,6 @@ use crate::queues::{awaited, task_fault};
 use crate::tally::Tally;
 use futures::Future;
 use futures::executor::block_on;
-use futures::future::join;
 use futures::task::{Context, Poll, Queue};
 use oneshot_channel::async_channel;
 use std::alloc::{AllocGlobal, Global};
@@ -78,40 +77,6 @@ impl PolledRound for PollPending {
         if sender.send(self.message).is_err() || !matches!(receiver.poll(cx), Poll::Ready(Ok(_))) {
             return Err(Fault::MessageLost);
         }
-        tally.polled();
-        Ok(())
-    }
-}
-
-/// A round that makes two channels, polls a join of their receivers, sends over both, and polls again.
-#[derive(Drop)]
-pub struct JoinTwo {
-    alloc: Global,
-    message: u64,
-}
-
-impl JoinTwo {
-    /// A round that sends `message`.
-    pub fn new(alloc: Global, message: u64) -> JoinTwo {
-        JoinTwo { alloc, message }
-    }
-}
-
-impl PolledRound for JoinTwo {
-    fn make(&self, cx: &mut Context<'_>, tally: &mut Tally) -> Result<(), Fault> {
-        let (first, one) = async_channel::<u64, ()>((), self.alloc)?;
-        tally.made(u64::BYTES);
-        let (second, two) = async_channel::<u64, ()>((), self.alloc)?;
-        tally.made(u64::BYTES);
-        let mut both = join(one, two);
-        pend(&mut both, 1, cx, tally)?;
-        if first.send(self.message).is_err() || second.send(self.message).is_err() {
-            return Err(Fault::MessageLost);
-        }
-        let Poll::Ready((Ok(_), Ok(_))) = both.poll(cx) else {
-            return Err(Fault::MessageLost);
-        };
-        tally.polled();
         tally.polled();
         Ok(())
     }

@@ -13,8 +13,7 @@ use crate::loops::Loop;
 pub const USAGE: &str =
     "usage: oneshot_bench [CHANNEL] LOOP COUNT, where CHANNEL is one of oneshot, futures, crossbeam, and LOOP is one \
      of make_send_receive_drop, make_drop, make_send_recv, make_poll_send_poll, make_send_receive_drop_4096, \
-     make_drop_4096, make_send_recv_4096, make_poll_send_poll_4096, make_answer_wait, round_trip, \
-     make_send_block_on, make_send_await, poll_pending, join_two, round_trip_await";
+     round_trip, make_send_block_on, make_send_await, poll_pending, round_trip_await";
 
 /// What the program is to do.
 #[derive(Clone, Copy, Debug, PartialEq, Eq)]

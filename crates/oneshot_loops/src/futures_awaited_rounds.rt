@@ -10,7 +10,6 @@ use crate::tally::Tally;
 use futures::Future;
 use futures::channel::oneshot::channel;
 use futures::executor::block_on;
-use futures::future::join;
 use futures::task::{Context, Poll, Queue};
 use std::alloc::{AllocGlobal, Global};
 use std::random::RandomSource;
@@ -76,40 +75,6 @@ impl PolledRound for PollPending {
         if sender.send(self.message).is_err() || !matches!(receiver.poll(cx), Poll::Ready(Ok(_))) {
             return Err(Fault::MessageLost);
         }
-        tally.polled();
-        Ok(())
-    }
-}
-
-/// As `awaited_rounds::JoinTwo`.
-#[derive(Drop)]
-pub struct JoinTwo {
-    alloc: Global,
-    message: u64,
-}
-
-impl JoinTwo {
-    /// A round that sends `message`.
-    pub fn new(alloc: Global, message: u64) -> JoinTwo {
-        JoinTwo { alloc, message }
-    }
-}
-
-impl PolledRound for JoinTwo {
-    fn make(&self, cx: &mut Context<'_>, tally: &mut Tally) -> Result<(), Fault> {
-        let (first, one) = channel::<u64>(self.alloc)?;
-        tally.made(u64::BYTES);
-        let (second, two) = channel::<u64>(self.alloc)?;
-        tally.made(u64::BYTES);
-        let mut both = join(one, two);
-        pend(&mut both, 1, cx, tally)?;
-        if first.send(self.message).is_err() || second.send(self.message).is_err() {
-            return Err(Fault::MessageLost);
-        }
-        let Poll::Ready((Ok(_), Ok(_))) = both.poll(cx) else {
-            return Err(Fault::MessageLost);
-        };
-        tally.polled();
         tally.polled();
         Ok(())
     }

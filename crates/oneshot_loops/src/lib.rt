@@ -22,4 +22,3 @@ pub mod round_trip;
 pub mod rounds;
 pub mod run;
 pub mod tally;
-pub mod ticket_rounds;

@@ -20,14 +20,6 @@ pub enum Loop {
     MakePollSendPoll,
     /// `MakeSendReceiveDrop` with 4,096 bytes.
     MakeSendReceiveDropLarge,
-    /// `MakeDrop` with room for 4,096 bytes.
-    MakeDropLarge,
-    /// `MakeSendRecv` with 4,096 bytes.
-    MakeSendRecvLarge,
-    /// `MakePollSendPoll` with 4,096 bytes.
-    MakePollSendPollLarge,
-    /// Makes a request, answers it with 8 bytes, and receives them by its ticket's `wait`.
-    MakeAnswerWait,
     /// Sends a request to another thread, and blocks until the reply comes: two channels.
     RoundTrip,
     /// A loop whose receivers are futures.
@@ -43,28 +35,21 @@ pub enum Awaited {
     MakeSendAwait,
     /// Polls a pending receiver, which all rounds share.
     PollPending,
-    /// Polls a join of two receivers, sends 8 bytes over both channels, and polls again.
-    JoinTwo,
     /// As `Loop::RoundTrip`, but each thread awaits in a queue that it keeps.
     RoundTripAwait,
 }
 
 /// Every loop.
-const LOOPS: [Loop; 15] = [
+const LOOPS: [Loop; 10] = [
     Loop::MakeSendReceiveDrop,
     Loop::MakeDrop,
     Loop::MakeSendRecv,
     Loop::MakePollSendPoll,
     Loop::MakeSendReceiveDropLarge,
-    Loop::MakeDropLarge,
-    Loop::MakeSendRecvLarge,
-    Loop::MakePollSendPollLarge,
-    Loop::MakeAnswerWait,
     Loop::RoundTrip,
     Loop::Awaited(Awaited::MakeSendBlockOn),
     Loop::Awaited(Awaited::MakeSendAwait),
     Loop::Awaited(Awaited::PollPending),
-    Loop::Awaited(Awaited::JoinTwo),
     Loop::Awaited(Awaited::RoundTripAwait),
 ];
 
@@ -79,10 +64,6 @@ impl Loop {
             Loop::MakeSendRecv => "make_send_recv",
             Loop::MakePollSendPoll => "make_poll_send_poll",
             Loop::MakeSendReceiveDropLarge => "make_send_receive_drop_4096",
-            Loop::MakeDropLarge => "make_drop_4096",
-            Loop::MakeSendRecvLarge => "make_send_recv_4096",
-            Loop::MakePollSendPollLarge => "make_poll_send_poll_4096",
-            Loop::MakeAnswerWait => "make_answer_wait",
             Loop::RoundTrip => "round_trip",
             Loop::Awaited(kind) => kind.name(),
         }
@@ -112,7 +93,6 @@ impl Awaited {
             Awaited::MakeSendBlockOn => "make_send_block_on",
             Awaited::MakeSendAwait => "make_send_await",
             Awaited::PollPending => "poll_pending",
-            Awaited::JoinTwo => "join_two",
             Awaited::RoundTripAwait => "round_trip_await",
         }
     }

@@ -97,25 +97,19 @@ pub fn make_poll_send_poll<T: Message + Send + Drop>(
 
 /// `make_poll_send_poll` as a round of a task.
 #[derive(Drop)]
-pub struct MakePollSendPoll<T> {
+pub struct MakePollSendPoll {
     alloc: Global,
-    message: T,
+    message: u64,
 }
 
-impl<T> MakePollSendPoll<T> {
+impl MakePollSendPoll {
     /// A round that sends `message`.
-    pub fn new(alloc: Global, message: T) -> MakePollSendPoll<T> {
+    pub fn new(alloc: Global, message: u64) -> MakePollSendPoll {
         MakePollSendPoll { alloc, message }
     }
 }
 
-impl PolledRound for MakePollSendPoll<u64> {
-    fn make(&self, cx: &mut Context<'_>, tally: &mut Tally) -> Result<(), Fault> {
-        make_poll_send_poll(self.alloc, self.message, cx, tally)
-    }
-}
-
-impl PolledRound for MakePollSendPoll<[u8; 4096]> {
+impl PolledRound for MakePollSendPoll {
     fn make(&self, cx: &mut Context<'_>, tally: &mut Tally) -> Result<(), Fault> {
         make_poll_send_poll(self.alloc, self.message, cx, tally)
     }

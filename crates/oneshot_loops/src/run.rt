@@ -9,7 +9,7 @@ use crate::rounds::repeat;
 use crate::tally::Tally;
 use crate::{
     awaited_rounds, awaited_trips, crossbeam_rounds, crossbeam_trips, futures_awaited_rounds,
-    futures_rounds, futures_trips, round_trip, rounds, ticket_rounds,
+    futures_rounds, futures_trips, round_trip, rounds,
 };
 use std::alloc::AllocGlobal;
 use std::random::RandomSource;
@@ -66,17 +66,6 @@ fn run_oneshot<R: AllocGlobal + RandomSource + Threads + Wait + Clock + Sync>(
         Loop::MakeSendReceiveDropLarge => repeat(count, || {
             rounds::make_send_receive_drop(alloc, large(), tally)
         }),
-        Loop::MakeDropLarge => repeat(count, || { rounds::make_drop::<[u8; 4096]>(alloc, tally) }),
-        Loop::MakeSendRecvLarge => repeat(count, || {
-            rounds::make_send_recv(rt, alloc, large(), tally)
-        }),
-        Loop::MakePollSendPollLarge => {
-            let round = rounds::MakePollSendPoll::new(alloc, large());
-            repeat_in_task(rt, count, round, tally)
-        }
-        Loop::MakeAnswerWait => repeat(count, || {
-            ticket_rounds::make_answer_wait(rt, alloc, SMALL, tally)
-        }),
         Loop::RoundTrip => round_trip::round_trips(rt, alloc, count, tally).map(|_| ()),
         Loop::Awaited(kind) => run_oneshot_awaited(rt, kind, count, tally),
     }
@@ -103,15 +92,6 @@ fn run_futures<R: AllocGlobal + RandomSource + Threads + Wait + Sync>(
         Loop::MakeSendReceiveDropLarge => repeat(count, || {
             futures_rounds::make_send_receive_drop(alloc, large(), tally)
         }),
-        Loop::MakeDropLarge => repeat(count, || {
-            futures_rounds::make_drop::<[u8; 4096]>(alloc, tally)
-        }),
-        Loop::MakeSendRecvLarge => Err(Fault::CannotRun),
-        Loop::MakePollSendPollLarge => {
-            let round = futures_rounds::MakePollSendPoll::new(alloc, large());
-            repeat_in_task(rt, count, round, tally)
-        }
-        Loop::MakeAnswerWait => Err(Fault::CannotRun),
         Loop::RoundTrip => Err(Fault::CannotRun),
         Loop::Awaited(kind) => run_futures_awaited(rt, kind, count, tally),
     }
@@ -139,14 +119,6 @@ fn run_crossbeam<R: AllocGlobal + Threads + Wait + Sync>(
         Loop::MakeSendReceiveDropLarge => repeat(count, || {
             crossbeam_rounds::make_send_receive_drop(rt, alloc, large(), tally)
         }),
-        Loop::MakeDropLarge => repeat(count, || {
-            crossbeam_rounds::make_drop::<[u8; 4096]>(alloc, tally)
-        }),
-        Loop::MakeSendRecvLarge => repeat(count, || {
-            crossbeam_rounds::make_send_recv(rt, alloc, large(), tally)
-        }),
-        Loop::MakePollSendPollLarge => Err(Fault::CannotRun),
-        Loop::MakeAnswerWait => Err(Fault::CannotRun),
         Loop::RoundTrip => crossbeam_trips::round_trips(rt, alloc, count, tally).map(|_| ()),
         Loop::Awaited(_) => Err(Fault::CannotRun),
     }
@@ -174,10 +146,6 @@ fn run_oneshot_awaited<R: AllocGlobal + RandomSource + Threads + Wait + Sync>(
             let round = awaited_rounds::PollPending::new(alloc, count, SMALL);
             repeat_in_task(rt, 1, round, tally)
         }
-        Awaited::JoinTwo => {
-            let round = awaited_rounds::JoinTwo::new(alloc, SMALL);
-            repeat_in_task(rt, count, round, tally)
-        }
         Awaited::RoundTripAwait => awaited_trips::round_trips(rt, alloc, count, tally).map(|_| ()),
     }
 }
@@ -203,10 +171,6 @@ fn run_futures_awaited<R: AllocGlobal + RandomSource + Threads + Wait + Sync>(
         Awaited::PollPending => {
             let round = futures_awaited_rounds::PollPending::new(alloc, count, SMALL);
             repeat_in_task(rt, 1, round, tally)
-        }
-        Awaited::JoinTwo => {
-            let round = futures_awaited_rounds::JoinTwo::new(alloc, SMALL);
-            repeat_in_task(rt, count, round, tally)
         }
         Awaited::RoundTripAwait => futures_trips::round_trips(rt, alloc, count, tally).map(|_| ()),
     }

@@ -9,7 +9,7 @@ pub struct Tally {
     pub room: u64,
     /// How many messages were received by `try_recv`.
     pub tried: u64,
-    /// How many were received by `recv` or a ticket's `wait`.
+    /// How many were received by `recv`.
     pub waited: u64,
     /// How many polls found no message yet.
     pub pended: u64,
@@ -41,7 +41,7 @@ impl Tally {
         self.tried = self.tried.wrapping_add(1);
     }
 
-    /// Counts a message received by `recv`, or by another call that blocks.
+    /// Counts a message received by `recv`.
     pub fn waited(&mut self) {
         self.waited = self.waited.wrapping_add(1);
     }

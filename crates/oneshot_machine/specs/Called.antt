@@ -34,8 +34,8 @@ ends SC.Drop = true
 ends _ = false
 
 module _ (T W : Type 0) where
-  -- A receiver that has replied to these calls has this log: for each call, the operations of one run of its
-  -- table that ends in the reply. `into_future` has no operation.
+  -- A receiver of which these calls have returned, each with its reply, has this log: for each call, the operations
+  -- of one run of its table that ends in the reply. `into_future` has no operation.
   pub data ReceiverCalled : Form → List (ReceiverStart × Reply) → List Noted → Type 0 where
     not_called : ReceiverCalled as_receiver [] []
     called : {form : Form} {calls : List (ReceiverStart × Reply)} {log : List Noted}

@@ -16,7 +16,7 @@ fn parsed(alloc: Global, words: &[&str]) -> Result<Option<Command>, AllocError> 
     Ok(parse_command(owned.as_slice()))
 }
 
-const NAMES: &[(&str, Loop); 15] = &[
+const NAMES: &[(&str, Loop); 10] = &[
     ("make_send_receive_drop", Loop::MakeSendReceiveDrop),
     ("make_drop", Loop::MakeDrop),
     ("make_send_recv", Loop::MakeSendRecv),
@@ -25,10 +25,6 @@ const NAMES: &[(&str, Loop); 15] = &[
         "make_send_receive_drop_4096",
         Loop::MakeSendReceiveDropLarge,
     ),
-    ("make_drop_4096", Loop::MakeDropLarge),
-    ("make_send_recv_4096", Loop::MakeSendRecvLarge),
-    ("make_poll_send_poll_4096", Loop::MakePollSendPollLarge),
-    ("make_answer_wait", Loop::MakeAnswerWait),
     ("round_trip", Loop::RoundTrip),
     (
         "make_send_block_on",
@@ -36,7 +32,6 @@ const NAMES: &[(&str, Loop); 15] = &[
     ),
     ("make_send_await", Loop::Awaited(Awaited::MakeSendAwait)),
     ("poll_pending", Loop::Awaited(Awaited::PollPending)),
-    ("join_two", Loop::Awaited(Awaited::JoinTwo)),
     ("round_trip_await", Loop::Awaited(Awaited::RoundTripAwait)),
 ];
 

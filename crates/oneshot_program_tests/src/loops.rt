@@ -82,17 +82,9 @@ const OF_FUTURES: [Channel; 2] = [Channel::Oneshot, Channel::Futures];
 
 #[test]
 fn each_awaited_loop_makes_its_rounds(rt: HostRuntime) -> Result<(), Fail> {
-    let joined = Tally {
-        channels: 2,
-        room: 16,
-        pended: 1,
-        polled: 2,
-        ..Tally::new()
-    };
     let kinds = [
         (Awaited::MakeSendBlockOn, awaited(8)),
         (Awaited::MakeSendAwait, awaited(8)),
-        (Awaited::JoinTwo, joined),
     ];
     for channel in OF_FUTURES {
         for (kind, round) in kinds {
@@ -198,7 +190,7 @@ impl Round {
 }
 
 /// The loops of each channel, what a round does, and the bytes of its message.
-const LOOPS: &[(Channel, Loop, Round, u64); 21] = &[
+const LOOPS: &[(Channel, Loop, Round, u64); 13] = &[
     (Channel::Oneshot, Loop::MakeSendReceiveDrop, Round::Tried, 8),
     (Channel::Oneshot, Loop::MakeDrop, Round::Made, 8),
     (Channel::Oneshot, Loop::MakeSendRecv, Round::Waited, 8),
@@ -209,20 +201,6 @@ const LOOPS: &[(Channel, Loop, Round, u64); 21] = &[
         Round::Tried,
         4096,
     ),
-    (Channel::Oneshot, Loop::MakeDropLarge, Round::Made, 4096),
-    (
-        Channel::Oneshot,
-        Loop::MakeSendRecvLarge,
-        Round::Waited,
-        4096,
-    ),
-    (
-        Channel::Oneshot,
-        Loop::MakePollSendPollLarge,
-        Round::Polled,
-        4096,
-    ),
-    (Channel::Oneshot, Loop::MakeAnswerWait, Round::Waited, 8),
     (Channel::Futures, Loop::MakeSendReceiveDrop, Round::Tried, 8),
     (Channel::Futures, Loop::MakeDrop, Round::Made, 8),
     (Channel::Futures, Loop::MakePollSendPoll, Round::Polled, 8),
@@ -230,13 +208,6 @@ const LOOPS: &[(Channel, Loop, Round, u64); 21] = &[
         Channel::Futures,
         Loop::MakeSendReceiveDropLarge,
         Round::Tried,
-        4096,
-    ),
-    (Channel::Futures, Loop::MakeDropLarge, Round::Made, 4096),
-    (
-        Channel::Futures,
-        Loop::MakePollSendPollLarge,
-        Round::Polled,
         4096,
     ),
     (
@@ -251,13 +222,6 @@ const LOOPS: &[(Channel, Loop, Round, u64); 21] = &[
         Channel::Crossbeam,
         Loop::MakeSendReceiveDropLarge,
         Round::Tried,
-        4096,
-    ),
-    (Channel::Crossbeam, Loop::MakeDropLarge, Round::Made, 4096),
-    (
-        Channel::Crossbeam,
-        Loop::MakeSendRecvLarge,
-        Round::Waited,
         4096,
     ),
 ];
@@ -277,14 +241,10 @@ fn each_loop_makes_its_rounds(rt: HostRuntime) -> Result<(), Fail> {
     Ok(())
 }
 
-const REFUSED: &[(Channel, Loop); 9] = &[
+const REFUSED: &[(Channel, Loop); 5] = &[
     (Channel::Futures, Loop::MakeSendRecv),
-    (Channel::Futures, Loop::MakeSendRecvLarge),
-    (Channel::Futures, Loop::MakeAnswerWait),
     (Channel::Futures, Loop::RoundTrip),
     (Channel::Crossbeam, Loop::MakePollSendPoll),
-    (Channel::Crossbeam, Loop::MakePollSendPollLarge),
-    (Channel::Crossbeam, Loop::MakeAnswerWait),
     (Channel::Crossbeam, Loop::Awaited(Awaited::MakeSendBlockOn)),
     (Channel::Crossbeam, Loop::Awaited(Awaited::RoundTripAwait)),
 ];

@@ -20,7 +20,7 @@ pub fn a_request_has_made_none<Q: Eq, A: Answer<Q>>(request: &Request<Q, A>)
     a_sender_has_made_none(&request.reply);
 }
 
-/// A ticket's log is that of calls that it has replied to, whatever a program did with it.
+/// A ticket's log is that of calls that have returned, whatever a program did with the ticket.
 pub fn a_ticket_has_its_calls<Q: Eq, A: Answer<Q>, Rt>(ticket: &Ticket<Q, A, Rt>)
     ensures { HasCalls A as_receiver ticket.now.log }
 {

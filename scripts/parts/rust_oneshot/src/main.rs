@@ -91,10 +91,7 @@ fn main() {
         "make_send_receive_drop" => make_send_receive_drop(count, 7u64),
         "make_send_recv" => make_send_recv(count, 7u64),
         "make_poll_send_poll" => make_poll_send_poll(count, 7u64),
-        "make_drop_4096" => make_drop::<[u8; 4096]>(count),
         "make_send_receive_drop_4096" => make_send_receive_drop(count, LARGE),
-        "make_send_recv_4096" => make_send_recv(count, LARGE),
-        "make_poll_send_poll_4096" => make_poll_send_poll(count, LARGE),
         "round_trip" => round_trip(count),
         _ => panic!("no such loop: {kind}"),
     }
