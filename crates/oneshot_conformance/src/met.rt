@@ -56,39 +56,60 @@ pub(crate) fn find_missed(
     scripts: &Scripts,
     met: &BTreeSet<u64>,
 ) -> Result<Missed, Differs> {
-    let mut told = Missed {
-        orders: 0,
-        missed: 0,
-        first: None,
-        is_whole: false,
-    };
+    let mut told = Missed::none();
     let mut seen = BTreeSet::new(alloc);
     let mut choices = Vec::new(alloc);
-    let kinds = if scripts.may_refuse() {
-        CHOICES.len()
-    } else {
-        CHOICES.len() - 1
-    };
-    let mut is_cut = false;
     for _ in 0..MOST_RUNS {
-        match make_run(alloc, scripts, &mut choices)? {
-            Run::Ended(run) => {
-                if seen.insert(run.digest())? {
-                    told.count(alloc, &run, met)?;
-                }
-            }
-            Run::Refused => {}
-            Run::Cut => is_cut = true,
-        }
-        if !next_choices(&mut choices, kinds)? {
-            told.is_whole = !is_cut;
+        let run = make_run(alloc, scripts, &mut choices)?;
+        told.take_up(alloc, &run, &mut seen, met)?;
+        if !next_choices(&mut choices, choices_of(scripts))? {
             return Ok(told);
         }
     }
+    told.is_whole = false;
     Ok(told)
 }
 
+/// How many choices there are at each point of a run.
+fn choices_of(scripts: &Scripts) -> usize {
+    if scripts.may_refuse() {
+        CHOICES.len()
+    } else {
+        CHOICES.len() - 1
+    }
+}
+
 impl Missed {
+    /// Before the first run.
+    fn none() -> Missed {
+        Missed {
+            orders: 0,
+            missed: 0,
+            first: None,
+            is_whole: true,
+        }
+    }
+
+    /// Counts the order of a run, unless it was seen before.
+    fn take_up(
+        &mut self,
+        alloc: Global,
+        run: &Run,
+        seen: &mut BTreeSet<u64>,
+        met: &BTreeSet<u64>,
+    ) -> Result<(), AllocError> {
+        match run {
+            Run::Ended(run) => {
+                if seen.insert(run.digest())? {
+                    self.count(alloc, run, met)?;
+                }
+            }
+            Run::Refused => {}
+            Run::Cut => self.is_whole = false,
+        }
+        Ok(())
+    }
+
     fn count(&mut self, alloc: Global, run: &Model, met: &BTreeSet<u64>) -> Result<(), AllocError> {
         self.orders = self.orders.saturating_add(1);
         if met.contains(&run.digest()) {
@@ -105,24 +126,34 @@ impl Missed {
 /// Makes a run by these choices, and where they end by the first ones. The last is the one that ends the run early.
 fn make_run(alloc: Global, scripts: &Scripts, choices: &mut Vec<usize>) -> Result<Run, Differs> {
     let mut run = scripts.begin(alloc)?;
+    Ok(match go_by(&mut run, choices)? {
+        Went::On => Run::Ended(run),
+        Went::Nowhere => Run::Refused,
+        Went::TooFar => Run::Cut,
+    })
+}
+
+/// Makes the steps of all choices, until both ends have made their calls.
+fn go_by(run: &mut Model, choices: &mut Vec<usize>) -> Result<Went, Differs> {
     for at in 0..MOST_CHOICES {
         if !run.has_call(End::Sender) && !run.has_call(End::Receiver) {
-            return Ok(Run::Ended(run));
+            return Ok(Went::On);
         }
-        let chosen = match choices.get(at) {
-            Some(chosen) => *chosen,
-            None => {
-                choices.push(0)?;
-                0
-            }
-        };
-        match go(&mut run, chosen)? {
+        match go(run, choice_at(choices, at)?)? {
             Went::On => {}
-            Went::Nowhere => return Ok(Run::Refused),
-            Went::TooFar => return Ok(Run::Cut),
+            ended => return Ok(ended),
         }
     }
-    Ok(Run::Cut)
+    Ok(Went::TooFar)
+}
+
+/// The choice at this place. Where the choices end, it is the first one, which then joins them.
+fn choice_at(choices: &mut Vec<usize>, at: usize) -> Result<usize, AllocError> {
+    if let Some(chosen) = choices.get(at) {
+        return Ok(*chosen);
+    }
+    choices.push(0)?;
+    Ok(0)
 }
 
 /// Makes the steps of a choice, up to one that a word reports.
