@@ -24,8 +24,7 @@ fn a_message_is_awaited(rt: HostRuntime) -> Result<(), Fail> {
         || awaited(&rt, receiver),
         || sender.send(19u64).is_ok(),
     );
-    assert_eq!(rt; received?, Ok(19));
-    assert!(rt; sent);
+    assert_eq!(rt; (received?, sent), (Ok(19), true));
     Ok(())
 }
 

@@ -46,8 +46,7 @@ fn a_message_is_awaited(rt: HostRuntime) -> Result<(), Fail> {
         || block_on(&rt, receiver),
         || sender.send(19u64).is_ok(),
     );
-    assert_eq!(rt; received?, Ok(19));
-    assert!(rt; sent);
+    assert_eq!(rt; (received?, sent), (Ok(19), true));
     Ok(())
 }
 
@@ -55,12 +54,12 @@ fn a_message_is_awaited(rt: HostRuntime) -> Result<(), Fail> {
 fn a_message_is_polled_by_hand(rt: HostRuntime) -> Result<(), Fail> {
     let task = MockTask::new(&rt)?;
     let (sender, mut receiver) = async_channel((), rt.alloc())?;
-    assert_eq!(rt; task.poll(&mut receiver), Poll::Pending);
-    assert_eq!(rt; receiver.try_recv(), Err(TryRecvError::Empty));
-    assert!(rt; !task.is_woken());
-    assert!(rt; sender.send(19u64).is_ok());
-    assert!(rt; task.is_woken());
-    assert_eq!(rt; task.poll(&mut receiver), Poll::Ready(Ok(19)));
-    assert_eq!(rt; task.poll(&mut receiver), Poll::Ready(Err(RecvError)));
+    let early = (task.poll(&mut receiver), receiver.try_recv());
+    let before = task.is_woken();
+    let sent = (sender.send(19u64).is_ok(), task.is_woken());
+    let empty = (Poll::Pending, Err(TryRecvError::Empty));
+    assert_eq!(rt; (early, before, sent), (empty, false, (true, true)));
+    let late = (task.poll(&mut receiver), task.poll(&mut receiver));
+    assert_eq!(rt; late, (Poll::Ready(Ok(19)), Poll::Ready(Err(RecvError))));
     Ok(())
 }

@@ -51,11 +51,13 @@ impl<T: Drop> Inbox<T> {
 #[test]
 fn an_inbox_gives_its_message_once(rt: HostRuntime) -> Result<(), Fail> {
     let (sender, mut inbox) = Inbox::new(rt.alloc())?;
-    assert_eq!(rt; inbox.look(), None);
-    assert!(rt; !inbox.done);
-    assert!(rt; sender.send(19u64).is_ok());
-    assert_eq!(rt; inbox.look(), Some(19));
-    assert!(rt; inbox.done);
-    assert_eq!(rt; inbox.look(), None);
+    let early = (inbox.look(), inbox.done);
+    let sent = sender.send(19u64).is_ok();
+    let late = (inbox.look(), inbox.done);
+    let again = inbox.look();
+    assert_eq!(rt;
+        (early, sent, late, again),
+        ((None, false), true, (Some(19), true), None)
+    );
     Ok(())
 }

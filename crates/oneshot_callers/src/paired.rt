@@ -57,18 +57,21 @@ fn tried<T: Drop, Rt: Drop, P: Promise<T>>(
 #[test]
 fn both_ends_are_about_one_length(rt: HostRuntime) -> Result<(), Fail> {
     let (sender, mut receiver) = channel_for((), rt.alloc(), &Below(3))?;
-    assert_eq!(rt; left_by(sender, &mut receiver), None);
+    let received = left_by(sender, &mut receiver);
     let (sender, mut future) = async_channel_for((), rt.alloc(), &Below(3))?;
-    assert_eq!(rt; left_to_a_future(sender, &mut future), None);
+    let taken = left_to_a_future(sender, &mut future);
+    assert_eq!(rt; (received, taken), (None, None));
     Ok(())
 }
 
 #[test]
 fn a_future_takes_its_message_once(rt: HostRuntime) -> Result<(), Fail> {
     let (sender, mut future) = async_channel::<u8, ()>((), rt.alloc())?;
-    assert_eq!(rt; tried(&mut future), Err(TryRecvError::Empty));
-    assert_eq!(rt; sender.send(7).is_ok(), true);
-    assert_eq!(rt; tried(&mut future), Ok(7));
-    assert_eq!(rt; tried(&mut future), Err(TryRecvError::Disconnected));
+    let early = tried(&mut future);
+    let sent = sender.send(7).is_ok();
+    let late = (tried(&mut future), tried(&mut future));
+    let empty = Err(TryRecvError::Empty);
+    let closed = Err(TryRecvError::Disconnected);
+    assert_eq!(rt; (early, sent, late), (empty, true, (Ok(7), closed)));
     Ok(())
 }

@@ -23,9 +23,10 @@ fn index_of<Rt: Drop>(receiver: &mut Receiver<usize, Rt, Below>) -> Option<usize
 #[test]
 fn an_index_is_below_its_length(rt: HostRuntime) -> Result<(), Fail> {
     let (sender, mut receiver) = channel_for((), rt.alloc(), &Below(3))?;
-    assert_eq!(rt; index_of(&mut receiver), None);
-    assert!(rt; sender.send_kept(2).is_ok());
-    assert_eq!(rt; index_of(&mut receiver), Some(2));
-    assert_eq!(rt; receiver.try_recv(), Err(TryRecvError::Disconnected));
+    let early = index_of(&mut receiver);
+    let sent = sender.send_kept(2).is_ok();
+    let late = (index_of(&mut receiver), receiver.try_recv());
+    let closed = Err(TryRecvError::Disconnected);
+    assert_eq!(rt; (early, sent, late), (None, true, (Some(2), closed)));
     Ok(())
 }

@@ -92,29 +92,30 @@ fn a_message_is_kept_if_the_receiver_is_gone(rt: HostRuntime) -> Result<(), Fail
 #[test]
 fn a_message_that_was_sent_is_not_kept(rt: HostRuntime) -> Result<(), Fail> {
     let (sender, receiver) = channel(&rt, rt.alloc())?;
-    assert_eq!(rt; send_or_keep(sender, 19), None);
-    assert_eq!(rt; receiver.recv(), Ok(19));
+    let kept = send_or_keep(sender, 19);
+    assert_eq!(rt; (kept, receiver.recv()), (None, Ok(19)));
     Ok(())
 }
 
 #[test]
 fn a_poll_is_made_again_while_the_channel_is_open(rt: HostRuntime) -> Result<(), Fail> {
     let (sender, mut receiver) = channel::<u64, ()>((), rt.alloc())?;
-    assert_eq!(rt; poll(&mut receiver), Ok(None));
-    assert!(rt; sender.send(19).is_ok());
-    assert_eq!(rt; poll(&mut receiver), Ok(Some(19)));
-    assert_eq!(rt; poll(&mut receiver), Err(RecvError));
+    let early = poll(&mut receiver);
+    let sent = sender.send(19).is_ok();
+    let late = (poll(&mut receiver), poll(&mut receiver));
+    assert_eq!(rt;
+        (early, sent, late),
+        (Ok(None), true, (Ok(Some(19)), Err(RecvError)))
+    );
     Ok(())
 }
 
 #[test]
 fn no_second_message_comes(rt: HostRuntime) -> Result<(), Fail> {
     let (sender, mut receiver) = channel(&rt, rt.alloc())?;
-    assert!(rt; sender.send(19u64).is_ok());
-    assert_eq!(rt;
-        twice(&mut receiver),
-        (Ok(19), Err(TryRecvError::Disconnected))
-    );
+    let sent = sender.send(19u64).is_ok();
+    let closed = Err(TryRecvError::Disconnected);
+    assert_eq!(rt; (sent, twice(&mut receiver)), (true, (Ok(19), closed)));
     assert_eq!(rt; receiver.recv(), Err(RecvError));
     Ok(())
 }
@@ -136,9 +137,9 @@ fn a_receiver_blocks_on_after_its_deadline(rt: HostRuntime) -> Result<(), Fail> 
 #[test]
 fn a_receiver_that_received_ends_with_an_error(rt: HostRuntime) -> Result<(), Fail> {
     let (sender, mut receiver) = channel(&rt, rt.alloc())?;
-    assert!(rt; sender.send(19u64).is_ok());
+    let sent = sender.send(19u64).is_ok();
     let first = receiver.recv_timeout(Duration::from_secs(60));
-    assert_eq!(rt; first, Ok(19));
+    assert_eq!(rt; (sent, first), (true, Ok(19)));
     if first.is_ok() {
         assert_eq!(rt; received_before(receiver), Err(RecvError));
     }
@@ -148,8 +149,8 @@ fn a_receiver_that_received_ends_with_an_error(rt: HostRuntime) -> Result<(), Fa
 #[test]
 fn an_opaque_receiver_that_received_ends_with_an_error(rt: HostRuntime) -> Result<(), Fail> {
     let (sender, mut receiver) = channel(&rt, rt.alloc())?;
-    assert!(rt; sender.send(19u64).is_ok());
-    assert_eq!(rt; receiver.recv_ref(), Ok(19));
+    let sent = sender.send(19u64).is_ok();
+    assert_eq!(rt; (sent, receiver.recv_ref()), (true, Ok(19)));
     assert_eq!(rt; opaque_received_before(receiver.into_raw()), Err(RecvError));
     Ok(())
 }

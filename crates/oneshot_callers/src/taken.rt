@@ -23,9 +23,11 @@ fn tried<T: Drop, Rt: Drop, P: Promise<T>>(
 #[test]
 fn a_message_is_taken_once(rt: HostRuntime) -> Result<(), Fail> {
     let (sender, mut receiver) = channel::<u8, ()>((), rt.alloc())?;
-    assert_eq!(rt; tried(&mut receiver), Err(TryRecvError::Empty));
-    assert_eq!(rt; sender.send(7).is_ok(), true);
-    assert_eq!(rt; tried(&mut receiver), Ok(7));
-    assert_eq!(rt; tried(&mut receiver), Err(TryRecvError::Disconnected));
+    let early = tried(&mut receiver);
+    let sent = sender.send(7).is_ok();
+    let late = (tried(&mut receiver), tried(&mut receiver));
+    let empty = Err(TryRecvError::Empty);
+    let closed = Err(TryRecvError::Disconnected);
+    assert_eq!(rt; (early, sent, late), (empty, true, (Ok(7), closed)));
     Ok(())
 }

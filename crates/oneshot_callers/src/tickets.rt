@@ -95,9 +95,9 @@ where
 fn both_replies_come(rt: HostRuntime) -> Result<(), Fail> {
     let (few, first) = request((), rt.alloc(), 7u32).map_err(|_| AllocError)?;
     let (many, second) = request((), rt.alloc(), 11u32).map_err(|_| AllocError)?;
-    assert!(rt; serve(many));
-    assert!(rt; serve(few));
-    assert_eq!(rt; both_replies(&rt, first, second)?, Some((7, 10)));
+    let served = (serve(many), serve(few));
+    let given = both_replies(&rt, first, second)?;
+    assert_eq!(rt; (served, given), ((true, true), Some((7, 10))));
     Ok(())
 }
 
@@ -105,8 +105,8 @@ fn both_replies_come(rt: HostRuntime) -> Result<(), Fail> {
 fn one_reply_comes_first(rt: HostRuntime) -> Result<(), Fail> {
     let (unserved, first) = request((), rt.alloc(), 7u32).map_err(|_| AllocError)?;
     let (served, second) = request((), rt.alloc(), 7u32).map_err(|_| AllocError)?;
-    assert!(rt; serve(served));
-    assert_eq!(rt; first_reply(&rt, first, second)?, Some(7));
-    assert!(rt; !serve(unserved));
+    let in_time = serve(served);
+    let given = first_reply(&rt, first, second)?;
+    assert_eq!(rt; (in_time, given, serve(unserved)), (true, Some(7), false));
     Ok(())
 }

@@ -43,8 +43,9 @@ fn at_once_or_awaited<R: Wait + RandomSource + AllocGlobal, T: Drop, Rt: Drop>(
 #[test]
 fn a_message_that_is_there_is_received_at_once(rt: HostRuntime) -> Result<(), Fail> {
     let (sender, receiver) = async_channel(&rt, rt.alloc())?;
-    assert!(rt; sender.send(19u64).is_ok());
-    assert_eq!(rt; at_once_or_awaited(&rt, receiver)?, Ok(19));
+    let sent = sender.send(19u64).is_ok();
+    let received = at_once_or_awaited(&rt, receiver)?;
+    assert_eq!(rt; (sent, received), (true, Ok(19)));
     Ok(())
 }
 
@@ -56,8 +57,7 @@ fn a_message_that_is_not_there_is_awaited(rt: HostRuntime) -> Result<(), Fail> {
         || at_once_or_awaited(&rt, receiver),
         || sender.send(20u64).is_ok(),
     );
-    assert_eq!(rt; received?, Ok(20));
-    assert!(rt; sent);
+    assert_eq!(rt; (received?, sent), (Ok(20), true));
     Ok(())
 }
 
@@ -65,12 +65,14 @@ fn a_message_that_is_not_there_is_awaited(rt: HostRuntime) -> Result<(), Fail> {
 fn a_try_leaves_the_task_to_be_woken(rt: HostRuntime) -> Result<(), Fail> {
     let task = MockTask::new(&rt)?;
     let (sender, mut receiver) = async_channel(&rt, rt.alloc())?;
-    assert_eq!(rt; task.poll(&mut receiver), Poll::Pending);
-    assert_eq!(rt; try_once(&mut receiver), None);
-    assert!(rt; !task.is_woken());
-    assert!(rt; sender.send(19u64).is_ok());
-    assert!(rt; task.is_woken());
-    assert_eq!(rt; try_once(&mut receiver), Some(Ok(19)));
-    assert_eq!(rt; try_once(&mut receiver), Some(Err(RecvError)));
+    let early = (task.poll(&mut receiver), try_once(&mut receiver));
+    let before = task.is_woken();
+    let sent = (sender.send(19u64).is_ok(), task.is_woken());
+    assert_eq!(rt;
+        (early, before, sent),
+        ((Poll::Pending, None), false, (true, true))
+    );
+    let late = (try_once(&mut receiver), try_once(&mut receiver));
+    assert_eq!(rt; late, (Some(Ok(19)), Some(Err(RecvError))));
     Ok(())
 }

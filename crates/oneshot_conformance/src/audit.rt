@@ -57,28 +57,66 @@ pub fn audit<R: BufRead, W: Write>(
     output: &mut W,
     shown: Shown,
 ) -> io::Result<bool> {
-    let mut pair = Pair::new(alloc);
-    let mut is_right = true;
+    let mut audited = Audited {
+        pair: Pair::new(alloc),
+        is_right: true,
+    };
     let mut line = String::new(alloc);
     for _ in 0..u64::MAX {
         line.clear();
         if input.read_line(&mut line)? == 0 {
             break;
         }
-        match line.trim_end().split_once(' ') {
-            Some(("X", run)) => pair.hold(alloc, run, output, shown)?,
-            _ => {
-                if pair.runs > 0 {
-                    is_right = pair.end(alloc, output, shown)? && is_right;
-                    pair = Pair::new(alloc);
-                }
-                pair.scripts.add(line.trim_end())?;
-            }
-        }
+        audited.take_up(alloc, line.trim_end(), output, shown)?;
     }
-    is_right = pair.end(alloc, output, shown)? && is_right;
+    audited.end_pair(alloc, output, shown)?;
     output.flush()?;
-    Ok(is_right)
+    Ok(audited.is_right)
+}
+
+/// The pair that is read, and whether no run of any pair before it differs.
+#[derive(Drop)]
+struct Audited {
+    pair: Pair,
+    is_right: bool,
+}
+
+impl Audited {
+    /// Takes up a line of the input: a run, or a line of scripts, which after a run begins another pair.
+    fn take_up<W: Write>(
+        &mut self,
+        alloc: Global,
+        line: &str,
+        output: &mut W,
+        shown: Shown,
+    ) -> io::Result<()> {
+        if let Some(("X", run)) = line.split_once(' ') {
+            let (choices, words) = run.split_once(' ').unwrap_or((run, ""));
+            return self.pair.hold(alloc, Run { choices, words }, output, shown);
+        }
+        if self.pair.runs > 0 {
+            self.end_pair(alloc, output, shown)?;
+            self.pair = Pair::new(alloc);
+        }
+        Ok(self.pair.scripts.add(line)?)
+    }
+
+    fn end_pair<W: Write>(
+        &mut self,
+        alloc: Global,
+        output: &mut W,
+        shown: Shown,
+    ) -> io::Result<()> {
+        self.is_right = self.pair.end(alloc, output, shown)? && self.is_right;
+        Ok(())
+    }
+}
+
+/// A run: the choices of its schedule, and its words.
+#[derive(Clone, Copy)]
+struct Run<'a> {
+    choices: &'a str,
+    words: &'a str,
 }
 
 impl Pair {
@@ -86,32 +124,54 @@ impl Pair {
     fn hold<W: Write>(
         &mut self,
         alloc: Global,
-        run: &str,
+        run: Run<'_>,
         output: &mut W,
         shown: Shown,
     ) -> io::Result<()> {
         self.runs = self.runs.saturating_add(1);
-        let (choices, words) = run.split_once(' ').unwrap_or((run, ""));
-        let mut beside = match Beside::begin(alloc, &self.scripts) {
-            Ok(beside) => beside,
+        match Beside::begin(alloc, &self.scripts) {
+            Ok(mut beside) => self.follow(alloc, run, &mut beside, output, shown),
             Err(why) => {
                 self.count_difference(alloc, &why)?;
-                return writeln!(output, "the scripts: {why}");
-            }
-        };
-        let followed = beside.follow(words);
-        if let Err(difference) = &followed {
-            let is_new = self.count_difference(alloc, &difference.why)?;
-            if is_new || shown == Shown::Traces {
-                write_difference(output, choices, words, difference)?;
-                write_all_moves(alloc, output, &beside)?;
+                writeln!(output, "the scripts: {why}")
             }
         }
-        if shown == Shown::Traces {
-            return self.write_traces(alloc, output, &beside);
+    }
+
+    /// Follows a run beside the model.
+    fn follow<W: Write>(
+        &mut self,
+        alloc: Global,
+        run: Run<'_>,
+        beside: &mut Beside,
+        output: &mut W,
+        shown: Shown,
+    ) -> io::Result<()> {
+        let followed = beside.follow(run.words);
+        let is_right = followed.is_ok();
+        if let Err(difference) = followed {
+            self.note(alloc, &difference, output, shown, (run, beside))?;
         }
-        if followed.is_ok() {
-            self.count(alloc, &beside)?;
+        match shown {
+            Shown::Traces => self.write_traces(alloc, output, beside),
+            Shown::Differences if is_right => Ok(self.count(alloc, beside)?),
+            Shown::Differences => Ok(()),
+        }
+    }
+
+    /// Counts a run that differs, and writes it if none before it differs for the same reason, or if traces are shown.
+    fn note<W: Write>(
+        &mut self,
+        alloc: Global,
+        difference: &Difference,
+        output: &mut W,
+        shown: Shown,
+        (run, beside): (Run<'_>, &Beside),
+    ) -> io::Result<()> {
+        let is_new = self.count_difference(alloc, &difference.why)?;
+        if is_new || shown == Shown::Traces {
+            write_difference(output, run, difference)?;
+            write_all_moves(alloc, output, beside)?;
         }
         Ok(())
     }
@@ -178,10 +238,10 @@ impl Pair {
 
 fn write_difference<W: Write>(
     output: &mut W,
-    choices: &str,
-    words: &str,
+    run: Run<'_>,
     difference: &Difference,
 ) -> io::Result<()> {
+    let Run { choices, words } = run;
     let Difference { word, why } = difference;
     writeln!(output, "differs: schedule {choices}, word {word}: {why}")?;
     writeln!(output, "words: {words}")

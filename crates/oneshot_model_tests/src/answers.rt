@@ -19,19 +19,28 @@ fn output_of(rt: &(impl Abort + AllocGlobal), input: &[u8]) -> String {
     let mut written = Vec::new(rt.alloc());
     let mut errors = Vec::new(rt.alloc());
     let status = answer(rt.alloc(), &mut input, &mut written, &mut errors);
-    let errors = String::from_utf8(errors).ok().expect(rt, "text");
+    let errors = text_of(rt, errors);
     if status == 0 {
         assert!(rt; errors.is_empty(), "{errors} beside the output");
-        return String::from_utf8(written).ok().expect(rt, "text");
+        return text_of(rt, written);
     }
     assert!(rt; written.is_empty(), "output beside {errors}");
     let fault = errors.strip_suffix('\n').expect(rt, "a whole line");
-    format!(in rt.alloc(); "{status} {fault}").expect(rt, "memory")
+    status_and_text(rt, status, fault)
+}
+
+fn text_of(rt: &impl Abort, bytes: Vec<u8>) -> String {
+    String::from_utf8(bytes).ok().expect(rt, "text")
+}
+
+fn status_and_text(rt: &(impl Abort + AllocGlobal), status: u8, text: &str) -> String {
+    format!(in rt.alloc(); "{status} {text}").expect(rt, "memory")
 }
 
 /// Fails unless this input has this output.
 fn assert_trace(rt: &(impl Abort + AllocGlobal), input: &str, output: &str) {
-    assert_eq!(rt; output_of(rt, input.as_bytes()).as_str(), output, "{input}");
+    let told = output_of(rt, input.as_bytes());
+    assert_eq!(rt; (input, told.as_str()), (input, output));
 }
 
 /// Fails unless each input has its output.

@@ -42,17 +42,17 @@ fn a_refused_message_is_followed_move_by_move(rt: HostRuntime) {
         last: ReceiverLast::Drop,
     };
     let mut replayer = Replayer::new(send(7, ErrorLast::IntoInner), receiver);
-    assert_eq!(rt; replayer.sender_call(), Some(SenderCall::Send));
-    assert_eq!(rt; replayer.receiver_call(), Some(ReceiverStart::Drop));
+    assert_eq!(rt;
+        (replayer.sender_call(), replayer.receiver_call()),
+        (Some(SenderCall::Send), Some(ReceiverStart::Drop))
+    );
     for (i, (made, sender, receiver, freed)) in MOVES_OF_A_REFUSED_SEND.iter().enumerate() {
         let number = i + 1;
         let _ = replayer.step(*made);
         let calls = (replayer.sender_call(), replayer.receiver_call());
-        assert_eq!(rt; calls, (*sender, *receiver), "after move {number}");
         assert_eq!(rt;
-            (replayer.count(), replayer.block_freed()),
-            (number, *freed),
-            "after move {number}"
+            (replayer.count(), calls, replayer.block_freed()),
+            (number, (*sender, *receiver), *freed)
         );
     }
     assert!(rt; matches!(replayer.into_rest(), Some(Rest::FromError(7))));
@@ -93,7 +93,10 @@ fn a_receiver_that_nobody_wakes_parks_and_loads_in_turn(rt: HostRuntime) -> Resu
     let mut replayer = Replayer::new(send(7, ErrorLast::Stop), receiver);
     for i in 0..MOVES {
         let number = i + 1;
-        assert_eq!(rt; replayer.step(RECEIVER), waiting(number), "entry {number}");
+        assert_eq!(rt;
+            (number, replayer.step(RECEIVER)),
+            (number, waiting(number))
+        );
     }
     assert_eq!(rt; replayer.count(), MOVES);
     Ok(())

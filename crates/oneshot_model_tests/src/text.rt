@@ -18,7 +18,8 @@ fn assert_faults(rt: &(impl Abort + AllocGlobal), cases: &[Case]) -> Result<(), 
         let Err(error) = parse_request(rt.alloc(), text) else {
             panic!(rt; "{text:?} asks for a run")
         };
-        assert_eq!(rt; error.to_string(rt.alloc())?.as_str(), *fault, "{text:?}");
+        let told = error.to_string(rt.alloc())?;
+        assert_eq!(rt; (*text, told.as_str()), (*text, *fault));
     }
     Ok(())
 }

@@ -29,8 +29,9 @@ const AWAITED: By = By::Receiver("future await");
 
 fn send_before_await<R: Wait + RandomSource + AllocGlobal + Abort>(rt: &R) -> Result<(), Fail> {
     let (sender, receiver) = channel(rt, rt.alloc())?;
-    assert!(rt; sender.send(19i128).is_ok());
-    assert_eq!(rt; block_on(rt, receiver.into_future())?, Ok(19));
+    let sent = sender.send(19i128).is_ok();
+    let received = block_on(rt, receiver.into_future())?;
+    assert_eq!(rt; (sent, received), (true, Ok(19)));
     Ok(())
 }
 
@@ -72,11 +73,11 @@ fn await_before_send<R: Threads + Wait + Clock + RandomSource + AllocGlobal + Ab
     let Some(returned) = received.message() else {
         panic!(rt; "it was sent");
     };
-    assert_eq!(rt; drops.count(), 0);
-    assert_eq!(rt; returned.value, 79);
+    let before_drop = (drops.count(), returned.value);
     drop(returned);
-    assert_eq!(rt; drops.count(), 1);
-    assert!(rt; shows(&sent.numbered(), "Ok"));
+    let after_drop = drops.count();
+    let was_sent = shows(&sent.numbered(), "Ok");
+    assert_eq!(rt; (before_drop, after_drop, was_sent), ((0, 79), 1, true));
     Ok(())
 }
 
@@ -112,28 +113,32 @@ fn await_before_send_then_drop_sender_async_std(rt: HostRuntime) -> Result<(), F
 fn poll_receiver_then_drop_it(rt: HostRuntime) -> Result<(), Fail> {
     let task = MockTask::new(&rt)?;
     let (sender, mut receiver) = async_channel::<(), _>(&rt, rt.alloc())?;
-    assert_eq!(rt; task.poll(&mut receiver), Poll::Pending);
+    let at_once = task.poll(&mut receiver);
     sleep(&rt, Duration::from_millis(100));
-    assert_eq!(rt; task.poll(&mut receiver), Poll::Pending);
+    let later = task.poll(&mut receiver);
     drop(receiver);
-    assert!(rt; sender.send(()).is_err());
+    let refused = sender.send(()).is_err();
+    assert_eq!(rt;
+        (at_once, later, refused),
+        (Poll::Pending, Poll::Pending, true)
+    );
     Ok(())
 }
 
 #[test]
 fn dropping_sender_disconnects_async_receiver(rt: HostRuntime) -> Result<(), Fail> {
     let (sender, receiver) = async_channel::<(), _>(&rt, rt.alloc())?;
-    assert!(rt; !(sender.is_closed() || receiver.is_closed()));
+    let before = sender.is_closed() || receiver.is_closed();
     drop(sender);
-    assert!(rt; receiver.is_closed());
+    assert_eq!(rt; (before, receiver.is_closed()), (false, true));
     Ok(())
 }
 
 #[test]
 fn async_receiver_has_message(rt: HostRuntime) -> Result<(), Fail> {
     let (sender, receiver) = async_channel(&rt, rt.alloc())?;
-    assert!(rt; !receiver.has_message());
-    assert!(rt; sender.send(19i128).is_ok());
-    assert!(rt; receiver.has_message());
+    let before = receiver.has_message();
+    let sent = sender.send(19i128).is_ok();
+    assert_eq!(rt; (before, sent, receiver.has_message()), (false, true, true));
     Ok(())
 }

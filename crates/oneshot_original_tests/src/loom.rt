@@ -9,6 +9,9 @@ use futures::test::MockTask;
 use oneshot::{async_channel, drive};
 use oneshot_calls::{SenderCall, Sending};
 use oneshot_memory::{MemoryFuture, MemoryTask};
+use std::alloc::AllocGlobal;
+use std::process::Abort;
+use std::sync::Wait;
 use std::test::Fail;
 use std::time::Duration;
 
@@ -55,16 +58,22 @@ fn counts(task: &MemoryTask) -> (u64, u64, u64) {
 fn send_then_poll(rt: HostRuntime) -> Result<(), Fail> {
     let task = MockTask::new(&rt)?;
     let (sender, mut receiver) = async_channel(&rt, rt.alloc())?;
-    assert!(rt; sender.send(1234u128).is_ok());
-    assert_eq!(rt; task.poll(&mut receiver), Poll::Ready(Ok(1234)));
-    assert!(rt; !task.is_woken());
-
-    let task = MemoryTask::new();
-    let mut receiver = MemoryFuture::<'_, '_, u128, _>::new(&rt, rt.alloc(), &task);
-    receiver.receiver.sender_sends(1234);
-    assert_eq!(rt; drive::poll(&mut receiver), Poll::Ready(Ok(1234)));
-    assert_eq!(rt; counts(&task), (0, 0, 0));
+    let sent = sender.send(1234u128).is_ok();
+    let polled = task.poll(&mut receiver);
+    assert_eq!(rt;
+        (sent, polled, task.is_woken()),
+        (true, Poll::Ready(Ok(1234)), false)
+    );
+    send_then_poll_in_memory(&rt);
     Ok(())
+}
+
+fn send_then_poll_in_memory<R: Wait + AllocGlobal + Abort>(rt: &R) {
+    let task = MemoryTask::new();
+    let mut receiver = MemoryFuture::<'_, '_, u128, _>::new(rt, rt.alloc(), &task);
+    receiver.receiver.sender_sends(1234);
+    let polled = drive::poll(&mut receiver);
+    assert_eq!(rt; (polled, counts(&task)), (Poll::Ready(Ok(1234)), (0, 0, 0)));
 }
 
 // As in the original, the test only asserts of the threads that both end.
@@ -85,22 +94,27 @@ fn poll_then_drop_receiver_during_send(rt: HostRuntime) -> Result<(), Fail> {
 fn poll_then_send(rt: HostRuntime) -> Result<(), Fail> {
     let task = MockTask::new(&rt)?;
     let (sender, mut receiver) = async_channel(&rt, rt.alloc())?;
-    assert_eq!(rt; task.poll(&mut receiver), Poll::Pending);
-    assert!(rt; !task.is_woken());
-    assert!(rt; sender.send(1234u128).is_ok());
-    assert!(rt; task.is_woken());
-    assert_eq!(rt; task.poll(&mut receiver), Poll::Ready(Ok(1234)));
-    assert!(rt; !task.is_woken());
-
-    let task = MemoryTask::new();
-    let mut receiver = MemoryFuture::<'_, '_, u128, _>::new(&rt, rt.alloc(), &task);
-    assert_eq!(rt; drive::poll(&mut receiver), Poll::Pending);
-    assert_eq!(rt; counts(&task), (1, 0, 0));
-    receiver.receiver.sender_sends(1234);
-    assert_eq!(rt; counts(&task), (1, 1, 1));
-    assert_eq!(rt; drive::poll(&mut receiver), Poll::Ready(Ok(1234)));
-    assert_eq!(rt; counts(&task), (1, 1, 1));
+    let early = (task.poll(&mut receiver), task.is_woken());
+    let sent = (sender.send(1234u128).is_ok(), task.is_woken());
+    let late = (task.poll(&mut receiver), task.is_woken());
+    let received = Poll::Ready(Ok(1234));
+    assert_eq!(rt;
+        (early, sent, late),
+        ((Poll::Pending, false), (true, true), (received, false))
+    );
+    poll_then_send_in_memory(&rt);
     Ok(())
+}
+
+fn poll_then_send_in_memory<R: Wait + AllocGlobal + Abort>(rt: &R) {
+    let task = MemoryTask::new();
+    let mut receiver = MemoryFuture::<'_, '_, u128, _>::new(rt, rt.alloc(), &task);
+    let early = (drive::poll(&mut receiver), counts(&task));
+    receiver.receiver.sender_sends(1234);
+    let sent = counts(&task);
+    let late = (drive::poll(&mut receiver), counts(&task));
+    assert_eq!(rt; (early, sent), ((Poll::Pending, (1, 0, 0)), (1, 1, 1)));
+    assert_eq!(rt; late, (Poll::Ready(Ok(1234)), (1, 1, 1)));
 }
 
 #[test]
@@ -108,21 +122,33 @@ fn poll_with_different_wakers(rt: HostRuntime) -> Result<(), Fail> {
     let first = MockTask::new(&rt)?;
     let second = MockTask::new(&rt)?;
     let (sender, mut receiver) = async_channel(&rt, rt.alloc())?;
-    assert_eq!(rt; first.poll(&mut receiver), Poll::Pending);
-    assert_eq!(rt; second.poll(&mut receiver), Poll::Pending);
-    assert_eq!(rt; (first.is_woken(), second.is_woken()), (false, false));
-    assert!(rt; sender.send(1234u128).is_ok());
-    assert_eq!(rt; (first.is_woken(), second.is_woken()), (false, true));
+    let polled = (first.poll(&mut receiver), second.poll(&mut receiver));
+    let before = (first.is_woken(), second.is_woken());
+    assert_eq!(rt;
+        (polled, before),
+        ((Poll::Pending, Poll::Pending), (false, false))
+    );
+    let sent = sender.send(1234u128).is_ok();
+    assert_eq!(rt;
+        (sent, first.is_woken(), second.is_woken()),
+        (true, false, true)
+    );
+    poll_with_different_wakers_in_memory(&rt);
+    Ok(())
+}
 
+fn poll_with_different_wakers_in_memory<R: Wait + AllocGlobal + Abort>(rt: &R) {
     let first = MemoryTask::new();
     let second = MemoryTask::new();
-    let mut receiver = MemoryFuture::<'_, '_, u128, _>::new(&rt, rt.alloc(), &first);
-    assert_eq!(rt; drive::poll(&mut receiver), Poll::Pending);
-    assert_eq!(rt; counts(&first), (1, 0, 0));
+    let mut receiver = MemoryFuture::<'_, '_, u128, _>::new(rt, rt.alloc(), &first);
+    let by_first = (drive::poll(&mut receiver), counts(&first));
     receiver.task = &second;
-    assert_eq!(rt; drive::poll(&mut receiver), Poll::Pending);
-    assert_eq!(rt; (counts(&first), counts(&second)), ((1, 1, 0), (1, 0, 0)));
+    let by_second = (drive::poll(&mut receiver), counts(&first), counts(&second));
+    let pending = (Poll::Pending, (1, 0, 0));
+    assert_eq!(rt;
+        (by_first, by_second),
+        (pending, (Poll::Pending, (1, 1, 0), (1, 0, 0)))
+    );
     receiver.receiver.sender_sends(1234);
     assert_eq!(rt; (counts(&first), counts(&second)), ((1, 1, 0), (1, 1, 1)));
-    Ok(())
 }

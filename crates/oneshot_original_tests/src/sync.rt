@@ -16,16 +16,19 @@ use std::time::{Clock, Duration, Instant};
 fn send_before_try_recv(rt: HostRuntime) -> Result<(), Fail> {
     let (sender, mut receiver) = channel(&rt, rt.alloc())?;
     let before = receiver.has_message();
-    assert!(rt; !before && sender.send(19i128).is_ok());
-    let sent = receiver.has_message();
-    let received = receiver.try_recv();
-    assert_eq!(rt; (sent, received), (true, Ok(19)));
-    let after = receiver.has_message();
-    let again = receiver.try_recv();
-    assert_eq!(rt; (after, again), (false, Err(TryRecvError::Disconnected)));
-    assert_eq!(rt; receiver.recv_ref(), Err(RecvError));
-    let timed = receiver.recv_timeout(second());
-    assert_eq!(rt; timed, Err(RecvTimeoutError::Disconnected));
+    let sent = sender.send(19i128).is_ok();
+    let there = (receiver.has_message(), receiver.try_recv());
+    let after = (receiver.has_message(), receiver.try_recv());
+    let closed = Err(TryRecvError::Disconnected);
+    assert_eq!(rt;
+        (before, sent, there, after),
+        (false, true, (true, Ok(19)), (false, closed))
+    );
+    let blocked = (receiver.recv_ref(), receiver.recv_timeout(second()));
+    assert_eq!(rt;
+        blocked,
+        (Err(RecvError), Err(RecvTimeoutError::Disconnected))
+    );
     Ok(())
 }
 
@@ -44,9 +47,10 @@ fn carried<R: Wait + Clock, T: Send + Drop>(
 
 #[test]
 fn send_before_recv(rt: HostRuntime) -> Result<(), Fail> {
-    assert_eq!(rt; carried(&rt, rt.alloc(), ())?, Some(()));
-    assert_eq!(rt; carried(&rt, rt.alloc(), 19u8)?, Some(19));
-    assert_eq!(rt; carried(&rt, rt.alloc(), 21u64)?, Some(21));
+    let empty = carried(&rt, rt.alloc(), ())?;
+    let byte = carried(&rt, rt.alloc(), 19u8)?;
+    let word = carried(&rt, rt.alloc(), 21u64)?;
+    assert_eq!(rt; (empty, byte, word), (Some(()), Some(19), Some(21)));
     let page = [0b1010_1010u8; 4096];
     let received = carried(&rt, rt.alloc(), page)?;
     assert!(rt; received.is_some_and(|bytes| bytes.as_slice() == page.as_slice()));
@@ -61,9 +65,12 @@ fn send_before_recv_ref(rt: HostRuntime) -> Result<(), Fail> {
     let by_ref = receiver.recv_ref();
     let tried = receiver.try_recv();
     let timed = receiver.recv_timeout(second());
-    assert_eq!(rt; by_ref, Err(RecvError));
-    assert_eq!(rt; tried, Err(TryRecvError::Disconnected));
-    assert_eq!(rt; timed, Err(RecvTimeoutError::Disconnected));
+    let closed = (
+        Err(RecvError),
+        Err(TryRecvError::Disconnected),
+        Err(RecvTimeoutError::Disconnected),
+    );
+    assert_eq!(rt; (by_ref, tried, timed), closed);
     Ok(())
 }
 
@@ -75,11 +82,13 @@ fn send_before_recv_timeout(rt: HostRuntime) -> Result<(), Fail> {
         let before = Instant::now(&rt)?;
         let received = receiver.recv_timeout(second());
         let took = before.elapsed(&rt)?;
-        assert_eq!(rt; (sent, received), (true, Ok(19)));
         let timed = receiver.recv_timeout(second());
         let tried = receiver.try_recv();
-        assert_eq!(rt; timed, Err(RecvTimeoutError::Disconnected));
-        assert_eq!(rt; tried, Err(TryRecvError::Disconnected));
+        let closed = (
+            Err(RecvTimeoutError::Disconnected),
+            Err(TryRecvError::Disconnected),
+        );
+        assert_eq!(rt; (sent, received, (timed, tried)), (true, Ok(19), closed));
         assert_eq!(rt; receiver.recv(), Err(RecvError));
         Ok(took < slept)
     })
@@ -245,11 +254,10 @@ fn message_in_channel_dropped_on_receiver_drop(rt: HostRuntime) -> Result<(), Fa
     let drops = Drops::new();
     let (sender, receiver) = channel::<_, ()>((), rt.alloc())?;
     let message = drops.message(());
-    assert_eq!(rt; drops.count(), 0);
-    assert!(rt; sender.send(message).is_ok());
-    assert_eq!(rt; drops.count(), 0);
+    let before = drops.count();
+    let sent = (sender.send(message).is_ok(), drops.count());
     drop(receiver);
-    assert_eq!(rt; drops.count(), 1);
+    assert_eq!(rt; (before, sent, drops.count()), (0, (true, 0), 1));
     Ok(())
 }
 
@@ -257,9 +265,9 @@ fn message_in_channel_dropped_on_receiver_drop(rt: HostRuntime) -> Result<(), Fa
 fn send_error_drops_message_correctly(rt: HostRuntime) -> Result<(), Fail> {
     let drops = Drops::new();
     let error = refused(&rt, rt.alloc(), drops.message(()))?;
-    assert_eq!(rt; drops.count(), 0);
+    let before = drops.count();
     drop(error);
-    assert_eq!(rt; drops.count(), 1);
+    assert_eq!(rt; (before, drops.count()), (0, 1));
     Ok(())
 }
 
@@ -267,28 +275,28 @@ fn send_error_drops_message_correctly(rt: HostRuntime) -> Result<(), Fail> {
 fn send_error_drops_message_correctly_on_into_inner(rt: HostRuntime) -> Result<(), Fail> {
     let drops = Drops::new();
     let error = refused(&rt, rt.alloc(), drops.message(5u8))?;
-    assert_eq!(rt; drops.count(), 0);
+    let before = drops.count();
     let back = error.into_inner();
-    assert_eq!(rt; (back.value, drops.count()), (5, 0));
+    let kept = (back.value, drops.count());
     drop(back);
-    assert_eq!(rt; drops.count(), 1);
+    assert_eq!(rt; (before, kept, drops.count()), (0, (5, 0), 1));
     Ok(())
 }
 
 #[test]
 fn dropping_receiver_disconnects_sender(rt: HostRuntime) -> Result<(), Fail> {
     let (sender, receiver) = channel::<(), ()>((), rt.alloc())?;
-    assert!(rt; !(sender.is_closed() || receiver.is_closed()));
+    let before = sender.is_closed() || receiver.is_closed();
     drop(receiver);
-    assert!(rt; sender.is_closed());
+    assert_eq!(rt; (before, sender.is_closed()), (false, true));
     Ok(())
 }
 
 #[test]
 fn dropping_sender_disconnects_receiver(rt: HostRuntime) -> Result<(), Fail> {
     let (sender, receiver) = channel::<(), ()>((), rt.alloc())?;
-    assert!(rt; !(sender.is_closed() || receiver.is_closed()));
+    let before = sender.is_closed() || receiver.is_closed();
     drop(sender);
-    assert!(rt; receiver.is_closed());
+    assert_eq!(rt; (before, receiver.is_closed()), (false, true));
     Ok(())
 }

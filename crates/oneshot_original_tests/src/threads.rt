@@ -5,6 +5,7 @@ use oneshot::{Receiver, Sender, async_channel, channel};
 use oneshot_calls::{
     Numbered, ReceiverCall, Receiving, Reply, SenderCall, Sending, Tasks, script, shows,
 };
+use std::alloc::AllocError;
 use std::hint::spin_loop;
 use std::io;
 use std::process::{Abort, Termination};
@@ -139,25 +140,36 @@ fn outcome_by<
     Ok((sent, received?))
 }
 
+/// Makes a channel, whose receiver is a future if `by` is a future's script.
+fn new_ends<R: Wait + Clock + AllocGlobal, T: Numbered + Send + Drop>(
+    rt: &R,
+    message: T,
+    by: By,
+) -> Result<(Sending<T, Sender<T>>, Receiving<T, Receiver<T, &R>>), AllocError> {
+    match by {
+        By::Receiver(_) => {
+            let (sender, receiver) = channel(rt, rt.alloc())?;
+            let sending = Sending::new(sender, Some(message));
+            Ok((sending, Receiving::new(receiver)))
+        }
+        By::Future(_) => {
+            let (sender, future) = async_channel(rt, rt.alloc())?;
+            let sending = Sending::new(sender, Some(message));
+            Ok((sending, Receiving::of_future(future)))
+        }
+    }
+}
+
 /// What both ends of a new channel return.
 pub(super) fn outcome_of<
     R: Threads + Wait + Clock + RandomSource + AllocGlobal + Abort + Sync,
     T: Numbered + Send + Drop,
 >(rt: &R, pause: Duration, act: Act<T>, by: By) -> Result<Outcome<T>, Fail> {
     let Act(sends, message) = act;
+    let (By::Receiver(receives) | By::Future(receives)) = by;
     let sends = script::<SenderCall>(rt.alloc(), sends)?;
-    let (receives, sender, receiving) = match by {
-        By::Receiver(receives) => {
-            let (sender, receiver) = channel(rt, rt.alloc())?;
-            (receives, sender, Receiving::new(receiver))
-        }
-        By::Future(receives) => {
-            let (sender, future) = async_channel(rt, rt.alloc())?;
-            (receives, sender, Receiving::of_future(future))
-        }
-    };
     let receives = script::<ReceiverCall>(rt.alloc(), receives)?;
-    let ends = (Sending::new(sender, Some(message)), receiving);
+    let ends = new_ends(rt, message, by)?;
     outcome_by(rt, pause, &sends, &receives, ends)
 }
 

@@ -15,8 +15,7 @@ use std::test::Fail;
 #[test]
 fn a_new_table_reads_3_at_both_ends(rt: HostRuntime) -> Result<(), Fail> {
     let (sender, receiver) = open::<u64, u64, u64, ()>(rt.alloc(), &())?;
-    assert_eq!(rt; sender.peek(), 3);
-    assert_eq!(rt; receiver.peek(), 3);
+    assert_eq!(rt; (sender.peek(), receiver.peek()), (3, 3));
     discard(sender, receiver);
     Ok(())
 }
@@ -46,12 +45,12 @@ fn a_receiver_that_stops_waiting_goes_on(rt: HostRuntime) -> Result<(), Fail> {
     let (mut sender, mut receiver) = open::<u8, u8, u8, ()>(rt.alloc(), &())?;
     look(&rt, &mut receiver);
     store_waker(&rt, &mut receiver, AnyWaker::Thread(5));
-    assert!(rt; matches!(stop(&rt, &mut receiver), AnyWaker::Thread(5)));
-    assert_eq!(rt; sender.peek(), 3);
+    let is_own = matches!(stop(&rt, &mut receiver), AnyWaker::Thread(5));
+    assert_eq!(rt; (is_own, sender.peek()), (true, 3));
     store_waker(&rt, &mut receiver, AnyWaker::Task(6));
-    assert!(rt; matches!(begin_send(&rt, &mut sender, 7), AnyWaker::Task(6)));
+    let is_found = matches!(begin_send(&rt, &mut sender, 7), AnyWaker::Task(6));
     finish(&rt, &mut sender, 4, 1);
-    assert_eq!(rt; receive(&rt, &mut receiver), 7);
+    assert_eq!(rt; (is_found, receive(&rt, &mut receiver)), (true, 7));
     sender.let_go();
     receiver.let_go();
     Ok(())
@@ -90,10 +89,10 @@ fn a_receiver_that_stops_over_the_message_gets_it(rt: HostRuntime) -> Result<(),
     let (mut sender, mut receiver) = open::<u8, u8, u8, ()>(rt.alloc(), &())?;
     look(&rt, &mut receiver);
     store_waker(&rt, &mut receiver, AnyWaker::Thread(5));
-    assert!(rt; matches!(begin_send(&rt, &mut sender, 7), AnyWaker::Thread(5)));
+    let is_found = matches!(begin_send(&rt, &mut sender, 7), AnyWaker::Thread(5));
     finish(&rt, &mut sender, 4, 1);
-    assert_eq!(rt; stop_over_the_message(&rt, &mut receiver), 7);
-    assert_eq!(rt; receiver.peek(), 2);
+    let message = stop_over_the_message(&rt, &mut receiver);
+    assert_eq!(rt; (is_found, message, receiver.peek()), (true, 7, 2));
     sender.let_go();
     receiver.let_go();
     Ok(())

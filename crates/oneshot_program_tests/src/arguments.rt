@@ -43,7 +43,8 @@ fn each_name_is_read(rt: HostRuntime) -> Result<(), Fail> {
             kind: *kind,
             count: 12,
         };
-        assert_eq!(rt; parsed(rt.alloc(), &[name, "12"])?, Some(command), "{name}");
+        let read = parsed(rt.alloc(), &[name, "12"])?;
+        assert_eq!(rt; (*name, read), (*name, Some(command)));
     }
     Ok(())
 }
@@ -63,7 +64,7 @@ fn each_channel_is_read(rt: HostRuntime) -> Result<(), Fail> {
             count: 12,
         };
         let read = parsed(rt.alloc(), &[name, "make_drop", "12"])?;
-        assert_eq!(rt; read, Some(command), "{name}");
+        assert_eq!(rt; (*name, read), (*name, Some(command)));
     }
     Ok(())
 }
@@ -75,10 +76,10 @@ const NO_LOOPS: &[&str; 6] = &["", "make", "make_drop_", "make_drop ", "Make_dro
 #[test]
 fn other_names_are_refused(rt: HostRuntime) {
     for name in NO_CHANNELS {
-        assert!(rt; Channel::named(name).is_none(), "{name}");
+        assert_eq!(rt; (*name, Channel::named(name)), (*name, None));
     }
     for name in NO_LOOPS {
-        assert!(rt; Loop::named(name).is_none(), "{name}");
+        assert_eq!(rt; (*name, Loop::named(name)), (*name, None));
     }
 }
 
@@ -102,7 +103,7 @@ const COUNTS: &[(&str, Option<u64>); 14] = &[
 #[test]
 fn counts_of_64_bits_are_read(rt: HostRuntime) {
     for (word, count) in COUNTS {
-        assert_eq!(rt; parse_count(word), *count, "{word}");
+        assert_eq!(rt; (*word, parse_count(word)), (*word, *count));
     }
 }
 
@@ -119,9 +120,15 @@ const NO_COMMANDS: &[&[&str]; 6] = &[
 fn two_words_or_three_or_none(rt: HostRuntime) -> Result<(), Fail> {
     assert_eq!(rt; parsed(rt.alloc(), &[])?, Some(Command::Usage));
     for words in NO_COMMANDS {
-        assert!(rt; parsed(rt.alloc(), words)?.is_none(), "{words:?}");
+        let read = parsed(rt.alloc(), words)?;
+        assert_eq!(rt; (*words, read), (*words, None));
     }
     Ok(())
+}
+
+/// The status of a fault, and its text.
+fn told(alloc: Global, fault: &Fault) -> Result<String, AllocError> {
+    format!(in alloc; "{} {fault}", fault.status())
 }
 
 #[test]
@@ -142,14 +149,18 @@ fn a_fault_is_one_line_and_a_status(rt: HostRuntime) -> Result<(), Fail> {
         (Fault::OutOfMemory(AllocError), "3 out of memory"),
     ];
     for (fault, text) in faults {
-        let told = format!(in rt.alloc(); "{} {fault}", fault.status())?;
-        assert_eq!(rt; told.as_str(), text);
+        assert_eq!(rt; told(rt.alloc(), &fault)?.as_str(), text);
     }
-    let told = format!(in rt.alloc(); "{}", Fault::BadArguments)?;
+    Ok(())
+}
+
+#[test]
+fn the_fault_of_bad_arguments_is_the_usage(rt: HostRuntime) -> Result<(), Fail> {
+    let usage = told(rt.alloc(), &Fault::BadArguments)?;
     assert!(rt;
-        told.as_str()
-            .starts_with("usage: oneshot_bench [CHANNEL] LOOP COUNT")
+        usage
+            .as_str()
+            .starts_with("2 usage: oneshot_bench [CHANNEL] LOOP COUNT")
     );
-    assert_eq!(rt; Fault::BadArguments.status(), 2);
     Ok(())
 }

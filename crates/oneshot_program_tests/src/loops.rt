@@ -16,6 +16,7 @@ use oneshot_loops::tally::Tally;
 use std::alloc::{Alloc, AllocGlobal, Global};
 use std::cell::Cell;
 use std::io;
+use std::process::Abort;
 use std::random::RandomSource;
 use std::sync::Wait;
 use std::sync::atomic::{AtomicU64, Ordering};
@@ -88,15 +89,23 @@ fn each_awaited_loop_makes_its_rounds(rt: HostRuntime) -> Result<(), Fail> {
     ];
     for channel in OF_FUTURES {
         for (kind, round) in kinds {
-            for count in [0, 3] {
-                let tally = measure(&rt, channel, Loop::Awaited(kind), count)?.tally;
-                assert_eq!(rt;
-                    tally,
-                    tally_of(count, round),
-                    "{count} of {channel} {kind:?}"
-                );
-            }
+            assert_rounds(&rt, channel, Loop::Awaited(kind), round)?;
         }
+    }
+    Ok(())
+}
+
+/// Asserts the tally of no round, and that of three.
+fn assert_rounds<R>(rt: &R, channel: Channel, kind: Loop, round: Tally) -> Result<(), Fail>
+where
+    R: Abort + AllocGlobal + RandomSource + Threads + Wait + Clock + Sync,
+{
+    for count in [0, 3] {
+        let tally = measure(rt, channel, kind, count)?.tally;
+        assert_eq!(rt;
+            (channel, kind, count, tally),
+            (channel, kind, count, tally_of(count, round))
+        );
     }
     Ok(())
 }
@@ -111,7 +120,7 @@ fn each_poll_before_the_message_is_pending(rt: HostRuntime) -> Result<(), Fail> 
                 pended: count,
                 ..awaited(8)
             };
-            assert_eq!(rt; tally, pended, "{count} of {channel}");
+            assert_eq!(rt; (channel, count, tally), (channel, count, pended));
         }
     }
     Ok(())
@@ -122,10 +131,11 @@ fn each_round_trip_of_futures_is_made(rt: HostRuntime) -> Result<(), Fail> {
     for channel in OF_FUTURES {
         for count in [0, 1, 1024, 1025] {
             let tally = measure(&rt, channel, Loop::Awaited(Awaited::RoundTripAwait), count)?.tally;
-            assert_eq!(rt; tally.channels, 2 * count);
-            assert_eq!(rt; tally.polled, 2 * count);
-            assert_eq!(rt; tally.waited, 0);
-            assert_eq!(rt; tally.tried, 0);
+            let received = (tally.polled, tally.waited, tally.tried);
+            assert_eq!(rt;
+                (channel, count, tally.channels, received),
+                (channel, count, 2 * count, (2 * count, 0, 0))
+            );
         }
     }
     Ok(())
@@ -229,14 +239,7 @@ const LOOPS: &[(Channel, Loop, Round, u64); 13] = &[
 #[test]
 fn each_loop_makes_its_rounds(rt: HostRuntime) -> Result<(), Fail> {
     for (channel, kind, round, bytes) in LOOPS {
-        for count in [0, 3] {
-            let tally = measure(&rt, *channel, *kind, count)?.tally;
-            assert_eq!(rt;
-                tally,
-                tally_of(count, round.tally(*bytes)),
-                "{count} of {channel} {kind}"
-            );
-        }
+        assert_rounds(&rt, *channel, *kind, round.tally(*bytes))?;
     }
     Ok(())
 }
@@ -253,7 +256,7 @@ const REFUSED: &[(Channel, Loop); 5] = &[
 fn a_channel_refuses_a_loop_that_it_has_no_call_for(rt: HostRuntime) {
     for (channel, kind) in REFUSED {
         let refused = matches!(measure(&rt, *channel, *kind, 3), Err(Fault::CannotRun));
-        assert!(rt; refused, "{channel} {kind}");
+        assert_eq!(rt; (*channel, *kind, refused), (*channel, *kind, true));
     }
 }
 
@@ -263,10 +266,11 @@ fn each_round_trip_is_made(rt: HostRuntime) -> Result<(), Fail> {
     for channel in [Channel::Oneshot, Channel::Crossbeam] {
         for count in [0, 1, 1024, 1025] {
             let tally = measure(&rt, channel, Loop::RoundTrip, count)?.tally;
-            assert_eq!(rt; tally.channels, 2 * count);
-            assert_eq!(rt; tally.waited, 2 * count);
-            assert_eq!(rt; tally.tried, 0);
-            assert_eq!(rt; tally.polled, 0);
+            let received = (tally.waited, tally.tried, tally.polled);
+            assert_eq!(rt;
+                (channel, count, tally.channels, received),
+                (channel, count, 2 * count, (2 * count, 0, 0))
+            );
         }
     }
     Ok(())

@@ -17,6 +17,28 @@ fn often<A>(outcomes: &[Outcome<A>]) -> usize {
     (outcomes.len() / 100).max(1)
 }
 
+/// Fails unless `answer` is one of `answers`. `about` names the rounds.
+fn assert_may_come<A: Display>(rt: &impl Abort, about: &str, answer: &A, answers: &[&str]) {
+    assert!(rt;
+        answers.iter().any(|text| shows(answer, *text)),
+        "{about}: {answer} came"
+    );
+}
+
+/// Fails unless the answer `text` came often. `about` names the rounds.
+fn assert_came_often<A: Display>(
+    rt: &impl Abort,
+    about: &str,
+    outcomes: &[Outcome<A>],
+    text: &str,
+) {
+    let count = outcomes.iter().filter(|o| shows(&o.answer, text)).count();
+    assert!(rt;
+        count >= often(outcomes),
+        "{about}: {text} came {count} times"
+    );
+}
+
 /// Fails unless each of `answers` came often, and no other came. `about` names the rounds.
 pub(super) fn assert_answers<A: Display>(
     rt: &impl Abort,
@@ -25,18 +47,10 @@ pub(super) fn assert_answers<A: Display>(
     answers: &[&str],
 ) {
     for outcome in outcomes {
-        let answer = &outcome.answer;
-        assert!(rt;
-            answers.iter().any(|text| shows(answer, *text)),
-            "{about}: {answer} came"
-        );
+        assert_may_come(rt, about, &outcome.answer, answers);
     }
     for text in answers {
-        let count = outcomes.iter().filter(|o| shows(&o.answer, *text)).count();
-        assert!(rt;
-            count >= often(outcomes),
-            "{about}: {text} came {count} times"
-        );
+        assert_came_often(rt, about, outcomes, *text);
     }
 }
 

@@ -40,16 +40,22 @@ pub(crate) fn bytes_of(length: Length) -> usize {
 #[test]
 fn a_reply_is_taken_once(rt: HostRuntime) -> Result<(), Fail> {
     let (request, mut ticket) = ask((), rt.alloc())?;
-    assert_eq!(rt; request.question().as_str(), TEXT);
-    assert!(rt; !request.is_cancelled() && !ticket.is_closed());
-    assert!(rt; answer(request)?.is_ok());
-    assert!(rt; !ticket.is_closed());
-    assert_eq!(rt; ticket.try_take().map(bytes_of), Ok(21));
     assert_eq!(rt;
-        ticket.try_take().map(bytes_of),
-        Err(TryRecvError::Disconnected)
+        (
+            request.question().as_str(),
+            request.is_cancelled(),
+            ticket.is_closed()
+        ),
+        (TEXT, false, false)
     );
-    assert!(rt; ticket.is_closed());
+    let answered = answer(request)?.is_ok();
+    assert_eq!(rt; (answered, ticket.is_closed()), (true, false));
+    let taken = ticket.try_take().map(bytes_of);
+    let again = ticket.try_take().map(bytes_of);
+    assert_eq!(rt;
+        (taken, again, ticket.is_closed()),
+        (Ok(21), Err(TryRecvError::Disconnected), true)
+    );
     Ok(())
 }
 
@@ -61,8 +67,7 @@ fn an_answer_without_a_ticket_gives_the_reply_back(rt: HostRuntime) -> Result<()
     let Err(length) = answer(request)? else {
         return Err(Fail::new("an answer without a ticket"));
     };
-    assert_eq!(rt; length.bytes(), 21);
-    assert_eq!(rt; length.question().as_str(), TEXT);
+    assert_eq!(rt; (length.bytes(), length.question().as_str()), (21, TEXT));
     Ok(())
 }
 
@@ -78,18 +83,23 @@ fn a_dropped_request_has_no_reply(rt: HostRuntime) -> Result<(), Fail> {
 #[test]
 fn a_request_that_is_there_has_no_reply_yet(rt: HostRuntime) -> Result<(), Fail> {
     let (request, mut ticket) = ask(&rt, rt.alloc())?;
-    assert_eq!(rt; ticket.try_take().map(bytes_of), Err(TryRecvError::Empty));
     let moment = Duration::from_millis(1);
+    let taken = ticket.try_take().map(bytes_of);
+    let waited = ticket.wait_for(moment).map(bytes_of);
     assert_eq!(rt;
-        ticket.wait_for(moment).map(bytes_of),
-        Err(RecvTimeoutError::Timeout)
+        (taken, waited, request.is_cancelled()),
+        (
+            Err(TryRecvError::Empty),
+            Err(RecvTimeoutError::Timeout),
+            false
+        )
     );
-    assert!(rt; !request.is_cancelled());
-    assert!(rt; answer(request)?.is_ok());
-    assert_eq!(rt; ticket.wait_for(moment).map(bytes_of), Ok(21));
+    let answered = answer(request)?.is_ok();
+    let waited = ticket.wait_for(moment).map(bytes_of);
+    let again = ticket.wait_for(moment).map(bytes_of);
     assert_eq!(rt;
-        ticket.wait_for(moment).map(bytes_of),
-        Err(RecvTimeoutError::Disconnected)
+        (answered, waited, again),
+        (true, Ok(21), Err(RecvTimeoutError::Disconnected))
     );
     Ok(())
 }
@@ -114,8 +124,8 @@ fn a_reply_is_awaited(rt: HostRuntime) -> Result<(), Fail> {
 #[test]
 fn a_reply_to_another_text_does_not_fit(rt: HostRuntime) -> Result<(), Fail> {
     let (request, _) = ask((), rt.alloc())?;
-    assert!(rt; request.fits(&Length::of(String::from_str(rt.alloc(), TEXT)?)));
-    let other = "data from sync threads";
-    assert!(rt; !request.fits(&Length::of(String::from_str(rt.alloc(), other)?)));
+    let own = Length::of(String::from_str(rt.alloc(), TEXT)?);
+    let other = Length::of(String::from_str(rt.alloc(), "data from sync threads")?);
+    assert_eq!(rt; (request.fits(&own), request.fits(&other)), (true, false));
     Ok(())
 }

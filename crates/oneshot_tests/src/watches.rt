@@ -19,11 +19,9 @@ const MOMENT: u64 = 20;
 #[test]
 fn a_look_sees_whether_the_guard_is_gone(rt: HostRuntime) -> Result<(), Fail> {
     let (guard, mut watch) = watch((), rt.alloc())?;
-    assert!(rt; !watch.is_gone());
-    assert!(rt; !watch.is_gone());
+    assert_eq!(rt; (watch.is_gone(), watch.is_gone()), (false, false));
     drop(guard);
-    assert!(rt; watch.is_gone());
-    assert!(rt; watch.is_gone());
+    assert_eq!(rt; (watch.is_gone(), watch.is_gone()), (true, true));
     Ok(())
 }
 
@@ -42,14 +40,18 @@ fn a_polled_watch_is_woken_by_the_guards_drop_alone(rt: HostRuntime) -> Result<(
     let task = MockTask::new(&rt)?;
     let (guard, watch) = watch((), rt.alloc())?;
     let mut gone = watch.into_future();
-    assert_eq!(rt; task.poll(&mut gone), Poll::Pending);
-    assert!(rt; !gone.is_gone());
-    assert!(rt; !task.is_woken());
+    let polled = task.poll(&mut gone);
+    assert_eq!(rt;
+        (polled, gone.is_gone(), task.is_woken()),
+        (Poll::Pending, false, false)
+    );
     drop(guard);
-    assert!(rt; task.is_woken());
-    assert_eq!(rt; task.poll(&mut gone), Poll::Ready(()));
-    assert_eq!(rt; task.poll(&mut gone), Poll::Ready(()));
-    assert!(rt; gone.is_gone());
+    let is_woken = task.is_woken();
+    let (polled, again) = (task.poll(&mut gone), task.poll(&mut gone));
+    assert_eq!(rt;
+        (is_woken, polled, again, gone.is_gone()),
+        (true, Poll::Ready(()), Poll::Ready(()), true)
+    );
     Ok(())
 }
 
@@ -75,8 +77,7 @@ fn what_is_selected_beside_a_watch_comes_back(rt: HostRuntime) -> Result<(), Fai
     let Either::Right((number, mut gone)) = selected else {
         return Err(Fail::new("a guard that is there is gone"));
     };
-    assert_eq!(rt; number, 7);
-    assert!(rt; !gone.is_gone());
+    assert_eq!(rt; (number, gone.is_gone()), (7, false));
     drop(guard);
     let Either::Left(((), _)) = block_on(&rt, select(gone, ready(7u8)))? else {
         return Err(Fail::new("a guard that is gone is there"));

@@ -3,9 +3,12 @@
 use crate::asking::Round;
 use crate::client::{Client, Pending};
 use crate::pool::keep_time;
-use crate::within::recv_within;
+use crate::server::Service;
+use crate::square::Square;
+use crate::within::{Within, recv_within};
 use futures::task::{Doorbell, Poll, Solo};
 use futures::test::MockTask;
+use oneshot_channel::reply::Asked;
 use oneshot_channel::{RecvTimeoutError, async_channel, channel};
 use std::cell::Cell;
 use std::io;
@@ -37,19 +40,26 @@ fn a_wait_lasts_to_its_limit(rt: HostRuntime) -> Result<(), Fail> {
     let mut timers = Driver::new(rt.alloc(), before)?;
     let (_sender, receiver) = async_channel::<u8, ()>((), rt.alloc())?;
     let mut within = recv_within(&rt, timers.handle(), limit(), receiver)?;
-    assert!(rt; task.poll(&mut within) == Poll::Pending);
+    let at_once = task.poll(&mut within);
     turn(&task, &mut timers, before, 99)?;
-    assert!(rt;
-        task.poll(&mut within) == Poll::Pending,
-        "it is over before its limit"
-    );
+    let before_limit = task.poll(&mut within);
     turn(&task, &mut timers, Instant::now(&rt)?, 101)?;
-    let late = Poll::Ready(Err(RecvTimeoutError::Timeout));
-    assert!(rt;
-        task.poll(&mut within) == late,
-        "it is not over after its limit"
+    let after_limit = task.poll(&mut within);
+    let over = Poll::Ready(Err(RecvTimeoutError::Timeout));
+    assert_eq!(rt;
+        (at_once, before_limit, after_limit),
+        (Poll::Pending, Poll::Pending, over)
     );
     Ok(())
+}
+
+/// Polls the futures of a reply and of a report. Returns whether each is ready.
+fn polled(
+    task: &MockTask,
+    square: &mut Within<Square, (), Asked<u32>>,
+    report: &mut Within<Service, (), ()>,
+) -> (bool, bool) {
+    (task.poll(square).is_ready(), task.poll(report).is_ready())
 }
 
 #[test]
@@ -70,13 +80,15 @@ fn a_client_awaits_replies_and_reports_to_its_limit(rt: HostRuntime) -> Result<(
         mut square,
     } = client.ask(3)?;
     let mut report = client.give_up(5)?;
-    assert!(rt; task.poll(&mut square).is_pending() && task.poll(&mut report).is_pending());
+    let at_once = polled(&task, &mut square, &mut report);
     turn(&task, &mut timers, before, 99)?;
-    assert!(rt; task.poll(&mut square).is_pending(), "no reply");
-    assert!(rt; task.poll(&mut report).is_pending(), "no report");
+    let before_limit = polled(&task, &mut square, &mut report);
     turn(&task, &mut timers, Instant::now(&rt)?, 101)?;
-    assert!(rt; task.poll(&mut square).is_ready(), "a late reply");
-    assert!(rt; task.poll(&mut report).is_ready(), "a late report");
+    let after_limit = polled(&task, &mut square, &mut report);
+    let replied = (at_once.0, before_limit.0, after_limit.0);
+    let reported = (at_once.1, before_limit.1, after_limit.1);
+    assert_eq!(rt; ("reply", replied), ("reply", (false, false, true)));
+    assert_eq!(rt; ("report", reported), ("report", (false, false, true)));
     Ok(())
 }
 
@@ -138,14 +150,12 @@ fn timers_fire_each_millisecond(rt: HostRuntime) -> Result<(), Fail> {
     let mut sleep = timers
         .handle()
         .sleep_until(due.ok_or("an instant can hold it")?)?;
-    assert!(rt; task.poll(&mut sleep).is_pending());
+    let is_pending = task.poll(&mut sleep).is_pending();
     let (_stop, stopped) = channel(&clock, rt.alloc())?;
     let own = Solo::new(&rt, Doorbell::parking())?;
-    assert!(rt;
-        keep_time(&clock, timers, own, stopped).is_err(),
-        "the clock fails at last"
-    );
-    assert!(rt; clock.saw_it_woken.get(), "the timer did not fire");
+    let clock_failed = keep_time(&clock, timers, own, stopped).is_err();
+    assert!(rt; clock_failed, "the clock fails at last");
+    assert_eq!(rt; (is_pending, clock.saw_it_woken.get()), (true, true));
     Ok(())
 }
 
@@ -161,8 +171,10 @@ fn where_no_report_comes_nobody_was_given_up(rt: HostRuntime) -> Result<(), Fail
         stop,
     };
     let (replies, given_up) = round.finish(&rt)?;
-    assert!(rt; replies.is_empty());
-    assert_eq!(rt; given_up, None);
-    assert_eq!(rt; stopped.try_recv(), Ok(()));
+    let stop_sent = stopped.try_recv();
+    assert_eq!(rt;
+        (replies.is_empty(), given_up, stop_sent),
+        (true, None, Ok(()))
+    );
     Ok(())
 }

@@ -55,10 +55,15 @@ fn assert_finds(
     damage: &Damage,
 ) -> Result<(), Fail> {
     let (name, _, edits, finding) = damage;
-    assert!(rt; audit(scripts, &trace).is_ok(), "{name}, undamaged");
+    assert_accepts(rt, scripts, &trace, name);
     let trace = damaged_by(rt, trace, edits)?;
     assert_eq!(rt; audit(scripts, &trace), Err(*finding), "{name}");
     Ok(())
+}
+
+/// Asserts that the auditor accepts the trace, to which the damage of this name is not done yet.
+fn assert_accepts(rt: &impl Abort, scripts: &Scripts, trace: &DrawnTrace, name: &str) {
+    assert!(rt; audit(scripts, trace).is_ok(), "{name}, undamaged");
 }
 
 /// Asserts for each damage that the auditor accepts the right trace, and finds this in the damaged one.
@@ -168,8 +173,11 @@ fn lines_of(alloc: Global, trace: &DrawnTrace) -> Result<String, AllocError> {
 fn a_future_whose_drop_waits_for_its_sender(rt: HostRuntime) -> Result<(), Fail> {
     let scripts = scripts_of(rt.alloc(), Sending::Send, Receiving::PollDrop)?;
     let trace = waited::trace(rt.alloc())?;
-    assert_eq!(rt; lines_of(rt.alloc(), &trace)?.as_str(), waited::LINES);
-    assert_eq!(rt; audit(&scripts, &trace), Ok(()));
+    let lines = lines_of(rt.alloc(), &trace)?;
+    assert_eq!(rt;
+        (lines.as_str(), audit(&scripts, &trace)),
+        (waited::LINES, Ok(()))
+    );
     let trace = damaged_by(&rt, trace, &[Edit::MoveBefore(15, 11)])?;
     let freed = Fault::FreedTooEarly(End::Receiver);
     assert_eq!(rt; audit(&scripts, &trace), Err((11, freed)));

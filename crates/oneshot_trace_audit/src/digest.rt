@@ -169,7 +169,7 @@ fn texts_have_their_digests(rt: HostRuntime) -> Result<(), Fail> {
     for (text, digest) in PUBLISHED {
         let mut met = Digest::new();
         met.write_all(text.as_bytes())?;
-        assert_eq!(rt; met.value(), *digest, "{text}");
+        assert_eq!(rt; (*text, met.value()), (*text, *digest));
     }
     Ok(())
 }

@@ -1,7 +1,7 @@
 //! Tests of drawn schedules of pairs of scripts: the auditor accepts each trace, and the digests of traces
 //! and texts are those that another program computed.
 
-use crate::auditor::{Scripts, audit};
+use crate::auditor::{Finding, Scripts, audit};
 use crate::digest::Digest;
 use crate::moves::Draws;
 use crate::run::{print_run, run, scripts_of};
@@ -39,19 +39,32 @@ impl Digests {
         let moves = schedule(seed);
         let played = scripts_of(rt.alloc(), sender, receiver)?;
         let trace = run(rt.alloc(), played, &moves)?;
-        if let Err(finding) = audit(scripts, &trace) {
-            panic!(rt; "{sender:?} beside {receiver:?}, seed {seed}: {finding:?}");
-        }
+        assert_accepted(rt, audit(scripts, &trace), (sender, receiver), seed);
         self.traces.add_trace(&trace);
         let played = scripts_of(rt.alloc(), sender, receiver)?;
         Ok(print_run(&mut self.texts, played, &moves)?)
     }
 }
 
+/// Fails if the audit of the trace of both scripts under the schedule of `seed` found a fault.
+fn assert_accepted(
+    rt: &impl Abort,
+    audited: Result<(), Finding>,
+    (sender, receiver): (Sending, Receiving),
+    seed: u64,
+) {
+    if let Err(finding) = audited {
+        panic!(rt; "{sender:?} beside {receiver:?}, seed {seed}: {finding:?}");
+    }
+}
+
 /// Draws a schedule from each seed from 1 to 10,000, and runs both scripts under it. Asserts that the
-/// auditor accepts each trace, and that the digests of all traces and of all texts are these.
-fn assert_drawn(rt: &(impl Abort + AllocGlobal), pair: Pair) -> Result<(), Fail> {
-    let (sender, receiver, traces, texts) = pair;
+/// auditor accepts each trace. Returns the digests of all traces and of all texts.
+fn drawn_digests(
+    rt: &(impl Abort + AllocGlobal),
+    sender: Sending,
+    receiver: Receiving,
+) -> Result<(u64, u64), Fail> {
     let scripts = scripts_of(rt.alloc(), sender, receiver)?;
     let mut digests = Digests {
         traces: Digest::new(),
@@ -60,7 +73,14 @@ fn assert_drawn(rt: &(impl Abort + AllocGlobal), pair: Pair) -> Result<(), Fail>
     for seed in 1..=10_000 {
         digests.add(rt, &scripts, (sender, receiver), seed)?;
     }
-    let found = (digests.traces.value(), digests.texts.value());
+    Ok((digests.traces.value(), digests.texts.value()))
+}
+
+/// Asserts that the auditor accepts each trace that is drawn for the pair, and that the digests of all traces
+/// and of all texts are the pair's.
+fn assert_drawn(rt: &(impl Abort + AllocGlobal), pair: Pair) -> Result<(), Fail> {
+    let (sender, receiver, traces, texts) = pair;
+    let found = drawn_digests(rt, sender, receiver)?;
     assert_eq!(rt; found, (traces, texts), "{sender:?} beside {receiver:?}");
     Ok(())
 }

@@ -51,27 +51,28 @@ impl Draws {
     }
 }
 
-// The letters were computed by another program.
+/// Seeds, each with the letters of the first moves. The letters were computed by another program.
+const DRAWN: &[(u64, &str); 3] = &[
+    (
+        1,
+        "sssrrssrnorsosrsrsnrsssssrsnsrrrsrorssssssssrssossssrsrsrrssssso",
+    ),
+    (
+        2,
+        "ssssssnsrrrrrsrrnrossssrsrnsssrssnnsrssrsrorsssosnrsrsssonosrsoo",
+    ),
+    (
+        10_000,
+        "osorrssnrnsrsosrssrsnnsrsrrrsrsssonrsrssnssrrnrsoosssnonsssrrsrs",
+    ),
+];
+
 #[test]
 fn seeds_draw_their_moves(rt: HostRuntime) {
-    let rows = [
-        (
-            1,
-            "sssrrssrnorsosrsrsnrsssssrsnsrrrsrorssssssssrssossssrsrsrrssssso",
-        ),
-        (
-            2,
-            "ssssssnsrrrrrsrrnrossssrsrnsssrssnnsrssrsrorsssosnrsrsssonosrsoo",
-        ),
-        (
-            10_000,
-            "osorrssnrnsrsosrssrsnnsrsrrrsrsssonrsrssnssrrnrsoosssnonsssrrsrs",
-        ),
-    ];
-    for (seed, letters) in rows {
+    for &(seed, letters) in DRAWN {
         let mut draws = Draws::new(seed);
         for letter in letters.chars() {
-            assert_eq!(rt; draws.draw(), move_of(&rt, letter), "seed {seed}");
+            assert_eq!(rt; (seed, draws.draw()), (seed, move_of(&rt, letter)));
         }
     }
 }

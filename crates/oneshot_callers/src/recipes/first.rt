@@ -39,20 +39,22 @@ fn first_of<R: Wait + RandomSource + AllocGlobal>(
 
 #[test]
 fn the_other_message_is_not_lost(rt: HostRuntime) -> Result<(), Fail> {
-    for left_sends in [true, false] {
-        let (left, left_future) = async_channel_for((), rt.alloc(), &Below(9))?;
-        let (right, right_future) = async_channel_for((), rt.alloc(), &Below(9))?;
-        assert!(rt; right.send_kept(7).is_ok());
-        if left_sends {
-            assert!(rt; left.send_kept(5).is_ok());
-            let both = first_of(&rt, left_future, right_future)?;
-            assert_eq!(rt; both, (Ok(5), Ok(7)));
-        } else {
-            let both = first_of(&rt, left_future, right_future)?;
-            assert_eq!(rt; both, (Ok(7), Err(TryRecvError::Empty)));
-            let back = left.send_kept(5).map_err(|error| error.into_inner());
-            assert_eq!(rt; back, Err(5));
-        }
-    }
+    let (left, left_future) = async_channel_for((), rt.alloc(), &Below(9))?;
+    let (right, right_future) = async_channel_for((), rt.alloc(), &Below(9))?;
+    let sent = (right.send_kept(7).is_ok(), left.send_kept(5).is_ok());
+    let both = first_of(&rt, left_future, right_future)?;
+    assert_eq!(rt; (sent, both), ((true, true), (Ok(5), Ok(7))));
+    Ok(())
+}
+
+#[test]
+fn a_message_after_the_first_comes_back(rt: HostRuntime) -> Result<(), Fail> {
+    let (left, left_future) = async_channel_for((), rt.alloc(), &Below(9))?;
+    let (right, right_future) = async_channel_for((), rt.alloc(), &Below(9))?;
+    let sent = right.send_kept(7).is_ok();
+    let both = first_of(&rt, left_future, right_future)?;
+    let back = left.send_kept(5).map_err(|error| error.into_inner());
+    let empty = Err(TryRecvError::Empty);
+    assert_eq!(rt; (sent, both, back), (true, (Ok(7), empty), Err(5)));
     Ok(())
 }

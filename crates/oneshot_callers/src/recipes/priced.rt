@@ -51,8 +51,11 @@ fn serve(request: Request<u32, Price>, cents: Option<u64>) -> bool {
 fn a_price_names_its_article(rt: HostRuntime) -> Result<(), Fail> {
     for (article, cents) in [(7, Some(250)), (8, None)] {
         let (request, ticket) = request(&rt, rt.alloc(), article).map_err(|_| AllocError)?;
-        assert_eq!(rt; serve(request, cents), true);
-        assert_eq!(rt; price_of(ticket), Ok(Price { article, cents }));
+        let served = serve(request, cents);
+        assert_eq!(rt;
+            (served, price_of(ticket)),
+            (true, Ok(Price { article, cents }))
+        );
     }
     Ok(())
 }

@@ -37,19 +37,19 @@ fn shut_down<Rt: Wait + Clock + Drop>(
 #[test]
 fn a_worker_works_until_it_is_told_or_left(rt: HostRuntime) -> Result<(), Fail> {
     let (stop, mut stopped) = channel((), rt.alloc())?;
-    assert_eq!(rt; work(&mut stopped, 5, || {}), 5);
+    let untold = work(&mut stopped, 5, || {});
     let mut stop = Some(stop);
     let mut made = 0u64;
-    let turns = work(&mut stopped, u64::MAX, || {
+    let told = work(&mut stopped, u64::MAX, || {
         made = made.wrapping_add(1);
         if made == 3 {
             let _ = stop.take().map(|stop| stop.send(()));
         }
     });
-    assert_eq!(rt; turns, 3);
     let (stop, mut stopped) = channel((), rt.alloc())?;
     drop(stop);
-    assert_eq!(rt; work(&mut stopped, 5, || {}), 0);
+    let left = work(&mut stopped, 5, || {});
+    assert_eq!(rt; (untold, told, left), (5, 3, 0));
     Ok(())
 }
 
@@ -66,7 +66,6 @@ fn a_worker_reports_the_turns_that_it_made(rt: HostRuntime) -> Result<(), Fail> 
         },
         || shut_down(stop, report),
     );
-    assert!(rt; sent);
-    assert_eq!(rt; turns, Ok(made));
+    assert_eq!(rt; (sent, turns), (true, Ok(made)));
     Ok(())
 }

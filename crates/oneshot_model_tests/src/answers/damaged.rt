@@ -50,8 +50,7 @@ fn assert_trace(
         assert_entry(rt, entry, index.saturating_add(1), letter)?;
     }
     assert_rest(rt, lines.next().expect(rt, "a rest"), asked.message)?;
-    let block = lines.next().expect(rt, "a block");
-    assert!(rt; block == "block here" || block == "block freed", "{block}");
+    assert_block(rt, lines.next().expect(rt, "a block"));
     assert_eq!(rt; lines.next(), None);
     Ok(())
 }
@@ -83,6 +82,11 @@ fn assert_rest(
     let whole = rest.starts_with("rest ") && rest.ends_with(end.as_str());
     assert!(rt; whole, "{rest}, not of {message}");
     Ok(())
+}
+
+/// Asserts that the line `block` shows whether the block is freed.
+fn assert_block(rt: &impl Abort, block: &str) {
+    assert!(rt; block == "block here" || block == "block freed", "{block}");
 }
 
 #[test]

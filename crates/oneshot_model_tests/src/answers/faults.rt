@@ -35,36 +35,33 @@ const OF_A_LINE: &[(&str, &str); 14] = &[
 #[test]
 fn faults_of_a_line(rt: HostRuntime) {
     for (input, fault) in OF_A_LINE {
-        assert_eq!(rt;
-            output_of(&rt, input.as_bytes()).as_str(),
-            *fault,
-            "{input:?}"
-        );
+        let told = output_of(&rt, input.as_bytes());
+        assert_eq!(rt; (*input, told.as_str()), (*input, *fault));
     }
 }
 
 #[test]
 fn bytes_above_127_are_not_ascii(rt: HostRuntime) {
+    let byte_128 = output_of(&rt, b"S\nR\nX\n\x80");
+    let two_bytes = output_of(&rt, "S é\nR\nX\n".as_bytes());
+    let byte_127 = output_of(&rt, b"S \x7f\nR\nX\n");
     assert_eq!(rt;
-        output_of(&rt, b"S\nR\nX\n\x80").as_str(),
-        "2 input is not ASCII"
-    );
-    assert_eq!(rt;
-        output_of(&rt, "S é\nR\nX\n".as_bytes()).as_str(),
-        "2 input is not ASCII"
-    );
-    assert_eq!(rt;
-        output_of(&rt, b"S \x7f\nR\nX\n").as_str(),
-        "2 line 1: unknown word 1"
+        (byte_128.as_str(), two_bytes.as_str(), byte_127.as_str()),
+        (
+            "2 input is not ASCII",
+            "2 input is not ASCII",
+            "2 line 1: unknown word 1",
+        )
     );
 }
 
 #[test]
 fn a_byte_above_127_is_told_before_any_line(rt: HostRuntime) {
-    assert_eq!(rt; output_of(&rt, b"\xff").as_str(), "2 input is not ASCII");
+    let alone = output_of(&rt, b"\xff");
+    let behind_lines = output_of(&rt, b"Q\nR\nX\n\xff");
     assert_eq!(rt;
-        output_of(&rt, b"Q\nR\nX\n\xff").as_str(),
-        "2 input is not ASCII"
+        (alone.as_str(), behind_lines.as_str()),
+        ("2 input is not ASCII", "2 input is not ASCII")
     );
 }
 
@@ -78,13 +75,13 @@ const FITTING: &[(u8, &str); 2] = &[
 fn a_long_input_is_told_before_all_else(rt: HostRuntime) -> Result<(), Fail> {
     for (byte, fault) in FITTING {
         let mut input = vec![in rt.alloc(); *byte; 1_048_577]?;
-        assert_eq!(rt;
-            output_of(&rt, &input).as_str(),
-            "2 input too long",
-            "of {byte}"
-        );
+        let too_long = output_of(&rt, &input);
         input.pop();
-        assert_eq!(rt; output_of(&rt, &input).as_str(), *fault, "of {byte}");
+        let fitting = output_of(&rt, &input);
+        assert_eq!(rt;
+            (*byte, too_long.as_str(), fitting.as_str()),
+            (*byte, "2 input too long", *fault)
+        );
     }
     Ok(())
 }

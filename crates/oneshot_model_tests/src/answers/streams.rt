@@ -4,6 +4,7 @@ mod pages;
 mod reads;
 mod writes;
 
+use crate::answers::{status_and_text, text_of};
 use oneshot_streams::answer::answer;
 use std::alloc::Global;
 use std::io;
@@ -124,6 +125,6 @@ fn ending<R: Read, W: Write>(
 ) -> String {
     let mut errors = Vec::new(rt.alloc());
     let status = answer(rt.alloc(), input, output, &mut errors);
-    let errors = String::from_utf8(errors).ok().expect(rt, "text");
-    format!(in rt.alloc(); "{status} {errors}").expect(rt, "memory")
+    let errors = text_of(rt, errors);
+    status_and_text(rt, status, &errors)
 }

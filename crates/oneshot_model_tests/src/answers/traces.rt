@@ -1,6 +1,7 @@
 //! Tests of inputs that are run, each with its trace.
 
-use crate::answers::{SENT, SENT_TRACE, assert_traces, output_of};
+use crate::answers::{SENT, SENT_TRACE, assert_trace, assert_traces};
+use std::alloc::{AllocError, Global};
 use std::test::Fail;
 
 const OF_EACH_CALL: &[(&str, &str); 11] = &[
@@ -626,17 +627,18 @@ block freed
     ),
 ];
 
+const TABLES: &[&[(&str, &str)]; 6] = &[
+    OF_EACH_CALL,
+    OF_LOOKS,
+    OF_A_REFUSED_SEND,
+    OF_RECEIVES_THAT_WAIT,
+    OF_DEADLINES,
+    OF_A_LARGE_MESSAGE,
+];
+
 #[test]
 fn each_input_has_its_trace(rt: HostRuntime) {
-    let tables: [&[(&str, &str)]; 6] = [
-        OF_EACH_CALL,
-        OF_LOOKS,
-        OF_A_REFUSED_SEND,
-        OF_RECEIVES_THAT_WAIT,
-        OF_DEADLINES,
-        OF_A_LARGE_MESSAGE,
-    ];
-    for traces in tables {
+    for traces in TABLES {
         assert_traces(&rt, traces);
     }
 }
@@ -662,7 +664,7 @@ rest none
 block here
 ";
     for input in SCHEDULES {
-        assert_eq!(rt; output_of(&rt, input.as_bytes()).as_str(), trace, "{input}");
+        assert_trace(&rt, input, trace);
     }
 }
 
@@ -683,12 +685,23 @@ fn traces_of_fronts_of_a_schedule(rt: HostRuntime) -> Result<(), Fail> {
     let scripts = "S send 7\nR try drop\nX";
     for (entries, (moves, rest, block)) in FRONTS.iter().enumerate() {
         let input = format!(in rt.alloc(); "{scripts}{moves}")?;
-        let mut output = String::new(rt.alloc());
-        for line in SENT_TRACE.lines().take(entries) {
-            writeln!(output, "{line}")?;
-        }
-        writeln!(output, "rest {rest}\n{block}")?;
-        assert_eq!(rt; output_of(&rt, input.as_bytes()), output, "{moves}");
+        let output = trace_of_front(rt.alloc(), entries, rest, block)?;
+        assert_trace(&rt, &input, &output);
     }
     Ok(())
+}
+
+/// The first entries of `SENT_TRACE`, then the message's place and what is of the block.
+fn trace_of_front(
+    alloc: Global,
+    entries: usize,
+    rest: &str,
+    block: &str,
+) -> Result<String, AllocError> {
+    let mut output = String::new(alloc);
+    for line in SENT_TRACE.lines().take(entries) {
+        writeln!(output, "{line}")?;
+    }
+    writeln!(output, "rest {rest}\n{block}")?;
+    Ok(output)
 }

@@ -101,8 +101,10 @@ impl Line<'_> {
         has: &str,
     ) -> Result<(), AllocError> {
         let reply = format!(in rt.alloc(); "{reply}")?;
-        let line = self.text;
-        assert_eq!(rt; (reply.as_str(), has), (self.reply, self.has), "{line}");
+        assert_eq!(rt;
+            (self.text, reply.as_str(), has),
+            (self.text, self.reply, self.has)
+        );
         Ok(())
     }
 }

@@ -18,13 +18,14 @@ impl Drop for Counted<'_> {
 fn the_errors_drop_drops_the_message_once(rt: HostRuntime) {
     let drops = Cell::new(0);
     let mut g = MemorySender::<Counted, (), _>::new(&rt, rt.alloc(), false);
-    if !send(&mut g, Counted(&drops)) {
-        assert_eq!(rt; drops.get(), 0);
-        drop_error(&mut g);
+    if send(&mut g, Counted(&drops)) {
+        panic!(rt; "the receiver is gone")
     }
-    assert_eq!(rt; drops.get(), 1);
+    let refused = drops.get();
+    drop_error(&mut g);
+    let ended = drops.get();
     drop(g);
-    assert_eq!(rt; drops.get(), 1);
+    assert_eq!(rt; (refused, ended, drops.get()), (0, 1, 1));
 }
 
 #[test]
@@ -37,11 +38,12 @@ fn a_receiver_that_left_meanwhile_costs_its_waker_and_the_message_once(rt: HostR
     if send(&mut g, Counted(&messages)) {
         panic!(rt; "the receiver left")
     }
-    assert_eq!(rt; (messages.get(), wakers.get()), (0, 1));
+    let refused = (messages.get(), wakers.get());
     drop_error(&mut g);
-    assert_eq!(rt; (messages.get(), wakers.get()), (1, 1));
+    let ended = (messages.get(), wakers.get());
     drop(g);
-    assert_eq!(rt; (messages.get(), wakers.get()), (1, 1));
+    let freed = (messages.get(), wakers.get());
+    assert_eq!(rt; (refused, ended, freed), ((0, 1), (1, 1), (1, 1)));
 }
 
 #[test]
@@ -49,8 +51,8 @@ fn send_uses_the_waker_up(rt: HostRuntime) {
     let drops = Cell::new(0);
     let waker = Counted(&drops);
     let mut g = MemorySender::<u64, Counted, _>::with_waiting_receiver(&rt, rt.alloc(), waker);
-    assert!(rt; send(&mut g, 7));
-    assert_eq!(rt; drops.get(), 1);
+    let is_sent = send(&mut g, 7);
+    assert_eq!(rt; (is_sent, drops.get()), (true, 1));
 }
 
 #[test]
@@ -59,9 +61,9 @@ fn the_receivers_drop_drops_the_message_once(rt: HostRuntime) {
     let mut g = MemoryReceiver::<Counted, (), _>::new(&rt, rt.alloc());
     g.sender_sends(Counted(&drops));
     drop_receiver(&mut g);
-    assert_eq!(rt; drops.get(), 1);
+    let ended = drops.get();
     drop(g);
-    assert_eq!(rt; drops.get(), 1);
+    assert_eq!(rt; (ended, drops.get()), (1, 1));
 }
 
 #[test]
@@ -70,9 +72,8 @@ fn recv_gives_the_message_out(rt: HostRuntime) {
     let mut g = MemoryReceiver::<Counted, u8, _>::new(&rt, rt.alloc());
     g.sender_sends(Counted(&drops));
     let received = recv(&mut g, &rt, &mut Some(9));
-    assert!(rt; received.is_ok());
-    assert_eq!(rt; drops.get(), 0);
+    let (is_received, received_drops) = (received.is_ok(), drops.get());
     drop(received);
     drop(g);
-    assert_eq!(rt; drops.get(), 1);
+    assert_eq!(rt; (is_received, received_drops, drops.get()), (true, 0, 1));
 }

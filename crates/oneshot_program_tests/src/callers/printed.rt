@@ -6,6 +6,7 @@ use oneshot::replay::{
 };
 use oneshot::text::{CalledLine, EntryLine, ParseError, Request, parse_request};
 use std::alloc::{AllocError, Global};
+use std::process::Abort;
 use std::test::Fail;
 
 /// Makes the run that a text asks for, and returns each entry's line with the call that the entry belongs to.
@@ -49,21 +50,26 @@ fn lines_of(
     Ok(lines)
 }
 
-#[test]
-fn a_message_comes_back_and_its_lines_are_printed(rt: HostRuntime) -> Result<(), Fail> {
+/// A run of a `send` of this message, whose error is left as it is, and of a receiver that is dropped.
+fn run_of_a_send(alloc: Global, message: u64) -> Replayer<u64> {
     let error = ErrorScript {
         looks: 0,
         last: ErrorLast::Stop,
     };
     let sender = SenderScript {
         looks: 0,
-        last: SenderLast::Send(7, error),
+        last: SenderLast::Send(message, error),
     };
     let receiver = ReceiverScript {
-        calls: CallList::from(Vec::new(rt.alloc())),
+        calls: CallList::from(Vec::new(alloc)),
         last: ReceiverLast::Drop,
     };
-    let mut run = Replayer::new(sender, receiver);
+    Replayer::new(sender, receiver)
+}
+
+#[test]
+fn a_message_comes_back_and_its_lines_are_printed(rt: HostRuntime) -> Result<(), Fail> {
+    let mut run = run_of_a_send(rt.alloc(), 7);
     let receives = Move::Receiver {
         over: false,
         refuse: false,
@@ -74,9 +80,14 @@ fn a_message_comes_back_and_its_lines_are_printed(rt: HostRuntime) -> Result<(),
     let [dropped, written, refused] = lines.as_slice() else {
         panic!(rt; "a line a move")
     };
-    assert_eq!(rt; dropped.as_str(), "1 R swap 3>2 = dropped");
-    assert_eq!(rt; written.as_str(), "2 S write-message 2>2 m:NotSent>InCell");
-    assert_eq!(rt; refused.as_str(), "3 S add 2>3 m:InCell>InError = Err");
+    assert_eq!(rt;
+        (dropped.as_str(), written.as_str(), refused.as_str()),
+        (
+            "1 R swap 3>2 = dropped",
+            "2 S write-message 2>2 m:NotSent>InCell",
+            "3 S add 2>3 m:InCell>InError = Err",
+        )
+    );
     assert!(rt; !run.block_freed());
     Ok(())
 }
@@ -104,9 +115,14 @@ fn each_line_names_its_call(rt: HostRuntime) -> Result<(), Fail> {
     let Ok(lines) = called_lines(rt.alloc(), ASKED) else {
         panic!(rt; "the text asks for a run")
     };
+    assert_called(&rt, lines.as_slice());
+    Ok(())
+}
+
+/// Asserts that the lines are those of `CALLED`.
+fn assert_called(rt: &impl Abort, lines: &[String]) {
     assert_eq!(rt; lines.len(), CALLED.len());
-    for (line, called) in lines.as_slice().iter().zip(&CALLED) {
+    for (line, called) in lines.iter().zip(&CALLED) {
         assert_eq!(rt; line.as_str(), *called);
     }
-    Ok(())
 }

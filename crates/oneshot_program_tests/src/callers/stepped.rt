@@ -33,22 +33,26 @@ fn stepped(
     Ok(entries)
 }
 
-#[test]
-fn a_send_is_two_steps_and_the_sender_is_idle_then(rt: HostRuntime) -> Result<(), Fail> {
+/// A `send` of this message, whose error is left as it is.
+fn send(message: u64) -> SenderScript<u64> {
     let error = ErrorScript {
         looks: 0,
         last: ErrorLast::Stop,
     };
-    let sender = SenderScript {
+    SenderScript {
         looks: 0,
-        last: SenderLast::Send(7, error),
-    };
+        last: SenderLast::Send(message, error),
+    }
+}
+
+#[test]
+fn a_send_is_two_steps_and_the_sender_is_idle_then(rt: HostRuntime) -> Result<(), Fail> {
     let receiver = ReceiverScript {
         calls: CallList::from(Vec::new(rt.alloc())),
         last: ReceiverLast::Stop,
     };
     let moves = [Move::Sender, Move::Sender, Move::Sender];
-    let entries = stepped(rt.alloc(), sender, receiver, &moves)?;
+    let entries = stepped(rt.alloc(), send(7), receiver, &moves)?;
     let [
         Entry::Made(write),
         Entry::Made(add),
@@ -57,7 +61,9 @@ fn a_send_is_two_steps_and_the_sender_is_idle_then(rt: HostRuntime) -> Result<()
     else {
         panic!(rt; "the send ends with its second step")
     };
-    assert_eq!(rt; write.step, Step::WriteMessage);
-    assert_eq!(rt; add.reply, Some(Reply::Sent));
+    assert_eq!(rt;
+        (write.step, add.reply),
+        (Step::WriteMessage, Some(Reply::Sent))
+    );
     Ok(())
 }

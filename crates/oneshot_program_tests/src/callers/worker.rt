@@ -22,9 +22,18 @@ fn tried<T: Send + Drop, Rt: Drop>(receiver: &mut Receiver<T, Rt>) -> Result<T, 
 #[test]
 fn a_worker_gets_the_message_once(rt: HostRuntime) -> Result<(), Fail> {
     let (sender, mut receiver) = channel::<u8, ()>((), rt.alloc())?;
-    assert_eq!(rt; tried(&mut receiver), Err(TryRecvError::Empty));
-    assert!(rt; sender.send(7).is_ok());
-    assert_eq!(rt; tried(&mut receiver), Ok(7));
-    assert_eq!(rt; tried(&mut receiver), Err(TryRecvError::Disconnected));
+    let before = tried(&mut receiver);
+    let sent = sender.send(7).is_ok();
+    let after = tried(&mut receiver);
+    let again = tried(&mut receiver);
+    assert_eq!(rt;
+        (before, sent, after, again),
+        (
+            Err(TryRecvError::Empty),
+            true,
+            Ok(7),
+            Err(TryRecvError::Disconnected),
+        )
+    );
     Ok(())
 }

@@ -66,8 +66,8 @@ fn five() -> Duration {
 fn a_wait_for_a_reply_lasts_to_its_limit(rt: HostRuntime) -> Result<(), Fail> {
     let clock = Written::new(&rt);
     let (_request, asked) = ask(&clock, rt.alloc(), 3)?;
-    assert_eq!(rt; asked.wait_within(five()).square, Err(Unanswered::Late));
-    assert_eq!(rt; clock.made(), A_WAIT);
+    let late = asked.wait_within(five()).square;
+    assert_eq!(rt; (late, clock.made()), (Err(Unanswered::Late), A_WAIT));
     Ok(())
 }
 
@@ -77,8 +77,8 @@ fn a_wait_for_a_square_lasts_to_its_limit(rt: HostRuntime) -> Result<(), Fail> {
     let (_request, mut ticket) = request::<_, Square, _>(&clock, rt.alloc(), 3).map_err(
         |_| AllocError,
     )?;
-    assert_eq!(rt; square_within(&mut ticket, five()), Err(Unanswered::Late));
-    assert_eq!(rt; clock.made(), A_WAIT);
+    let late = square_within(&mut ticket, five());
+    assert_eq!(rt; (late, clock.made()), (Err(Unanswered::Late), A_WAIT));
     Ok(())
 }
 
@@ -88,8 +88,7 @@ fn a_wait_for_a_report_lasts_to_its_limit(rt: HostRuntime) -> Result<(), Fail> {
     let (_report, reported) = channel(&clock, rt.alloc())?;
     let mut reports = Vec::new(rt.alloc());
     reports.push(reported)?;
-    assert_eq!(rt; total(reports, five()), None);
-    assert_eq!(rt; clock.made(), A_WAIT);
+    assert_eq!(rt; (total(reports, five()), clock.made()), (None, A_WAIT));
     Ok(())
 }
 
@@ -97,10 +96,14 @@ fn a_wait_for_a_report_lasts_to_its_limit(rt: HostRuntime) -> Result<(), Fail> {
 fn each_wait_for_a_worker_lasts_to_its_limit(rt: HostRuntime) -> Result<(), Fail> {
     let clock = Written::new(&rt);
     let done = pooled(&clock, rt.alloc(), 0, &[3, 5], five())?;
-    assert_eq!(rt; done.answers.len(), 2);
-    assert_eq!(rt; clock.made(), 2 * A_WAIT);
+    assert_eq!(rt; (done.answers.len(), clock.made()), (2, 2 * A_WAIT));
+    Ok(())
+}
+
+#[test]
+fn each_wait_for_a_worker_by_a_ticket_lasts_to_its_limit(rt: HostRuntime) -> Result<(), Fail> {
     let clock = Written::new(&rt);
-    assert_eq!(rt; asked(&clock, rt.alloc(), 0, &[3, 5], five())?.len(), 2);
-    assert_eq!(rt; clock.made(), 2 * A_WAIT);
+    let answers = asked(&clock, rt.alloc(), 0, &[3, 5], five())?;
+    assert_eq!(rt; (answers.len(), clock.made()), (2, 2 * A_WAIT));
     Ok(())
 }

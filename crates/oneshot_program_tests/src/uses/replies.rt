@@ -26,8 +26,7 @@ fn a_request_that_is_dropped_leaves_the_other_reply(rt: HostRuntime) -> Result<(
             served.serve()
         },
     );
-    assert_eq!(rt; awaited?, (None, Some(121)));
-    assert!(rt; was_awaited);
+    assert_eq!(rt; (awaited?, was_awaited), ((None, Some(121)), true));
     Ok(())
 }
 
@@ -35,9 +34,9 @@ fn a_request_that_is_dropped_leaves_the_other_reply(rt: HostRuntime) -> Result<(
 fn the_later_request_may_be_served_first(rt: HostRuntime) -> Result<(), Fail> {
     let (first_request, first) = ask((), rt.alloc(), 7)?;
     let (second_request, second) = ask((), rt.alloc(), 11)?;
-    assert!(rt; second_request.serve());
-    assert!(rt; first_request.serve());
-    assert_eq!(rt; both_replies(&rt, first, second)?, (Some(49), Some(121)));
+    let served = (second_request.serve(), first_request.serve());
+    let replies = both_replies(&rt, first, second)?;
+    assert_eq!(rt; (served, replies), ((true, true), (Some(49), Some(121))));
     Ok(())
 }
 
@@ -53,8 +52,8 @@ fn one_reply_is_awaited_where_nobody_serves_the_other_request(rt: HostRuntime) -
     let (unserved, second) = ask((), rt.alloc(), 13)?;
     let (first, second) = (first.reply.into_future(), second.reply.into_future());
     assert!(rt; served.serve());
-    assert_eq!(rt; first_reply(&rt, 13, first, second)?, Some(169));
-    assert!(rt; !unserved.serve());
+    let reply = first_reply(&rt, 13, first, second)?;
+    assert_eq!(rt; (reply, unserved.serve()), (Some(169), false));
     Ok(())
 }
 
@@ -69,8 +68,7 @@ fn a_request_that_is_dropped_leaves_one_reply_to_await(rt: HostRuntime) -> Resul
         || first_reply(&rt, 13, first, second),
         || served.serve(),
     );
-    assert_eq!(rt; awaited?, Some(169));
-    assert!(rt; was_awaited);
+    assert_eq!(rt; (awaited?, was_awaited), (Some(169), true));
     Ok(())
 }
 

@@ -28,8 +28,7 @@ fn a_reply_to_another_request_is_not_taken(rt: HostRuntime) -> Result<(), Fail> 
         root: 3,
         reply: of_other.reply,
     };
-    assert!(rt; other.serve());
-    assert_eq!(rt; asked.wait(), None);
+    assert_eq!(rt; (other.serve(), asked.wait()), (true, None));
     Ok(())
 }
 
@@ -49,7 +48,6 @@ fn a_worker_counts_the_replies_that_are_waited_for(rt: HostRuntime) -> Result<()
     let mut requests = Vec::new(rt.alloc());
     requests.push(waited_for)?;
     requests.push(given_up)?;
-    assert_eq!(rt; serve_all(requests), 1);
-    assert_eq!(rt; asked.wait(), Some(9));
+    assert_eq!(rt; (serve_all(requests), asked.wait()), (1, Some(9)));
     Ok(())
 }

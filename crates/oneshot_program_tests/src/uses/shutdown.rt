@@ -39,14 +39,11 @@ fn a_worker_that_nobody_stops_makes_all_its_turns(rt: HostRuntime) -> Result<(),
     let (sender, mut stop) = channel::<(), ()>((), rt.alloc())?;
     let mut made = 0u64;
     let report = work_until(&mut stop, 3, || made = made.wrapping_add(1));
-    assert_eq!(rt;
-        report,
-        Report {
-            turns: 3,
-            ending: Ending::Done,
-        }
-    );
-    assert_eq!(rt; made, 3);
+    let all = Report {
+        turns: 3,
+        ending: Ending::Done,
+    };
+    assert_eq!(rt; (report, made), (all, 3));
     drop(sender);
     Ok(())
 }

@@ -21,8 +21,8 @@ fn a_result_comes_back_from_a_receiver_that_is_gone(rt: HostRuntime) -> Result<(
 #[test]
 fn a_task_does_not_wait_for_its_waiter(rt: HostRuntime) -> Result<(), Fail> {
     let (waiter, receiver) = channel(&rt, rt.alloc())?;
-    assert_eq!(rt; perform(|| 7u8, waiter), None);
-    assert_eq!(rt; receiver.recv(), Ok(7));
+    let unclaimed = perform(|| 7u8, waiter);
+    assert_eq!(rt; (unclaimed, receiver.recv()), (None, Ok(7)));
     Ok(())
 }
 
@@ -31,7 +31,6 @@ fn a_started_task_is_joined_after_its_result(rt: HostRuntime) -> Result<(), Fail
     let (waiter, receiver) = channel(&rt, rt.alloc())?;
     let thread = start(&rt, || 7u8, waiter)?;
     let received = receiver.recv();
-    assert_eq!(rt; thread.join(&rt), None);
-    assert_eq!(rt; received, Ok(7));
+    assert_eq!(rt; (thread.join(&rt), received), (None, Ok(7)));
     Ok(())
 }

@@ -22,13 +22,15 @@ fn ask<Rt: Drop>(rt: Rt, alloc: Global, root: u32) -> Result<Ends<Rt>, AllocErro
     request(rt, alloc, root).map_err(|_| AllocError)
 }
 
+/// Numbers and their squares.
+const SQUARES: &[(u32, u64); 5] = &[(2, 4), (4, 16), (6, 36), (8, 64), (10, 100)];
+
 #[test]
 fn each_ticket_has_its_square(rt: HostRuntime) -> Result<(), Fail> {
-    let squares = [(2, 4), (4, 16), (6, 36), (8, 64), (10, 100)];
     let answers = asked(&rt, rt.alloc(), 3, &[2, 4, 6, 8, 10], minute())?;
     assert_eq!(rt; answers.len(), 5);
-    for (answer, (root, square)) in answers.iter().zip(squares) {
-        assert_eq!(rt; (answer.root, answer.square), (root, Ok(square)));
+    for (answer, (root, square)) in answers.iter().zip(SQUARES) {
+        assert_eq!(rt; (answer.root, answer.square), (*root, Ok(*square)));
     }
     Ok(())
 }
@@ -44,9 +46,9 @@ fn without_a_worker_each_square_is_late(rt: HostRuntime) -> Result<(), Fail> {
 #[test]
 fn a_late_answer_is_refused(rt: HostRuntime) -> Result<(), Fail> {
     let (request, mut ticket) = ask(&rt, rt.alloc(), 3)?;
-    assert_eq!(rt; square_within(&mut ticket, moment()), Err(Unanswered::Late));
+    let late = square_within(&mut ticket, moment());
     drop(ticket);
-    assert!(rt; !serve(request));
+    assert_eq!(rt; (late, serve(request)), (Err(Unanswered::Late), false));
     Ok(())
 }
 
@@ -62,8 +64,12 @@ fn a_dropped_request_loses_its_square(rt: HostRuntime) -> Result<(), Fail> {
 fn a_task_awaits_its_square(rt: HostRuntime) -> Result<(), Fail> {
     let (request, ticket) = ask((), rt.alloc(), 12)?;
     let (awaited, served) = join(&rt, || square_awaited(&rt, ticket), || serve(request));
-    assert!(rt; served);
-    assert_eq!(rt; awaited?, Some(144));
+    assert_eq!(rt; (served, awaited?), (true, Some(144)));
+    Ok(())
+}
+
+#[test]
+fn a_task_gets_no_square_of_a_dropped_request(rt: HostRuntime) -> Result<(), Fail> {
     let (request, ticket) = ask((), rt.alloc(), 12)?;
     drop(request);
     assert_eq!(rt; square_awaited(&rt, ticket)?, None);

@@ -91,19 +91,28 @@ fn a_receive_that_waits_uses_little_processor_time(rt: HostRuntime) -> Result<()
     Ok(())
 }
 
+/// In how many of `SHORT_WAITS` short waits a receive spins.
+fn spinning_waits<R: Threads + Wait + Clock + CpuClock + RandomSource + AllocGlobal + Sync>(
+    rt: &R,
+    receives: &[ReceiverCall],
+) -> Result<u32, Fail> {
+    let mut spinning = 0u32;
+    for _ in 0..SHORT_WAITS {
+        let (spins, _received) = spins(rt, receives, SHORT)?;
+        if spins {
+            spinning = spinning.saturating_add(1);
+        }
+    }
+    Ok(spinning)
+}
+
 #[test]
 fn a_receive_spins_little_before_it_sleeps(rt: HostRuntime) -> Result<(), Fail> {
     assert_spins(&rt)?;
     // These read no clock that could count their spins.
     for receives in ["recv", "ref try ref"] {
         let calls = script::<ReceiverCall>(rt.alloc(), receives)?;
-        let mut spinning = 0u32;
-        for _ in 0..SHORT_WAITS {
-            let (spins, _received) = spins(&rt, &calls, SHORT)?;
-            if spins {
-                spinning = spinning.saturating_add(1);
-            }
-        }
+        let spinning = spinning_waits(&rt, &calls)?;
         // Other programs may have disturbed a few of the waits.
         assert!(rt;
             spinning < SHORT_WAITS / 2,

@@ -186,7 +186,18 @@ fn assert_outcome(rt: &impl Abort, calls: Calls<'_>, shared: &Arc<u64>, outcome:
         shows(&sent, if sends { "Ok" } else { "dropped" }) && Arc::strong_count(shared) == owners,
         "{calls:?}: {sent}"
     );
-    let received = outcome.received.numbered();
+    assert_received(rt, calls, shared, outcome.received);
+}
+
+/// Fails unless this is the reply of the receive among these calls, and unless `shared` has no other owner after it.
+fn assert_received(
+    rt: &impl Abort,
+    calls: Calls<'_>,
+    shared: &Arc<u64>,
+    received: Reply<Arc<u64>>,
+) {
+    let received = received.numbered();
+    let sends = calls.sends.contains(&SenderCall::Send);
     let texts = if sends {
         ["Ok(19)", "Ok(19)"]
     } else {
@@ -231,19 +242,26 @@ fn a_message_that_is_not_sent_ends_a_test(rt: HostRuntime) {
     assert_without_message(&rt, SenderCall::Send, Bare::Refused, Bare::Ended);
 }
 
+/// Fails unless each receive of `WAITS` waits for the act of these calls.
+fn assert_each_waits<
+    R: Threads + Wait + Clock + CpuClock + RandomSource + AllocGlobal + Abort + Sync,
+>(rt: &R, sends: &[SenderCall]) -> Result<(), Fail> {
+    let pace = Pace::Sleep(Duration::from_millis(2));
+    for receives in WAITS {
+        let receives = script::<ReceiverCall>(rt.alloc(), receives)?;
+        let calls = Calls {
+            sends,
+            receives: &receives,
+        };
+        assert_receives(rt, calls, &pace)?;
+    }
+    Ok(())
+}
+
 #[test]
 fn each_receive_waits_for_each_act(rt: HostRuntime) -> Result<(), Fail> {
-    let pace = Pace::Sleep(Duration::from_millis(2));
     for sends in ["closed send", "drop", "dropraw"] {
-        let sends = script::<SenderCall>(rt.alloc(), sends)?;
-        for receives in WAITS {
-            let receives = script::<ReceiverCall>(rt.alloc(), receives)?;
-            let calls = Calls {
-                sends: &sends,
-                receives: &receives,
-            };
-            assert_receives(&rt, calls, &pace)?;
-        }
+        assert_each_waits(&rt, &script::<SenderCall>(rt.alloc(), sends)?)?;
     }
     Ok(())
 }

@@ -86,8 +86,10 @@ fn a_deadline_ends_a_receive_once_the_clock_is_past_it(rt: HostRuntime) -> Resul
         let clock = Written::new(&rt, written);
         let (_sender, mut receiver) = by_clock(&clock, rt.alloc())?;
         let received = receiver.recv_deadline(instant_at(&rt, 5)?);
-        assert_eq!(rt; received, Err(RecvTimeoutError::Timeout), "by {written:?}");
-        assert_eq!(rt; clock.made(), made, "by {written:?}");
+        assert_eq!(rt;
+            (written, received, clock.made()),
+            (written, Err(RecvTimeoutError::Timeout), made)
+        );
     }
     Ok(())
 }
@@ -119,8 +121,10 @@ fn a_timeout_counts_from_one_reading(rt: HostRuntime) -> Result<(), Fail> {
         let clock = Written::new(&rt, written);
         let (_sender, mut receiver) = by_clock(&clock, rt.alloc())?;
         let received = receiver.recv_timeout(Duration::from_nanos(timeout));
-        assert_eq!(rt; received, Err(RecvTimeoutError::Timeout), "by {written:?}");
-        assert_eq!(rt; clock.made(), made, "by {written:?}");
+        assert_eq!(rt;
+            (timeout, written, received, clock.made()),
+            (timeout, written, Err(RecvTimeoutError::Timeout), made)
+        );
     }
     Ok(())
 }
@@ -153,6 +157,19 @@ enum Limit {
 }
 
 impl Limit {
+    /// What a receive by this clock returns. Its deadline is a second after its start.
+    fn receive(
+        self,
+        rt: &(impl Wait + AllocGlobal),
+        clock: &Written<'_, impl Wait>,
+    ) -> Result<Result<u8, RecvTimeoutError>, Fail> {
+        let (_sender, mut receiver) = by_clock(clock, rt.alloc())?;
+        Ok(match self {
+            Limit::Timeout => receiver.recv_timeout(Duration::from_nanos(SECOND)),
+            Limit::Deadline => receiver.recv_deadline(instant_at(rt, SECOND)?),
+        })
+    }
+
     /// How many readings a receive makes, by a clock on which its deadline is a second away in so many turns, and is
     /// then past. Fails unless it times out.
     fn readings(self, rt: &(impl Wait + AllocGlobal + Abort), turns: usize) -> Result<usize, Fail> {
@@ -162,12 +179,7 @@ impl Limit {
         };
         let readings = still_for(same);
         let clock = Written::new(rt, &readings);
-        let (_sender, mut receiver) = by_clock(&clock, rt.alloc())?;
-        let received = match self {
-            Limit::Timeout => receiver.recv_timeout(Duration::from_nanos(SECOND)),
-            Limit::Deadline => receiver.recv_deadline(instant_at(rt, SECOND)?),
-        };
-        assert_eq!(rt; received, Err(RecvTimeoutError::Timeout));
+        assert_eq!(rt; self.receive(rt, &clock)?, Err(RecvTimeoutError::Timeout));
         // That for the deadline.
         let first = same.saturating_sub(turns);
         Ok(clock.made().saturating_sub(first))
@@ -196,8 +208,10 @@ fn a_receive_spins_only_with_a_far_deadline(rt: HostRuntime) -> Result<(), Fail>
         let clock = Written::new(&rt, &[1, 1, 2 * FAR, 2 * FAR]);
         let (_sender, mut receiver) = by_clock(&clock, rt.alloc())?;
         let received = receiver.recv_timeout(Duration::from_nanos(timeout));
-        assert_eq!(rt; received, Err(RecvTimeoutError::Timeout), "with {timeout}");
-        assert_eq!(rt; clock.made(), made, "with {timeout}");
+        assert_eq!(rt;
+            (timeout, received, clock.made()),
+            (timeout, Err(RecvTimeoutError::Timeout), made)
+        );
     }
     Ok(())
 }
@@ -206,11 +220,14 @@ fn a_receive_spins_only_with_a_far_deadline(rt: HostRuntime) -> Result<(), Fail>
 fn a_clock_that_fails_hides_no_message(rt: HostRuntime) -> Result<(), Fail> {
     let clock = Written::new(&rt, &[]);
     let (sender, mut receiver) = by_clock(&clock, rt.alloc())?;
-    assert!(rt; sender.send(19).is_ok());
-    assert_eq!(rt; receiver.recv_timeout(Duration::from_nanos(5)), Ok(19));
+    let limit = Duration::from_nanos(5);
     assert_eq!(rt;
-        receiver.recv_timeout(Duration::from_nanos(5)),
-        Err(RecvTimeoutError::Disconnected)
+        (
+            sender.send(19).is_ok(),
+            receiver.recv_timeout(limit),
+            receiver.recv_timeout(limit)
+        ),
+        (true, Ok(19), Err(RecvTimeoutError::Disconnected))
     );
     Ok(())
 }
@@ -243,13 +260,20 @@ fn a_receive_that_waits_reads_the_clock_few_times(rt: HostRuntime) -> Result<(),
         readings: Cell::new(0),
     };
     let (_sender, mut receiver) = channel::<u8, _>(&counting, rt.alloc())?;
-    let received = receiver.recv_timeout(Duration::from_millis(20));
-    assert_eq!(rt; received, Err(RecvTimeoutError::Timeout));
-    assert!(rt; counting.readings.get() < 100);
+    let by_timeout = receiver.recv_timeout(Duration::from_millis(20));
+    let few_by_timeout = counting.readings.get() < 100;
     let end = Instant::now(&rt)?.checked_add(Duration::from_millis(20));
-    let received = receiver.recv_deadline(end.ok_or("an instant can hold it")?);
-    assert_eq!(rt; received, Err(RecvTimeoutError::Timeout));
-    assert!(rt; counting.readings.get() < 200);
+    let by_deadline = receiver.recv_deadline(end.ok_or("an instant can hold it")?);
+    let few_by_both = counting.readings.get() < 200;
+    assert_eq!(rt;
+        (by_timeout, few_by_timeout, by_deadline, few_by_both),
+        (
+            Err(RecvTimeoutError::Timeout),
+            true,
+            Err(RecvTimeoutError::Timeout),
+            true
+        )
+    );
     Ok(())
 }
 
@@ -268,15 +292,21 @@ fn a_receive_spins_few_times_before_it_sleeps(rt: HostRuntime) -> Result<(), Fai
         readings: Cell::new(0),
     };
     let (_sender, mut receiver) = channel::<u8, _>(&counting, rt.alloc())?;
-    let received = receiver.recv_timeout(Duration::from_millis(150));
-    assert_eq!(rt; received, Err(RecvTimeoutError::Timeout));
-    assert!(rt; counting.readings.get() < READINGS);
-    counting.readings.set(0);
+    let far = receiver.recv_timeout(Duration::from_millis(150));
+    let spins_few_times = counting.readings.replace(0) < READINGS;
     // With less than a tenth of a second left it does not spin: it reads the clock for the sum, before its
     // sleep, twice in it, and after it.
-    let received = receiver.recv_timeout(Duration::from_millis(5));
-    assert_eq!(rt; received, Err(RecvTimeoutError::Timeout));
-    assert!(rt; counting.readings.get() < SPINLESS);
+    let near = receiver.recv_timeout(Duration::from_millis(5));
+    let does_not_spin = counting.readings.get() < SPINLESS;
+    assert_eq!(rt;
+        (far, spins_few_times, near, does_not_spin),
+        (
+            Err(RecvTimeoutError::Timeout),
+            true,
+            Err(RecvTimeoutError::Timeout),
+            true
+        )
+    );
     Ok(())
 }
 
@@ -325,8 +355,8 @@ fn a_message_that_comes_at_the_deadline_is_found(rt: HostRuntime) -> Result<(), 
     let clock = Meanwhile::new(&rt);
     let (sender, mut receiver) = channel::<u64, _>(&clock, rt.alloc())?;
     clock.will(sender, SenderCall::Send);
-    assert_eq!(rt; receiver.recv_deadline(instant_at(&rt, 5)?), Ok(19));
-    assert!(rt; receiver.is_closed());
+    let received = receiver.recv_deadline(instant_at(&rt, 5)?);
+    assert_eq!(rt; (received, receiver.is_closed()), (Ok(19), true));
     Ok(())
 }
 
@@ -336,7 +366,9 @@ fn a_drop_at_the_deadline_is_found(rt: HostRuntime) -> Result<(), Fail> {
     let (sender, mut receiver) = channel::<u64, _>(&clock, rt.alloc())?;
     clock.will(sender, SenderCall::Drop);
     let received = receiver.recv_deadline(instant_at(&rt, 5)?);
-    assert_eq!(rt; received, Err(RecvTimeoutError::Disconnected));
-    assert!(rt; receiver.is_closed());
+    assert_eq!(rt;
+        (received, receiver.is_closed()),
+        (Err(RecvTimeoutError::Disconnected), true)
+    );
     Ok(())
 }

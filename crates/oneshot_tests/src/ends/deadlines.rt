@@ -15,8 +15,11 @@ fn a_timeout_that_runs_out_takes_its_time(rt: HostRuntime) -> Result<(), Fail> {
     let short = Duration::from_millis(2);
     let start = Instant::now(&rt)?;
     let received = receiver.recv_timeout(short);
-    assert!(rt; start.elapsed(&rt)? > short);
-    assert_eq!(rt; received, Err(RecvTimeoutError::Timeout));
+    let takes_its_time = start.elapsed(&rt)? > short;
+    assert_eq!(rt;
+        (takes_its_time, received),
+        (true, Err(RecvTimeoutError::Timeout))
+    );
     Ok(())
 }
 
@@ -53,8 +56,10 @@ fn two_threads_answer_each_other(rt: HostRuntime) -> Result<(), Fail> {
             (to_left.send(2).is_ok(), received)
         },
     );
-    assert_eq!(rt; (left.0, left.1?), (true, Ok(2)));
-    assert_eq!(rt; (right.0, right.1?), (true, Ok(1)));
+    assert_eq!(rt;
+        (left.0, left.1?, right.0, right.1?),
+        (true, Ok(2), true, Ok(1))
+    );
     Ok(())
 }
 

@@ -1,8 +1,8 @@
 //! Lives of a channel, line by line: what each step returns, and what the looks of both ends return after it.
 
-use super::steps::{Ends, Life, read};
+use super::steps::{Ends, Life, Step, read};
 use oneshot_calls::{Fault, Tasks, shows};
-use std::alloc::AllocGlobal;
+use std::alloc::{AllocError, AllocGlobal};
 use std::io;
 use std::process::{Abort, Termination};
 use std::random::RandomSource;
@@ -225,6 +225,19 @@ const TIMED: &[&str; 6] = &[
     "fardeadline",
 ];
 
+/// Makes a step. Fails unless it returns what it states.
+fn assert_reply<W: Wait + Clock + Drop>(
+    rt: &(impl Wait + Clock + AllocGlobal + RandomSource + Abort),
+    ends: &mut Ends<W>,
+    tasks: &Tasks,
+    step: &Step<'_>,
+) -> Result<(), AllocError> {
+    let line = step.line;
+    let reply = ends.make(rt, tasks, step.call)?;
+    assert!(rt; shows(&reply, step.reply), "{line}: {reply}");
+    Ok(())
+}
+
 /// Makes the steps of a life, with tasks of its own for polls, and drops the ends that are left. Fails
 /// unless each step returns what the life states, and the message then has no owner but the test.
 pub(super) fn live(
@@ -234,12 +247,9 @@ pub(super) fn live(
     let tasks = Tasks::new(rt)?;
     let mut ends = Ends::open(rt.alloc(), rt, life)?;
     for step in &life.steps {
-        let line = step.line;
-        let reply = ends.make(rt, &tasks, step.call)?;
-        assert!(rt; shows(&reply, step.reply), "{line}: {reply}");
+        assert_reply(rt, &mut ends, &tasks, step)?;
     }
-    let text = life.text;
-    assert!(rt; ends.finish() == 1, "{text}");
+    assert_eq!(rt; (life.text, ends.finish()), (life.text, 1));
     Ok(())
 }
 
@@ -262,8 +272,39 @@ impl<'a, R: Clock> Clock for Counted<'a, R> {
     }
 }
 
-/// Makes the steps of a life. Fails unless each returns what the life states, and so do the looks after it; the
-/// runtime lives as long as the receiver, and the message is in the channel where a look sees it, or in its error.
+/// How many owners the message has in the channel or its error, and how many the runtime has, where the looks show
+/// this: the message is in the channel where a look sees it, and the runtime lives as long as the receiver.
+fn owners_by((sender, receiver): (&str, &str)) -> (usize, usize) {
+    let message = if sender == "error" || receiver == "full" {
+        1
+    } else {
+        0
+    };
+    let runtime = if receiver == "gone" { 1 } else { 2 };
+    (message, runtime)
+}
+
+/// Fails unless the looks after a step return what it states, and the message and the runtime, which has an owner
+/// beside `alive`, are owned accordingly.
+fn assert_looks_after<W: Wait + Clock + Drop>(
+    rt: &(impl Wait + Clock + AllocGlobal + RandomSource + Abort),
+    ends: &mut Ends<W>,
+    tasks: &Tasks,
+    step: &Step<'_>,
+    alive: &Arc<u8>,
+) {
+    let line = step.line;
+    let looks = ends.looks(rt, tasks);
+    let owners = (ends.owners_inside(), Arc::strong_count(alive));
+    assert_eq!(rt;
+        (looks, owners),
+        (step.looks, owners_by(step.looks)),
+        "after {line}"
+    );
+}
+
+/// Makes the steps of a life. Fails unless each returns what the life states, and so do the looks after it, and unless
+/// the message and the runtime have the owners that go with the looks.
 fn assert_looks(
     rt: &(impl Wait + Clock + AllocGlobal + RandomSource + Abort),
     text: &str,
@@ -276,56 +317,24 @@ fn assert_looks(
         _alive: Arc::try_clone(&alive)?,
     };
     let mut ends = Ends::open(rt.alloc(), counted, &life)?;
-    assert_eq!(rt; ends.looks(rt, &tasks), ("open", "open"), "{text}");
+    assert_eq!(rt; (text, ends.looks(rt, &tasks)), (text, ("open", "open")));
     for step in &life.steps {
-        let line = step.line;
-        let reply = ends.make(rt, &tasks, step.call)?;
-        assert!(rt; shows(&reply, step.reply), "{line}: {reply}");
-        assert_eq!(rt; ends.looks(rt, &tasks), step.looks, "after {line}");
-        let (sender, receiver) = step.looks;
-        let message = if sender == "error" || receiver == "full" {
-            1
-        } else {
-            0
-        };
-        let runtime = if receiver == "gone" { 1 } else { 2 };
-        let owners = (ends.owners_inside(), Arc::strong_count(&alive));
-        assert_eq!(rt; owners, (message, runtime), "after {line}");
+        assert_reply(rt, &mut ends, &tasks, step)?;
+        assert_looks_after(rt, &mut ends, &tasks, step, &alive);
     }
     assert_eq!(rt;
-        (ends.finish(), Arc::strong_count(&alive)),
-        (1, 1),
-        "{text}"
+        (text, ends.finish(), Arc::strong_count(&alive)),
+        (text, 1, 1)
     );
     Ok(())
 }
 
 #[test]
 fn the_looks_of_both_ends_and_what_they_own(rt: HostRuntime) -> Result<(), Fail> {
-    for life in LIVES.iter().copied().flatten() {
-        assert_looks(&rt, life)?;
-    }
-    Ok(())
-}
-
-#[test]
-fn a_timed_receive_gets_what_is_there_whenever_its_time_is_over(
-    rt: HostRuntime,
-) -> Result<(), Fail> {
-    for receive in TIMED {
-        let sent = format!(in rt.alloc();
-            "channel
-            S send = Ok | gone full
-            R {receive} = Ok(19) | gone closed
-            R {receive} = Err(Disconnected) | gone closed"
-        )?;
-        live(&rt, &read(rt.alloc(), &sent)?)?;
-        let dropped = format!(in rt.alloc();
-            "channel
-            S drop = dropped | gone closed
-            R {receive} = Err(Disconnected) | gone closed"
-        )?;
-        live(&rt, &read(rt.alloc(), &dropped)?)?;
+    for lives in LIVES {
+        for life in *lives {
+            assert_looks(&rt, life)?;
+        }
     }
     Ok(())
 }
@@ -337,6 +346,44 @@ fn live_by(
     Ok(live(rt, &read(rt.alloc(), text)?)?)
 }
 
+/// Fails unless this timed receive gets a message that was sent before it.
+fn assert_gets_a_message(
+    rt: &(impl Wait + Clock + AllocGlobal + RandomSource + Abort),
+    receive: &str,
+) -> Result<(), Fail> {
+    let sent = format!(in rt.alloc();
+        "channel
+        S send = Ok | gone full
+        R {receive} = Ok(19) | gone closed
+        R {receive} = Err(Disconnected) | gone closed"
+    )?;
+    live_by(rt, &sent)
+}
+
+/// Fails unless this timed receive finds that the sender was dropped before it.
+fn assert_finds_a_drop(
+    rt: &(impl Wait + Clock + AllocGlobal + RandomSource + Abort),
+    receive: &str,
+) -> Result<(), Fail> {
+    let dropped = format!(in rt.alloc();
+        "channel
+        S drop = dropped | gone closed
+        R {receive} = Err(Disconnected) | gone closed"
+    )?;
+    live_by(rt, &dropped)
+}
+
+#[test]
+fn a_timed_receive_gets_what_is_there_whenever_its_time_is_over(
+    rt: HostRuntime,
+) -> Result<(), Fail> {
+    for receive in TIMED {
+        assert_gets_a_message(&rt, receive)?;
+        assert_finds_a_drop(&rt, receive)?;
+    }
+    Ok(())
+}
+
 #[test]
 #[should_panic(expected = "R try = Ok(19) | gone open: Err(Empty)")]
 fn another_reply_ends_a_test(rt: HostRuntime) {
@@ -344,18 +391,17 @@ fn another_reply_ends_a_test(rt: HostRuntime) {
 }
 
 #[test]
-fn a_line_with_an_unknown_word_is_no_step(rt: HostRuntime) {
+fn a_line_with_an_unknown_word_is_no_step(rt: HostRuntime) -> Result<(), Fail> {
     for line in [
         "R tri = Ok(19) | gone open",
         "R try Ok(19) | gone open",
         "R try = Ok(19)",
     ] {
-        let text = format!(in rt.alloc(); "channel\n    {line}")
-            .ok()
-            .expect(&rt, "memory");
+        let text = format!(in rt.alloc(); "channel\n    {line}")?;
         let fault = read(rt.alloc(), &text).err();
         assert_eq!(rt; fault, Some(Fault::Unknown(line)));
     }
+    Ok(())
 }
 
 #[test]

@@ -31,11 +31,19 @@ fn a_sender_that_nobody_receives_is_dropped(rt: HostRuntime) -> Result<(), Fail>
         inner_sender,
         mut inner_receiver,
     } = make_nest(&rt)?;
-    assert!(rt; outer_sender.send(inner_sender).is_ok());
-    assert!(rt; !inner_receiver.is_closed());
+    let is_sent = outer_sender.send(inner_sender).is_ok();
+    let is_closed_before = inner_receiver.is_closed();
     drop(outer_receiver);
-    assert!(rt; inner_receiver.is_closed());
-    assert_eq!(rt; inner_receiver.try_recv(), Err(TryRecvError::Disconnected));
+    let is_closed_after = inner_receiver.is_closed();
+    assert_eq!(rt;
+        (
+            is_sent,
+            is_closed_before,
+            is_closed_after,
+            inner_receiver.try_recv()
+        ),
+        (true, false, true, Err(TryRecvError::Disconnected))
+    );
     Ok(())
 }
 
@@ -49,10 +57,18 @@ fn a_sender_that_is_refused_lives_as_long_as_the_error(rt: HostRuntime) -> Resul
     } = make_nest(&rt)?;
     drop(outer_receiver);
     let refused = outer_sender.send(inner_sender);
-    assert!(rt; refused.is_err());
-    assert_eq!(rt; inner_receiver.try_recv(), Err(TryRecvError::Empty));
+    let is_refused = refused.is_err();
+    let with_error = inner_receiver.try_recv();
     drop(refused);
-    assert_eq!(rt; inner_receiver.try_recv(), Err(TryRecvError::Disconnected));
+    let without_error = inner_receiver.try_recv();
+    assert_eq!(rt;
+        (is_refused, with_error, without_error),
+        (
+            true,
+            Err(TryRecvError::Empty),
+            Err(TryRecvError::Disconnected)
+        )
+    );
     Ok(())
 }
 
@@ -68,7 +84,7 @@ fn a_sender_that_is_received_sends(rt: HostRuntime) -> Result<(), Fail> {
     let Ok(sender) = outer_receiver.recv() else {
         panic!(rt; "the sender was sent")
     };
-    assert!(rt; sender.send(5).is_ok());
-    assert_eq!(rt; inner_receiver.try_recv(), Ok(5));
+    let is_sent = sender.send(5).is_ok();
+    assert_eq!(rt; (is_sent, inner_receiver.try_recv()), (true, Ok(5)));
     Ok(())
 }

@@ -4,9 +4,13 @@
 use super::beside::{Calls, Pace, assert_receives};
 use oneshot_calls::{Ask, ReceiverCall, SenderCall};
 use std::io;
+use std::process::Abort;
+use std::random::RandomSource;
+use std::sync::Wait;
 use std::sync::atomic::AtomicU64;
 use std::test::Fail;
-use std::time::{Clock, Duration, Instant};
+use std::thread::Threads;
+use std::time::{Clock, CpuClock, Duration, Instant};
 
 const ROUNDS: u64 = 20_000;
 
@@ -26,7 +30,26 @@ fn is_enough(rt: &impl Clock, first: Instant, round: u64) -> io::Result<bool> {
     Ok(is_late && round >= FEWEST_ROUNDS)
 }
 
-// The limit is up to six microseconds, and the sender makes up to 399 loads.
+/// Makes an act beside a receive whose limit is up to six microseconds. The sender makes up to 399 loads.
+fn assert_round<R: Threads + Wait + Clock + CpuClock + RandomSource + AllocGlobal + Abort + Sync>(
+    rt: &R,
+    sends: &[SenderCall],
+    round: u64,
+) -> Result<(), Fail> {
+    let here = AtomicU64::new(0);
+    let limit = Duration::from_micros(round % 7);
+    let timed = if round % 2 == 0 {
+        Ask::Deadline(limit)
+    } else {
+        Ask::Timeout(limit)
+    };
+    let calls = Calls {
+        sends,
+        receives: &[ReceiverCall::Ask(timed), ReceiverCall::Recv],
+    };
+    assert_receives(rt, calls, &Pace::Meet(&here, round % 400))
+}
+
 #[test]
 fn an_act_at_the_deadline_ends_the_receive(rt: HostRuntime) -> Result<(), Fail> {
     for sends in [SENDS, DROPS] {
@@ -35,18 +58,7 @@ fn an_act_at_the_deadline_ends_the_receive(rt: HostRuntime) -> Result<(), Fail> 
             if is_enough(&rt, first, round)? {
                 break;
             }
-            let here = AtomicU64::new(0);
-            let limit = Duration::from_micros(round % 7);
-            let timed = if round % 2 == 0 {
-                Ask::Deadline(limit)
-            } else {
-                Ask::Timeout(limit)
-            };
-            let calls = Calls {
-                sends,
-                receives: &[ReceiverCall::Ask(timed), ReceiverCall::Recv],
-            };
-            assert_receives(&rt, calls, &Pace::Meet(&here, round % 400))?;
+            assert_round(&rt, sends, round)?;
         }
     }
     Ok(())

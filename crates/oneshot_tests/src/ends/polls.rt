@@ -68,8 +68,7 @@ fn a_send_of_another_thread_wakes_the_task(rt: HostRuntime) -> Result<(), Fail> 
             sender.send(19u8).is_ok()
         },
     );
-    assert!(rt; sent);
-    assert_eq!(rt; received?, Ok(19));
+    assert_eq!(rt; (sent, received?), (true, Ok(19)));
     let polls = polls.load(Ordering::SeqCst);
     assert!(rt; 1 < polls && polls <= MOST_POLLS, "{polls} polls");
     Ok(())
@@ -117,8 +116,7 @@ fn polls_of_two<R: thread::Threads + Wait + Clock + RandomSource + AllocGlobal +
             first && sender.send(19u8).is_ok()
         },
     );
-    assert!(rt; sent);
-    assert_eq!(rt; received?, (Ok(19), Ok(1)));
+    assert_eq!(rt; (sent, received?), (true, (Ok(19), Ok(1))));
     Ok(polls.load(Ordering::SeqCst))
 }
 
@@ -166,7 +164,7 @@ fn a_message_that_was_sent_before_is_ready_at_once(rt: HostRuntime) -> Result<()
         receiver,
         polls: &polls,
     };
-    assert_eq!(rt; block_on(&rt, counted)?, Ok(19));
-    assert_eq!(rt; polls.load(Ordering::SeqCst), 1);
+    let received = block_on(&rt, counted)?;
+    assert_eq!(rt; (received, polls.load(Ordering::SeqCst)), (Ok(19), 1));
     Ok(())
 }

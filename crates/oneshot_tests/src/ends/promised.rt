@@ -17,17 +17,20 @@ impl Promise<u32> for Only {
 #[test]
 fn a_channel_under_a_promise_carries_its_message(rt: HostRuntime) -> Result<(), Fail> {
     let (sender, mut receiver) = channel_for((), rt.alloc(), &Only(5))?;
-    assert_eq!(rt; receiver.try_recv(), Err(TryRecvError::Empty));
-    assert!(rt; sender.send_kept(5).is_ok());
-    assert_eq!(rt; receiver.try_recv(), Ok(5));
+    let before = receiver.try_recv();
+    let is_sent = sender.send_kept(5).is_ok();
+    assert_eq!(rt;
+        (before, is_sent, receiver.try_recv()),
+        (Err(TryRecvError::Empty), true, Ok(5))
+    );
     Ok(())
 }
 
 #[test]
 fn a_future_under_a_promise_carries_its_message(rt: HostRuntime) -> Result<(), Fail> {
     let (sender, receiver) = async_channel_for((), rt.alloc(), &Only(5))?;
-    assert!(rt; !receiver.is_closed());
-    assert!(rt; sender.send_kept(5).is_ok());
+    let is_closed = receiver.is_closed();
+    assert_eq!(rt; (is_closed, sender.send_kept(5).is_ok()), (false, true));
     assert_eq!(rt; block_on(&rt, receiver)?, Ok(5));
     Ok(())
 }

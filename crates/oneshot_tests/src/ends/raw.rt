@@ -23,7 +23,10 @@ fn both_there_and_back<T: Send + Drop, Rt: Send + Drop>(
 fn raw_ends_go_to_other_threads_and_back(rt: HostRuntime) -> Result<(), Fail> {
     let (sender, receiver) = channel::<u32, ()>((), rt.alloc())?;
     let (sender, receiver) = both_there_and_back(&rt, sender.into_raw(), receiver.into_raw());
-    assert!(rt; Sender::from_raw(sender).send(100).is_ok());
-    assert_eq!(rt; Receiver::from_raw(receiver).try_recv(), Ok(100));
+    let is_sent = Sender::from_raw(sender).send(100).is_ok();
+    assert_eq!(rt;
+        (is_sent, Receiver::from_raw(receiver).try_recv()),
+        (true, Ok(100))
+    );
     Ok(())
 }

@@ -11,10 +11,15 @@ fn the_errors_texts_are_printed(rt: HostRuntime) -> Result<(), Fail> {
         panic!(rt; "the receiver is gone")
     };
     let shown = format!(in rt.alloc(); "{error}")?;
-    assert_eq!(rt; shown.as_str(), "sending on a closed channel");
     let wide = format!(in rt.alloc(); "{error:>30}")?;
-    assert_eq!(rt; wide.as_str(), "   sending on a closed channel");
     let debugged = format!(in rt.alloc(); "{error:?}")?;
-    assert_eq!(rt; debugged.as_str(), "SendError(_)");
+    assert_eq!(rt;
+        (shown.as_str(), wide.as_str(), debugged.as_str()),
+        (
+            "sending on a closed channel",
+            "   sending on a closed channel",
+            "SendError(_)"
+        )
+    );
     Ok(())
 }

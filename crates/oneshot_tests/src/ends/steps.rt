@@ -122,21 +122,32 @@ impl<Rt: Wait + Clock + Drop> Ends<Rt> {
         rt: &(impl Wait + Clock + RandomSource + AllocGlobal),
         tasks: &Tasks,
     ) -> (&'static str, &'static str) {
+        let sender = self.look_of_sender();
+        (sender, self.look_of_receiver(rt, tasks))
+    }
+
+    fn look_of_sender(&mut self) -> &'static str {
         let gone = if self.sending.has_error() {
             "error"
         } else {
             "gone"
         };
         let sees_none = Reply::Bare(Bare::No);
-        let sender = look_of(&self.sending.make(SenderCall::Closed), &sees_none);
+        look_of(&self.sending.make(SenderCall::Closed), &sees_none).unwrap_or(gone)
+    }
+
+    fn look_of_receiver(
+        &mut self,
+        rt: &(impl Wait + Clock + RandomSource + AllocGlobal),
+        tasks: &Tasks,
+    ) -> &'static str {
         let closed = self
             .receiving
             .make(rt, Some(tasks), ReceiverCall::Ask(Ask::Closed));
         let full = self
             .receiving
             .make(rt, Some(tasks), ReceiverCall::Ask(Ask::Full));
-        let receiver = look_of(&closed, &full);
-        (sender.unwrap_or(gone), receiver.unwrap_or("gone"))
+        look_of(&closed, &full).unwrap_or("gone")
     }
 
     /// How many owners the message has in the channel or in an error: none, or one.

@@ -13,9 +13,10 @@ fn two_looks<T: Send + Sync>(rt: &impl Threads, sender: &Sender<T>) -> (bool, bo
 #[test]
 fn two_threads_look_at_one_sender(rt: HostRuntime) -> Result<(), Fail> {
     let (sender, receiver) = channel::<u8, ()>((), rt.alloc())?;
-    assert_eq!(rt; two_looks(&rt, &sender), (false, false));
+    let before = two_looks(&rt, &sender);
     drop(receiver);
-    assert_eq!(rt; two_looks(&rt, &sender), (true, true));
+    let after = two_looks(&rt, &sender);
+    assert_eq!(rt; (before, after), ((false, false), (true, true)));
     Ok(())
 }
 
@@ -37,8 +38,8 @@ fn an_error_is_read_and_emptied_by_other_threads(rt: HostRuntime) -> Result<(), 
     let Err(error) = sender.send(5) else {
         panic!(rt; "the receiver is gone")
     };
-    assert_eq!(rt; two_readings(&rt, &error), (5, 5));
-    assert_eq!(rt; taken_there(&rt, error), 5);
+    let read = two_readings(&rt, &error);
+    assert_eq!(rt; (read, taken_there(&rt, error)), ((5, 5), 5));
     Ok(())
 }
 
@@ -52,8 +53,11 @@ fn two_threads_share_a_raw_sender(rt: HostRuntime) -> Result<(), Fail> {
     let (sender, receiver) = channel::<u8, ()>((), rt.alloc())?;
     let raw = sender.into_raw();
     let size = size_of_val(&raw);
-    assert_eq!(rt; two_sights(&rt, &raw), (size, size));
-    assert!(rt; Sender::from_raw(raw).send(5).is_ok());
-    assert!(rt; receiver.has_message());
+    let sights = two_sights(&rt, &raw);
+    let is_sent = Sender::from_raw(raw).send(5).is_ok();
+    assert_eq!(rt;
+        (sights, is_sent, receiver.has_message()),
+        ((size, size), true, true)
+    );
     Ok(())
 }

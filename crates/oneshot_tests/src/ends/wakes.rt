@@ -71,6 +71,16 @@ impl Bell {
     }
 }
 
+impl<'a, T: Drop, W: Wait + Clock + Drop, P: Promise<T>> Listener<'a, T, W, P> {
+    fn new(bell: &'a Bell, place: &'a Place<T, W, P>) -> Listener<'a, T, W, P> {
+        Listener {
+            bell,
+            source: Source::new(),
+            place,
+        }
+    }
+}
+
 impl<'a, T: Drop, W: Wait + Clock + Drop, P: Promise<T>> Future for Listener<'a, T, W, P> {
     type Output = ();
 
@@ -103,12 +113,7 @@ fn listening<'a, T: Drop, W: Wait + Clock + Drop, P: Promise<T>>(
     let mut pool = LocalPool::new(rt)?;
     let spawner = pool.spawner()?;
     for bell in bells {
-        let source = Source::new();
-        let listener = Listener {
-            bell,
-            source,
-            place,
-        };
+        let listener = Listener::new(bell, place);
         spawner.spawn(listener).map_err(|_| AllocError)?;
     }
     pool.run_until_stalled(MOST_POLLS);
@@ -168,6 +173,30 @@ fn assert_wakes(
     );
 }
 
+/// Makes the calls of a future. Fails at another count of wakes, and returns the step behind them.
+fn assert_calls_wake<
+    'a,
+    T: Numbered + Drop,
+    W: Wait + Clock + Drop,
+    P: Promise<T>,
+    R: Wait + Abort + Clock + RandomSource + AllocGlobal,
+>(
+    rt: &R,
+    bells: &'a [Bell; 2],
+    place: &'a Place<T, W, P>,
+    pool: &mut LocalPool<Listener<'a, T, W, P>>,
+    calls: &str,
+) -> Result<usize, Fail> {
+    let mut step = 1usize;
+    for call in script::<ReceiverCall>(rt.alloc(), calls)? {
+        let wakes = make(rt, bells, place, call);
+        pool.run_until_stalled(MOST_POLLS);
+        assert_wakes(rt, bells, wakes, step, calls);
+        step = step.saturating_add(1);
+    }
+    Ok(step)
+}
+
 /// Makes the calls of a future, then the sender's `act`, and then a `try`. Fails at another count of wakes, and unless
 /// the `try` returns `wanted`.
 pub(crate) fn waited_for<
@@ -190,13 +219,7 @@ pub(crate) fn waited_for<
     let bells = [Bell::new(), Bell::new()];
     let mut pool = listening(rt, &bells, &place)?;
     assert_wakes(rt, &bells, [1, 1], 0, calls);
-    let mut step = 1usize;
-    for call in script::<ReceiverCall>(rt.alloc(), calls)? {
-        let wakes = make(rt, &bells, &place, call);
-        pool.run_until_stalled(MOST_POLLS);
-        assert_wakes(rt, &bells, wakes, step, calls);
-        step = step.saturating_add(1);
-    }
+    let step = assert_calls_wake(rt, &bells, &place, &mut pool, calls)?;
     act();
     pool.run_until_stalled(MOST_POLLS);
     assert_wakes(rt, &bells, woken, step, calls);
@@ -205,17 +228,33 @@ pub(crate) fn waited_for<
     Ok(())
 }
 
+/// Fails unless a send wakes the tasks as often as `waits` states, and its message is then there.
+fn assert_a_send_wakes(
+    rt: &(impl Wait + Abort + Clock + RandomSource + AllocGlobal),
+    waits: &Waits,
+) -> Result<(), Fail> {
+    let (sender, future) = async_channel(rt, rt.alloc())?;
+    let act = || assert!(rt; sender.send(19u64).is_ok());
+    waited_for(rt, waits, Receiving::of_future(future), act, "Ok(19)")
+}
+
+/// Fails unless the drop of the sender wakes the tasks as often as `waits` states, and is then found.
+fn assert_a_drop_wakes(
+    rt: &(impl Wait + Abort + Clock + RandomSource + AllocGlobal),
+    waits: &Waits,
+) -> Result<(), Fail> {
+    let (sender, future) = async_channel::<u64, _>(rt, rt.alloc())?;
+    let future = Receiving::of_future(future);
+    waited_for(rt, waits, future, || drop(sender), "Err(Disconnected)")
+}
+
 #[test]
 fn a_task_that_waits_beside_others_is_woken_by_the_sender_alone(
     rt: HostRuntime,
 ) -> Result<(), Fail> {
     for waits in WAITS {
-        let (sender, future) = async_channel(&rt, rt.alloc())?;
-        let act = || assert!(rt; sender.send(19u64).is_ok());
-        waited_for(&rt, waits, Receiving::of_future(future), act, "Ok(19)")?;
-        let (sender, future) = async_channel::<u64, _>(&rt, rt.alloc())?;
-        let future = Receiving::of_future(future);
-        waited_for(&rt, waits, future, || drop(sender), "Err(Disconnected)")?;
+        assert_a_send_wakes(&rt, waits)?;
+        assert_a_drop_wakes(&rt, waits)?;
     }
     Ok(())
 }

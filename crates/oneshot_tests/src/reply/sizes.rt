@@ -52,25 +52,45 @@ fn answered<'r, R: AllocGlobal + Abort, Q: Copy + Eq + Send + Drop>(
     Ok(ticket)
 }
 
+/// Sends `message`. Fails unless `wanted` comes by `try_recv` of a future.
+fn assert_message_comes<
+    R: AllocGlobal + Wait + Clock + RandomSource + Abort,
+    Q: Copy + Debug + Eq + Send + Drop,
+>(rt: &R, message: Q, wanted: Q) -> Result<(), Fail> {
+    let (sender, mut receiver) = async_channel((), rt.alloc())?;
+    assert!(rt; sender.send(message).is_ok());
+    assert_eq!(rt; receiver.try_recv(), Ok(wanted));
+    Ok(())
+}
+
+/// Asks `question`. Fails unless `wanted` comes by each call of a ticket.
+fn assert_reply_comes<
+    R: AllocGlobal + Wait + Clock + RandomSource + Abort,
+    Q: Copy + Debug + Eq + Send + Drop,
+>(rt: &R, question: Q, wanted: Q) -> Result<(), Fail> {
+    let taken = answered(rt, question)?.try_take().map(question_of);
+    let timed = answered(rt, question)?.wait_for(Duration::ZERO);
+    let tried = answered(rt, question)?.into_future().try_recv();
+    assert_eq!(rt;
+        (taken, timed.map(question_of), tried.map(question_of)),
+        (Ok(wanted), Ok(wanted), Ok(wanted))
+    );
+    let waited = answered(rt, question)?.wait().map(question_of);
+    let awaited = block_on(rt, answered(rt, question)?.into_future())?;
+    assert_eq!(rt;
+        (waited, awaited.map(question_of)),
+        (Ok(wanted), Ok(wanted))
+    );
+    Ok(())
+}
+
 /// Sends and asks `question`. Fails unless `wanted` comes by `try_recv` of a future, and by each call of a ticket.
 fn assert_comes<
     R: AllocGlobal + Wait + Clock + RandomSource + Abort,
     Q: Copy + Debug + Eq + Send + Drop,
 >(rt: &R, question: Q, wanted: Q) -> Result<(), Fail> {
-    let (sender, mut receiver) = async_channel((), rt.alloc())?;
-    assert!(rt; sender.send(question).is_ok());
-    assert_eq!(rt; receiver.try_recv(), Ok(wanted));
-    let taken = answered(rt, question)?.try_take();
-    assert_eq!(rt; taken.map(question_of), Ok(wanted));
-    let waited = answered(rt, question)?.wait();
-    assert_eq!(rt; waited.map(question_of), Ok(wanted));
-    let waited = answered(rt, question)?.wait_for(Duration::ZERO);
-    assert_eq!(rt; waited.map(question_of), Ok(wanted));
-    let tried = answered(rt, question)?.into_future().try_recv();
-    assert_eq!(rt; tried.map(question_of), Ok(wanted));
-    let awaited = block_on(rt, answered(rt, question)?.into_future())?;
-    assert_eq!(rt; awaited.map(question_of), Ok(wanted));
-    Ok(())
+    assert_message_comes(rt, question, wanted)?;
+    assert_reply_comes(rt, question, wanted)
 }
 
 #[test]

@@ -33,8 +33,9 @@ fn answered_there<Q: Eq + Send + Drop, A: Answer<Q> + Send + Drop>(
 fn a_request_and_its_ticket_go_to_other_threads(rt: HostRuntime) -> Result<(), Fail> {
     let (request, ticket) = ask((), rt.alloc())?;
     let length = Length::of(String::from_str(rt.alloc(), TEXT)?);
-    assert!(rt; answered_there(&rt, request, length));
-    assert_eq!(rt; taken_there(&rt, ticket).map(bytes_of), Ok(21));
+    let answered = answered_there(&rt, request, length);
+    let taken = taken_there(&rt, ticket).map(bytes_of);
+    assert_eq!(rt; (answered, taken), (true, Ok(21)));
     Ok(())
 }
 
@@ -49,8 +50,9 @@ fn two_looks<Q: Eq + Send + Sync, A: Answer<Q> + Send + Sync>(
 #[test]
 fn two_threads_look_at_one_request(rt: HostRuntime) -> Result<(), Fail> {
     let (request, ticket) = ask((), rt.alloc())?;
-    assert_eq!(rt; two_looks(&rt, &request), (false, false));
+    let before = two_looks(&rt, &request);
     drop(ticket);
-    assert_eq!(rt; two_looks(&rt, &request), (true, true));
+    let after = two_looks(&rt, &request);
+    assert_eq!(rt; (before, after), ((false, false), (true, true)));
     Ok(())
 }

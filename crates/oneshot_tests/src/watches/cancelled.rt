@@ -42,30 +42,53 @@ fn answer(
 #[test]
 fn a_reply_is_taken_once(rt: HostRuntime) -> Result<(), Fail> {
     let (request, mut ticket) = ask((), rt.alloc())?;
-    assert_eq!(rt; request.question().as_str(), TEXT);
-    assert!(rt; !request.is_cancelled() && !ticket.is_closed());
+    assert_eq!(rt;
+        (
+            request.question().as_str(),
+            request.is_cancelled(),
+            ticket.is_closed()
+        ),
+        (TEXT, false, false)
+    );
     let early = ticket.try_take().map(bytes_of);
-    assert_eq!(rt; early, Err(TryRecvError::Empty));
-    assert!(rt; answer(request)?.is_ok());
-    assert!(rt; !ticket.is_closed());
-    assert_eq!(rt; ticket.try_take().map(bytes_of), Ok(21));
+    let answered = answer(request)?.is_ok();
+    assert_eq!(rt;
+        (early, answered, ticket.is_closed()),
+        (Err(TryRecvError::Empty), true, false)
+    );
+    let taken = ticket.try_take().map(bytes_of);
     let again = ticket.try_take().map(bytes_of);
-    assert_eq!(rt; again, Err(TryRecvError::Disconnected));
-    assert!(rt; ticket.is_closed());
+    assert_eq!(rt;
+        (taken, again, ticket.is_closed()),
+        (Ok(21), Err(TryRecvError::Disconnected), true)
+    );
+    Ok(())
+}
+
+#[test]
+fn a_reply_is_waited_for_with_a_timeout(rt: HostRuntime) -> Result<(), Fail> {
+    let (request, mut ticket) = ask(&rt, rt.alloc())?;
+    let moment = Duration::from_millis(1);
+    let early = ticket.wait_for(moment).map(bytes_of);
+    let answered = answer(request)?.is_ok();
+    let waited = ticket.wait_for(moment).map(bytes_of);
+    assert_eq!(rt;
+        (early, answered, waited),
+        (Err(RecvTimeoutError::Timeout), true, Ok(21))
+    );
     Ok(())
 }
 
 #[test]
 fn a_reply_is_waited_for(rt: HostRuntime) -> Result<(), Fail> {
-    let (request, mut ticket) = ask(&rt, rt.alloc())?;
-    let moment = Duration::from_millis(1);
-    let early = ticket.wait_for(moment).map(bytes_of);
-    assert_eq!(rt; early, Err(RecvTimeoutError::Timeout));
-    assert!(rt; answer(request)?.is_ok());
-    assert_eq!(rt; ticket.wait_for(moment).map(bytes_of), Ok(21));
     let (request, ticket) = ask(&rt, rt.alloc())?;
     assert!(rt; answer(request)?.is_ok());
     assert_eq!(rt; ticket.wait().map(bytes_of), Ok(21));
+    Ok(())
+}
+
+#[test]
+fn a_dropped_request_has_no_reply(rt: HostRuntime) -> Result<(), Fail> {
     let (request, ticket) = ask(&rt, rt.alloc())?;
     drop(request);
     assert_eq!(rt; ticket.wait().map(bytes_of), Err(RecvError));
@@ -77,18 +100,28 @@ fn a_reply_is_awaited(rt: HostRuntime) -> Result<(), Fail> {
     let task = MockTask::new(&rt)?;
     let (request, ticket) = ask((), rt.alloc())?;
     let mut reply = ticket.into_future();
-    assert!(rt; matches!(task.poll(&mut reply), Poll::Pending));
+    let is_pending = matches!(task.poll(&mut reply), Poll::Pending);
     let early = reply.try_recv().map(bytes_of);
-    assert_eq!(rt; early, Err(TryRecvError::Empty));
-    assert!(rt; !reply.has_message() && !task.is_woken());
-    assert!(rt; answer(request)?.is_ok());
-    assert!(rt; reply.has_message() && task.is_woken());
+    assert_eq!(rt;
+        (is_pending, early, reply.has_message(), task.is_woken()),
+        (true, Err(TryRecvError::Empty), false, false)
+    );
+    let answered = answer(request)?.is_ok();
+    assert_eq!(rt;
+        (answered, reply.has_message(), task.is_woken()),
+        (true, true, true)
+    );
     assert_eq!(rt; block_on(&rt, reply)?.map(bytes_of), Ok(21));
+    Ok(())
+}
+
+#[test]
+fn a_dropped_request_closes_the_awaited_reply(rt: HostRuntime) -> Result<(), Fail> {
     let (request, ticket) = ask((), rt.alloc())?;
     let reply = ticket.into_future();
-    assert!(rt; !reply.is_closed());
+    let was_closed = reply.is_closed();
     drop(request);
-    assert!(rt; reply.is_closed());
+    assert_eq!(rt; (was_closed, reply.is_closed()), (false, true));
     assert_eq!(rt; block_on(&rt, reply)?.map(bytes_of), Err(RecvError));
     Ok(())
 }
@@ -97,16 +130,21 @@ fn a_reply_is_awaited(rt: HostRuntime) -> Result<(), Fail> {
 fn a_ticket_that_goes_is_told_and_its_reply_comes_back(rt: HostRuntime) -> Result<(), Fail> {
     let (request, ticket) = ask((), rt.alloc())?;
     drop(ticket);
-    assert!(rt; request.is_cancelled());
+    let is_cancelled = request.is_cancelled();
     let Err(length) = answer(request)? else {
         return Err(Fail::new("an answer without a ticket"));
     };
-    assert_eq!(rt; length.bytes(), 21);
+    assert_eq!(rt; (is_cancelled, length.bytes()), (true, 21));
+    Ok(())
+}
+
+#[test]
+fn a_ticket_that_goes_is_told_to_the_watch(rt: HostRuntime) -> Result<(), Fail> {
     let (request, ticket) = ask((), rt.alloc())?;
     let (request, mut watch) = request.into_parts();
-    assert!(rt; !watch.is_gone() && !request.is_cancelled());
+    assert_eq!(rt; (watch.is_gone(), request.is_cancelled()), (false, false));
     drop(ticket);
-    assert!(rt; watch.is_gone() && request.is_cancelled());
+    assert_eq!(rt; (watch.is_gone(), request.is_cancelled()), (true, true));
     Ok(())
 }
 
@@ -115,9 +153,12 @@ fn an_awaited_reply_that_goes_is_told(rt: HostRuntime) -> Result<(), Fail> {
     let (request, ticket) = ask((), rt.alloc())?;
     let (request, mut watch) = request.into_parts();
     let reply = ticket.into_future();
-    assert!(rt; !watch.is_gone());
+    let was_gone = watch.is_gone();
     drop(reply);
-    assert!(rt; watch.is_gone() && request.is_cancelled());
+    assert_eq!(rt;
+        (was_gone, watch.is_gone(), request.is_cancelled()),
+        (false, true, true)
+    );
     Ok(())
 }
 
@@ -135,8 +176,9 @@ fn a_ticket_that_waits_is_there(rt: HostRuntime) -> Result<(), Fail> {
             was_there
         },
     );
-    assert_eq!(rt; reply, Err(RecvError));
-    assert!(rt; was_there);
-    assert!(rt; watch.is_gone());
+    assert_eq!(rt;
+        (reply, was_there, watch.is_gone()),
+        (Err(RecvError), true, true)
+    );
     Ok(())
 }

@@ -59,8 +59,10 @@ fn ticket_of<'a>(
 
 /// Stops the test unless the server was told, and only after the ticket was gone.
 fn assert_told_last(rt: &impl Abort, server: &Server) {
-    assert_eq!(rt; server.was_told.get(), Some(false));
-    assert_eq!(rt; server.is_told(), Some(true));
+    assert_eq!(rt;
+        (server.was_told.get(), server.is_told()),
+        (Some(false), Some(true))
+    );
 }
 
 #[test]

@@ -40,20 +40,18 @@ where
 
 #[test]
 fn a_wait_ends_once_the_guard_is_gone(rt: HostRuntime) -> Result<(), Fail> {
-    let gone = sees_it_go(&rt, |mut watch| {
+    let waited = sees_it_go(&rt, |mut watch| {
         watch.wait();
         watch.is_gone()
     })?;
-    assert!(rt; gone);
-    assert!(rt;
-        sees_it_go(
-            &rt,
-            |mut watch| watch.wait_timeout(Duration::from_secs(LIMIT)),
-        )?
-    );
+    let timed = sees_it_go(
+        &rt,
+        |mut watch| watch.wait_timeout(Duration::from_secs(LIMIT)),
+    )?;
     let deadline = Instant::now(&rt)?.checked_add(Duration::from_secs(LIMIT));
     let deadline = deadline.expect(&rt, "an instant in ten seconds");
-    assert!(rt; sees_it_go(&rt, |mut watch| watch.wait_deadline(deadline))?);
+    let until = sees_it_go(&rt, |mut watch| watch.wait_deadline(deadline))?;
+    assert_eq!(rt; (waited, timed, until), (true, true, true));
     Ok(())
 }
 
@@ -63,8 +61,8 @@ fn a_wait_for_a_guard_that_is_gone_ends_at_once(rt: HostRuntime) -> Result<(), F
     let clock = Written::new(&rt, &[]);
     let (guard, mut watch) = watch(&clock, rt.alloc())?;
     drop(guard);
-    assert!(rt; watch.wait_deadline(instant_at(&rt, 5)?));
-    assert!(rt; watch.wait_timeout(Duration::ZERO));
+    let until = watch.wait_deadline(instant_at(&rt, 5)?);
+    assert_eq!(rt; (until, watch.wait_timeout(Duration::ZERO)), (true, true));
     watch.wait();
     assert!(rt; watch.is_gone());
     Ok(())
@@ -75,8 +73,8 @@ fn a_deadline_ends_a_wait_once_the_clock_is_past_it(rt: HostRuntime) -> Result<(
     for (written, made) in UNTIL_FIVE {
         let clock = Written::new(&rt, written);
         let (_guard, mut watch) = watch(&clock, rt.alloc())?;
-        assert!(rt; !watch.wait_deadline(instant_at(&rt, 5)?));
-        assert_eq!(rt; clock.made(), made);
+        let gone = watch.wait_deadline(instant_at(&rt, 5)?);
+        assert_eq!(rt; (gone, clock.made()), (false, made));
     }
     Ok(())
 }
@@ -86,8 +84,8 @@ fn a_timeout_of_a_wait_counts_from_one_reading(rt: HostRuntime) -> Result<(), Fa
     for (timeout, written, made) in TIMEOUTS {
         let clock = Written::new(&rt, written);
         let (_guard, mut watch) = watch(&clock, rt.alloc())?;
-        assert!(rt; !watch.wait_timeout(Duration::from_nanos(timeout)));
-        assert_eq!(rt; clock.made(), made);
+        let gone = watch.wait_timeout(Duration::from_nanos(timeout));
+        assert_eq!(rt; (gone, clock.made()), (false, made));
     }
     Ok(())
 }

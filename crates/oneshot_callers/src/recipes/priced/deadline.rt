@@ -94,7 +94,6 @@ fn a_price_comes_in_time_or_not(rt: HostRuntime) -> Result<(), Fail> {
         Err(RecvTimeoutError::Timeout),
         Err(RecvTimeoutError::Disconnected),
     ];
-    assert_eq!(rt; prices, wanted);
-    assert!(rt; !was_late);
+    assert_eq!(rt; (prices, was_late), (wanted, false));
     Ok(())
 }

@@ -45,14 +45,18 @@ fn each_price_reaches_its_ticket(rt: HostRuntime) -> Result<(), Fail> {
     let mut pending = BTreeMap::new(rt.alloc());
     let mut seven = ask((), rt.alloc(), &mut pending, 7)?;
     let mut eight = ask((), rt.alloc(), &mut pending, 8)?;
-    assert!(rt; settle(&mut pending, price(8, 90)));
-    assert_eq!(rt; seven.try_take(), Err(TryRecvError::Empty));
-    assert!(rt; settle(&mut pending, price(7, 250)));
-    assert!(rt; !settle(&mut pending, price(7, 251)));
-    assert!(rt; !settle(&mut pending, price(9, 10)));
-    assert_eq!(rt; seven.try_take(), Ok(price(7, 250)));
-    assert_eq!(rt; eight.try_take(), Ok(price(8, 90)));
-    assert_eq!(rt; pending.len(), 0);
+    let first = (settle(&mut pending, price(8, 90)), seven.try_take());
+    let second = settle(&mut pending, price(7, 250));
+    let again = settle(&mut pending, price(7, 251));
+    let unasked = settle(&mut pending, price(9, 10));
+    let empty = Err(TryRecvError::Empty);
+    assert_eq!(rt;
+        (first, second, again, unasked),
+        ((true, empty), true, false, false)
+    );
+    let taken = (seven.try_take(), eight.try_take());
+    let prices = (Ok(price(7, 250)), Ok(price(8, 90)));
+    assert_eq!(rt; (taken, pending.len()), (prices, 0));
     Ok(())
 }
 

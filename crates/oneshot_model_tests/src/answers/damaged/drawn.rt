@@ -45,11 +45,15 @@ fn assert_drawn(rt: &(impl Abort + AllocGlobal), seed: u64, texts: usize) -> Res
         let text = drawn(rt.alloc(), &mut draws)?;
         kinds.push(assert_as_read(rt, &text)?)?;
     }
+    assert_each_came_often(rt, seed, &kinds);
+    Ok(())
+}
+
+fn assert_each_came_often(rt: &impl Abort, seed: u64, kinds: &[Kind]) {
     for &kind in Kind::ALL {
         let count = kinds.iter().filter(|came| **came == kind).count();
         assert!(rt; count >= OFTEN, "seed {seed}: {count} of {kind:?}");
     }
-    Ok(())
 }
 
 fn assert_each_drawn(

@@ -33,20 +33,40 @@ fn each_front_of_an_input(rt: HostRuntime) -> Result<(), Fail> {
     let mut front = Vec::new(rt.alloc());
     assert_told(&rt, &front, "2 line 1 is missing")?;
     for &(text, output) in FRONTS {
-        for byte in text.as_bytes() {
-            front.push(*byte)?;
-            assert_told(&rt, &front, output)?;
-        }
+        assert_told_by_bytes(&rt, &mut front, text, output)?;
     }
-    for (index, letter) in SCHEDULE.as_bytes().iter().enumerate() {
-        front.push(*letter)?;
-        assert_eq!(rt; assert_as_read(&rt, &front)?, Kind::Trace);
-        let lines = output_of(&rt, &front).lines().count();
-        assert_eq!(rt; lines, index.saturating_add(3));
-    }
+    assert_traced_by_letters(&rt, &mut front)?;
     let trace = output_of(&rt, &front);
     front.push(b'\n')?;
     assert_told(&rt, &front, &trace)
+}
+
+/// Adds each byte of `text` to `front`, and asserts the output after each.
+fn assert_told_by_bytes(
+    rt: &(impl Abort + AllocGlobal),
+    front: &mut Vec<u8>,
+    text: &str,
+    output: &str,
+) -> Result<(), Fail> {
+    for byte in text.as_bytes() {
+        front.push(*byte)?;
+        assert_told(rt, front, output)?;
+    }
+    Ok(())
+}
+
+/// Adds each letter of the schedule to `front`, and asserts a trace of as many entries after each.
+fn assert_traced_by_letters(
+    rt: &(impl Abort + AllocGlobal),
+    front: &mut Vec<u8>,
+) -> Result<(), Fail> {
+    for (index, letter) in SCHEDULE.as_bytes().iter().enumerate() {
+        front.push(*letter)?;
+        let kind = assert_as_read(rt, front)?;
+        let lines = output_of(rt, front).lines().count();
+        assert_eq!(rt; (kind, lines), (Kind::Trace, index.saturating_add(3)));
+    }
+    Ok(())
 }
 
 /// Asserts the program's output for `input`, and that the second reading agrees.

@@ -80,16 +80,21 @@ impl fmt::Display for Flaw {
             Flaw::NotAscii => write!(f, "input is not ASCII"),
             Flaw::Missing { line } => write!(f, "line {line} is missing"),
             Flaw::InputAfter => write!(f, "input after line 3"),
-            Flaw::Word { line, word, wrong } => match wrong {
-                Wrong::MustBegin(letter) => write!(f, "line {line}: must begin with {letter}"),
-                Wrong::UnknownWord => write!(f, "line {line}: unknown word {word}"),
-                Wrong::BadNumber => write!(f, "line {line}: bad number at word {word}"),
-                Wrong::FollowsLastCall => write!(
-                    f,
-                    "line {line}: word {word} follows the last call"
-                ),
-            },
+            Flaw::Word { line, word, wrong } => {
+                write!(f, "line {line}: ")?;
+                write_wrong(f, word, wrong)
+            }
         }
+    }
+}
+
+/// Writes what is wrong with the word of this number.
+fn write_wrong<W: fmt::Write>(f: &mut fmt::Formatter<W>, word: usize, wrong: Wrong) -> fmt::Result {
+    match wrong {
+        Wrong::MustBegin(letter) => write!(f, "must begin with {letter}"),
+        Wrong::UnknownWord => write!(f, "unknown word {word}"),
+        Wrong::BadNumber => write!(f, "bad number at word {word}"),
+        Wrong::FollowsLastCall => write!(f, "word {word} follows the last call"),
     }
 }
 

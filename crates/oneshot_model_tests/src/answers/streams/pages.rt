@@ -18,7 +18,7 @@ fn a_line_ends_where_a_page_is_full(rt: HostRuntime) -> Result<(), Fail> {
     for (calls, moves, end) in PAGES {
         let (input, output) = receives(rt.alloc(), *calls, *moves)?;
         let page = output.as_bytes().get(..*end).ok_or("a short output")?;
-        assert!(rt; page.ends_with(b"\n"), "{calls} receives");
+        assert_eq!(rt; (*calls, page.ends_with(b"\n")), (*calls, true));
         assert_trace(&rt, &input, &output);
     }
     Ok(())

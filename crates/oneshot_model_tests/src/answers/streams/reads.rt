@@ -6,6 +6,7 @@ use oneshot_streams::fault::Fault;
 use oneshot_streams::run::run;
 use std::io;
 use std::io::{ErrorKind, Read};
+use std::process::Abort;
 use std::test::Fail;
 
 #[test]
@@ -13,35 +14,42 @@ fn a_failed_read_is_told_alone(rt: HostRuntime) {
     // The read after the last byte would find the end.
     for before in 0..=SENT.len() {
         for &kind in FAILURES {
-            let mut reader = Reader::new(SENT, Failures::of(before, 1, kind));
-            let mut written = Vec::new(rt.alloc());
-            let ended = ending(&rt, &mut reader, &mut written);
-            assert_eq!(rt;
-                ended.as_str(),
-                "1 read failed\n",
-                "{kind:?} after {before} reads"
-            );
-            assert!(rt; written.is_empty(), "{kind:?} after {before} reads");
-            assert_eq!(rt; reader.failures.after, 0, "reads after {kind:?}");
+            assert_told_alone(&rt, before, kind);
         }
     }
+}
+
+/// Asserts that a read that fails after this many others is the reader's last call, and that nothing is written.
+fn assert_told_alone(rt: &(impl Abort + AllocGlobal), before: usize, kind: ErrorKind) {
+    let mut reader = Reader::new(SENT, Failures::of(before, 1, kind));
+    let mut written = Vec::new(rt.alloc());
+    let ended = ending(rt, &mut reader, &mut written);
+    let case = (kind, before);
+    let reads_after = reader.failures.after;
+    assert_eq!(rt;
+        (case, ended.as_str(), written.is_empty(), reads_after),
+        (case, "1 read failed\n", true, 0)
+    );
 }
 
 #[test]
 fn an_interrupted_read_is_made_again(rt: HostRuntime) {
     for before in 0..=SENT.len() {
         for count in 1..=INTERRUPTS {
-            let interrupts = Failures::of(before, count, ErrorKind::Interrupted);
-            let mut written = Vec::new(rt.alloc());
-            let ended = ending(&rt, &mut Reader::new(SENT, interrupts), &mut written);
-            assert_eq!(rt; ended.as_str(), "0 ", "{count} after {before} reads");
-            assert_eq!(rt;
-                written.as_slice(),
-                SENT_TRACE.as_bytes(),
-                "{count} after {before} reads"
-            );
+            assert_made_again(&rt, before, count);
         }
     }
+}
+
+/// Asserts that the output is whole where this many interrupts follow this many reads.
+fn assert_made_again(rt: &(impl Abort + AllocGlobal), before: usize, count: usize) {
+    let interrupts = Failures::of(before, count, ErrorKind::Interrupted);
+    let mut written = Vec::new(rt.alloc());
+    let ended = ending(rt, &mut Reader::new(SENT, interrupts), &mut written);
+    assert_eq!(rt;
+        (count, before, ended.as_str(), written.as_slice()),
+        (count, before, "0 ", SENT_TRACE.as_bytes())
+    );
 }
 
 #[test]
@@ -73,7 +81,7 @@ fn an_endless_input_is_too_long(rt: HostRuntime) {
     let mut reader = Endless { given: 0 };
     let mut written = Vec::new(rt.alloc());
     let ended = run(rt.alloc(), &mut reader, &mut written);
-    assert!(rt; matches!(ended, Err(Fault::InputTooLong)));
-    assert!(rt; written.is_empty());
+    let too_long = matches!(ended, Err(Fault::InputTooLong));
+    assert_eq!(rt; (too_long, written.is_empty()), (true, true));
     assert!(rt; reader.given > 1_048_576 && reader.given <= 1_048_576 + 4096);
 }

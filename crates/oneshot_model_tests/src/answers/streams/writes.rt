@@ -4,6 +4,7 @@ use super::{FAILURES, Failures, INTERRUPTS, Reader, Writer, ending};
 use crate::answers::{SENT, SENT_TRACE, idle};
 use oneshot_streams::answer::answer;
 use std::io::ErrorKind;
+use std::process::Abort;
 use std::test::Fail;
 
 /// As `SENT`, with the largest message. The line of an entry that shows it is too long to wait with others.
@@ -29,12 +30,11 @@ fn short_reads_and_writes_move_all(rt: HostRuntime) {
     for &(input, trace) in TRACES {
         let mut writer = Writer::new(rt.alloc(), 1, Failures::none());
         let mut reader = Reader::new(input, Failures::none());
+        let ended = ending(&rt, &mut reader, &mut writer);
         assert_eq!(rt;
-            ending(&rt, &mut reader, &mut writer).as_str(),
-            "0 ",
-            "{input}"
+            (input, ended.as_str(), writer.written.as_slice()),
+            (input, "0 ", trace.as_bytes())
         );
-        assert_eq!(rt; writer.written.as_slice(), trace.as_bytes(), "{input}");
     }
 }
 
@@ -44,24 +44,33 @@ fn a_failed_write_ends_the_output(rt: HostRuntime) {
         // The call after the last byte is the flush.
         for before in 0..=trace.len() {
             for &kind in FAILURES {
-                let failures = Failures::of(before, 1, kind);
-                let mut writer = Writer::new(rt.alloc(), 1, failures);
-                let ended = ending(&rt, &mut input.as_bytes(), &mut writer);
-                assert_eq!(rt;
-                    ended.as_str(),
-                    "1 write failed\n",
-                    "{kind:?} after {before} writes"
-                );
-                assert_eq!(rt; writer.written.len(), before, "{kind:?}");
-                assert!(rt; trace.as_bytes().starts_with(&writer.written));
-                assert_eq!(rt;
-                    writer.failures.after,
-                    0,
-                    "calls after {kind:?}, after {before} writes"
-                );
+                assert_ends(&rt, (input, trace), before, kind);
             }
         }
     }
+}
+
+/// Asserts that a write that fails after this many others is the writer's last call.
+fn assert_ends(
+    rt: &(impl Abort + AllocGlobal),
+    (input, trace): (&str, &str),
+    before: usize,
+    kind: ErrorKind,
+) {
+    let mut writer = Writer::new(rt.alloc(), 1, Failures::of(before, 1, kind));
+    let ended = ending(rt, &mut input.as_bytes(), &mut writer);
+    let begun = trace.as_bytes().starts_with(&writer.written);
+    let calls_after = writer.failures.after;
+    assert_eq!(rt;
+        (
+            kind,
+            ended.as_str(),
+            writer.written.len(),
+            begun,
+            calls_after
+        ),
+        (kind, "1 write failed\n", before, true, 0)
+    );
 }
 
 #[test]
@@ -69,18 +78,26 @@ fn an_interrupted_write_is_made_again(rt: HostRuntime) {
     for &(input, trace) in TRACES {
         for before in 0..trace.len() {
             for count in [1, 2, 3, 4, INTERRUPTS] {
-                let interrupts = Failures::of(before, count, ErrorKind::Interrupted);
-                let mut writer = Writer::new(rt.alloc(), 1, interrupts);
-                let ended = ending(&rt, &mut input.as_bytes(), &mut writer);
-                assert_eq!(rt; ended.as_str(), "0 ", "{count} after {before} writes");
-                assert_eq!(rt;
-                    writer.written.as_slice(),
-                    trace.as_bytes(),
-                    "{count} after {before} writes"
-                );
+                assert_made_again(&rt, (input, trace), before, count);
             }
         }
     }
+}
+
+/// Asserts that all is written where this many interrupts follow this many writes.
+fn assert_made_again(
+    rt: &(impl Abort + AllocGlobal),
+    (input, trace): (&str, &str),
+    before: usize,
+    count: usize,
+) {
+    let interrupts = Failures::of(before, count, ErrorKind::Interrupted);
+    let mut writer = Writer::new(rt.alloc(), 1, interrupts);
+    let ended = ending(rt, &mut input.as_bytes(), &mut writer);
+    assert_eq!(rt;
+        (count, before, ended.as_str(), writer.written.as_slice()),
+        (count, before, "0 ", trace.as_bytes())
+    );
 }
 
 #[test]
@@ -94,15 +111,11 @@ fn a_long_output_ends_where_a_write_fails(rt: HostRuntime) -> Result<(), Fail> {
             assert_eq!(rt; writer.written.as_slice(), output.as_bytes());
             return Ok(());
         }
-        assert_eq!(rt; ended.as_str(), "1 write failed\n", "after {before} writes");
-        assert!(rt;
-            output.as_bytes().starts_with(&writer.written),
-            "after {before} writes"
-        );
+        let begun = output.as_bytes().starts_with(&writer.written);
+        let calls_after = writer.failures.after;
         assert_eq!(rt;
-            writer.failures.after,
-            0,
-            "calls after the failure, after {before} writes"
+            (before, ended.as_str(), begun, calls_after),
+            (before, "1 write failed\n", true, 0)
         );
     }
     Err(Fail::from("100 calls were too few"))
@@ -121,6 +134,8 @@ fn where_a_fault_cannot_be_told_the_status_tells(rt: HostRuntime) {
     let mut errors = Writer::new(rt.alloc(), 100, broken);
     let mut written = Vec::new(rt.alloc());
     let status = answer(rt.alloc(), &mut &b"Q"[..], &mut written, &mut errors);
-    assert_eq!(rt; status, 2);
-    assert!(rt; written.is_empty() && errors.written.is_empty());
+    assert_eq!(rt;
+        (status, written.is_empty(), errors.written.is_empty()),
+        (2, true, true)
+    );
 }
