@@ -3,7 +3,6 @@
 #![tactic(auto)]
 
 #[cfg(test)]
-#[cfg(test)]
 mod awaited;
 #[cfg(test)]
 mod bare;

@@ -7,7 +7,6 @@
 #[cfg(test)]
 mod answers;
 #[cfg(test)]
-#[cfg(test)]
 mod replayer;
 #[cfg(test)]
 mod text;

@@ -2,7 +2,7 @@
 
 use crate::outcome::{Outcome, Wrong, ensure};
 use futures::executor::block_on;
-use oneshot::reply::{Length, request};
+use oneshot::reply::{Length, Request, Ticket, request};
 use oneshot::{async_channel, channel};
 use std::random::RandomSource;
 use std::sync::Wait;
@@ -67,10 +67,27 @@ pub(crate) fn make_request(rt: &impl AllocGlobal) -> Result<Outcome, Wrong> {
     let Err(question) = first else {
         return Ok(Outcome::Made);
     };
-    ensure(question.as_str() == TEXT, Wrong::QuestionChanged)?;
     ensure(drops.load(Ordering::SeqCst) == 1, Wrong::RuntimeKept)?;
-    let second = request(Counted::new(rt, &drops), rt.alloc(), question);
-    let (request, mut ticket) = second.map_err(|_| Wrong::RefusedAgain)?;
+    request_again(rt, Counted::new(rt, &drops), question)
+}
+
+/// Makes a request with the question that a refusal returned, and takes the reply.
+fn request_again<R: AllocGlobal>(
+    rt: &R,
+    runtime: Counted<'_, R>,
+    question: String,
+) -> Result<Outcome, Wrong> {
+    ensure(question.as_str() == TEXT, Wrong::QuestionChanged)?;
+    let second = request(runtime, rt.alloc(), question);
+    let (request, ticket) = second.map_err(|_| Wrong::RefusedAgain)?;
+    take_reply(request, ticket)
+}
+
+/// Answers a request, and takes the reply by its ticket.
+fn take_reply<Rt: Drop>(
+    request: Request<String, Length>,
+    mut ticket: Ticket<String, Length, Rt>,
+) -> Result<Outcome, Wrong> {
     let length = Length::of(request.question().clone()?);
     ensure(request.fits(&length), Wrong::Broken)?;
     ensure(request.answer(length).is_ok(), Wrong::Broken)?;

@@ -3,7 +3,7 @@
 use crate::channels::{Counted, TEXT};
 use crate::outcome::{Outcome, Wrong, ensure};
 use oneshot::reply::Length;
-use oneshot::watch::{cancellable_request, watch};
+use oneshot::watch::{CancellableRequest, CancellableTicket, cancellable_request, watch};
 use std::sync::atomic::{AtomicU64, Ordering};
 
 /// Calls `watch`. A refusal has to drop the runtime.
@@ -30,11 +30,29 @@ pub(crate) fn make_cancellable_request(rt: &impl AllocGlobal) -> Result<Outcome,
     let Err(question) = first else {
         return Ok(Outcome::Made);
     };
-    ensure(question.as_str() == TEXT, Wrong::QuestionChanged)?;
     ensure(drops.load(Ordering::SeqCst) == 2, Wrong::RuntimeKept)?;
     let (asker, server) = (Counted::new(rt, &drops), Counted::new(rt, &drops));
+    request_again(rt, asker, server, question)
+}
+
+/// Makes a request with the question that a refusal returned, and takes the reply.
+fn request_again<R: AllocGlobal>(
+    rt: &R,
+    asker: Counted<'_, R>,
+    server: Counted<'_, R>,
+    question: String,
+) -> Result<Outcome, Wrong> {
+    ensure(question.as_str() == TEXT, Wrong::QuestionChanged)?;
     let second = cancellable_request(asker, server, rt.alloc(), question);
-    let (request, mut ticket) = second.map_err(|_| Wrong::RefusedAgain)?;
+    let (request, ticket) = second.map_err(|_| Wrong::RefusedAgain)?;
+    take_reply(request, ticket)
+}
+
+/// Answers a request, and takes the reply by its ticket.
+fn take_reply<Asker: Drop, Server: Drop>(
+    request: CancellableRequest<String, Length, Server>,
+    mut ticket: CancellableTicket<String, Length, Asker>,
+) -> Result<Outcome, Wrong> {
     let length = Length::of(request.question().clone()?);
     ensure(request.fits(&length), Wrong::Broken)?;
     ensure(request.answer(length).is_ok(), Wrong::Broken)?;

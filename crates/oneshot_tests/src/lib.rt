@@ -7,7 +7,6 @@
 #![tactic(auto)]
 
 #[cfg(test)]
-#[cfg(test)]
 mod ends;
 #[cfg(test)]
 mod pages;

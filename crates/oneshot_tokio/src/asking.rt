@@ -31,21 +31,21 @@ where
 
 /// What a client awaits, and how it stops the server then.
 #[derive(Drop)]
-pub(crate) struct Round {
+pub struct Round {
     /// The requests whose replies it awaits.
-    pub(crate) all: Vec<Pending>,
+    pub all: Vec<Pending>,
     /// The server's report of the request that was given up.
-    pub(crate) given_up: Within<Service, (), ()>,
+    pub given_up: Within<Service, (), ()>,
     /// The sender of the stop signal.
-    pub(crate) stop: Sender<()>,
+    pub stop: Sender<()>,
 }
 
 /// What came of a round: the replies, and how the server dealt with the request that was given up.
-pub(crate) type Served = (Vec<Reply>, Option<Service>);
+pub type Served = (Vec<Reply>, Option<Service>);
 
 impl Round {
     /// Awaits each reply, and the report, and stops the server. `Err`: out of memory, or the executor failed.
-    pub(crate) fn finish<R>(self, rt: &R) -> io::Result<Served>
+    pub fn finish<R>(self, rt: &R) -> io::Result<Served>
     where
         R: Wait + RandomSource + AllocGlobal,
         ensures { IfOk result

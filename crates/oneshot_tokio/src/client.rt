@@ -33,7 +33,7 @@ pub struct Pending {
     /// The number.
     pub root: u32,
     /// The future of its square, with a deadline.
-    pub(crate) square: Within<Square, (), Asked<u32>>,
+    pub square: Within<Square, (), Asked<u32>>,
     ghost own: { (timeout_future square.receiver).channel.about.question ≡ root },
 }
 

@@ -51,7 +51,7 @@ impl Pool {
 ///
 /// `rt` runs this thread, `timers` fires them as `task`, and `stop` is the receiver of the signal. `Err`: no
 /// clock. Then each timer fails.
-pub(crate) fn keep_time<R: Wait + Clock>(
+pub fn keep_time<R: Wait + Clock>(
     rt: &R,
     mut timers: Driver,
     task: Solo,

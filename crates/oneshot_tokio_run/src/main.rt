@@ -3,28 +3,15 @@
 
 ghost use Rattle.std.specs.Prelude.{◌≡◌, IfOk};
 
-mod asking;
-mod client;
-mod meeting;
-mod pool;
-mod promised;
-mod runtime;
-mod server;
-mod square;
-#[cfg(test)]
-mod tests;
-mod ticket;
-mod within;
-
-use crate::asking::asked;
-use crate::meeting::met;
-use crate::pool::{Pool, with_pool};
-use crate::promised::{Below, item_within};
-use crate::server::serve;
-use crate::square::Square;
-use crate::ticket::square_within;
 use oneshot_channel::reply::{Request, Ticket, request};
 use oneshot_channel::{RecvTimeoutError, async_channel_for};
+use oneshot_tokio::asking::asked;
+use oneshot_tokio::meeting::met;
+use oneshot_tokio::pool::{Pool, with_pool};
+use oneshot_tokio::promised::{Below, item_within};
+use oneshot_tokio::server::serve;
+use oneshot_tokio::square::Square;
+use oneshot_tokio::ticket::square_within;
 use std::alloc::{AllocError, AllocGlobal, Global};
 use std::io;
 use std::random::RandomSource;

@@ -1,15 +1,15 @@
-//! Tests of limits, of the timers' period, and of a report that never comes.
+//! Tests of waits under tokio's timers: their limits, the timers' period, and a report that never comes.
 
-use crate::asking::Round;
-use crate::client::{Client, Pending};
-use crate::pool::keep_time;
-use crate::server::Service;
-use crate::square::Square;
-use crate::within::{Within, recv_within};
 use futures::task::{Doorbell, Poll, Solo};
 use futures::test::MockTask;
-use oneshot_channel::reply::Asked;
-use oneshot_channel::{RecvTimeoutError, async_channel, channel};
+use oneshot::reply::Asked;
+use oneshot::{RecvTimeoutError, async_channel, channel};
+use oneshot_tokio::asking::Round;
+use oneshot_tokio::client::{Client, Pending};
+use oneshot_tokio::pool::keep_time;
+use oneshot_tokio::server::Service;
+use oneshot_tokio::square::Square;
+use oneshot_tokio::within::{Within, recv_within};
 use std::cell::Cell;
 use std::io;
 use std::sync::Wait;
