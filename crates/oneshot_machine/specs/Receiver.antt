@@ -38,24 +38,6 @@ receiver_start RS.AsyncTryRecv = Future AsyncTryLoad
 receiver_start RS.Drop = Drop DropSwap
 receiver_start RS.DropAsync = AsyncDrop AsyncLoad
 
--- every call
-abbrev pub all_receiver_calls : List ReceiverStart
-all_receiver_calls =
-    RS.TryRecv
-    ∷ RS.RecvRef
-    ∷ RS.RecvDeadline
-    ∷ RS.RecvTimeout false
-    ∷ RS.RecvTimeout true
-    ∷ RS.Recv
-    ∷ RS.HasMessage
-    ∷ RS.IsClosed
-    ∷ RS.Drop
-    ∷ RS.IntoFuture
-    ∷ RS.Poll
-    ∷ RS.AsyncTryRecv
-    ∷ RS.DropAsync
-    ∷ []
-
 -- the first positions of a receiver's calls, and of a future's, without looks
 abbrev pub receiver_opens : List ReceiverPos
 receiver_opens =

@@ -127,7 +127,3 @@ sender_number IntoTake = 14
 sender_number IntoFree = 15
 sender_number ErrorDrop = 16
 sender_number ErrorFree = 17
-
--- every call
-abbrev pub all_sender_calls : List SenderCall
-all_sender_calls = IsClosed ∷ Send ∷ Drop ∷ AsInner ∷ IntoInner ∷ DropError ∷ []

@@ -1,6 +1,6 @@
 -- The names of other crates and of this one's definitions that the proofs cite, re-exported in one place.
-pub use Rattle.oneshot_machine.specs.Receiver.{receiver_step, receiver_row, receiver_positions, all_receiver_calls}
-pub use Rattle.oneshot_machine.specs.Sender.{sender_step, sender_row, sender_positions, all_sender_calls}
+pub use Rattle.oneshot_machine.specs.Receiver.{receiver_step, receiver_row, receiver_positions}
+pub use Rattle.oneshot_machine.specs.Sender.{sender_step, sender_row, sender_positions}
 pub use Rattle.oneshot_machine.specs.TableRows.{Outcome, Goes, Answers, outcome}
 pub use Rattle.oneshot_machine.specs.declared.machine.End.{End}
 pub use Rattle.oneshot_machine.specs.declared.machine.End.TheVariants.{Sender, Receiver}
@@ -20,7 +20,7 @@ pub use Rattle.oneshot_machine.specs.declared.machine.value.ValuePos.TheVariants
 pub use Rattle.oneshot_world.specs.Calls.{Call, Unanswered, first, rest, is_none_left, left_by, Of_sender, Of_receiver, Poll, Stray, number_of, as_sender_call, as_receiver_call}
 pub use Rattle.oneshot_world.specs.Classes.{all_alike, Classes, as_name, as_wakers, as_input, as_move, as_call, as_state, as_made, as_turned}
 pub use Rattle.oneshot_world.specs.Control.{Control, control_of, as_control, sender_under_way, receiver_under_way, control_then, Begin, begins, as_begin, as_control_turned, sender_begins}
-pub use Rattle.oneshot_world.specs.Control.{control_turn, begins_poll, poll_begin, plain_input, receiver_begins_at, receiver_begins, begins_with}
+pub use Rattle.oneshot_world.specs.Control.{control_turn, begins_poll, poll_begin, plain_input, receiver_begins_at, receiver_begins, begins_with, all_sender_calls, all_receiver_calls}
 pub use Rattle.oneshot_world.specs.ControlCodes.{bool_code, control_code, is_same_control, sender_code, receiver_code, sender_call_code, receiver_call_code, is_same_call, is_same_under_way}
 pub use Rattle.oneshot_world.specs.ControlCodes.{place_code, is_same_wakers, is_same_state, is_same_name}
 pub use Rattle.oneshot_world.specs.Effects.{place_left, reply_of, sender_goes, receiver_goes, is_plain, is_free, is_future, sender_puts, receiver_puts, seen_by}

@@ -5,8 +5,10 @@ use Rattle.std.specs.List.{filter_map, flat_map}
 use Rattle.oneshot_machine.specs.declared.machine.End.TheVariants.{Sender, Receiver}
 use Rattle.oneshot_machine.specs.declared.machine.End.{End}
 use Rattle.oneshot_world.specs.Calls.{Call, Of_sender, Of_receiver, Poll, first}
-use Rattle.oneshot_machine.specs.Sender.{all_sender_calls}
-use Rattle.oneshot_machine.specs.Receiver.{all_receiver_calls}
+use Rattle.oneshot_machine.specs.declared.machine.receiver.ReceiverStart.{ReceiverStart}
+use Rattle.oneshot_machine.specs.declared.machine.receiver.ReceiverStart.TheVariants as RC
+use Rattle.oneshot_machine.specs.declared.machine.sender.SenderCall.{SenderCall}
+use Rattle.oneshot_machine.specs.declared.machine.sender.SenderCall.TheVariants as SC
 use Rattle.oneshot_world.specs.Classes.{Classes, as_input, as_state, as_call, as_entry}
 use Rattle.oneshot_world.specs.Scripts.{begins_sender, begins_error, begins_receiver, begins_async}
 use Rattle.oneshot_world.specs.State.{turns}
@@ -56,6 +58,27 @@ pub record Begin : Type 0 where
 -- a move for each of these calls that the end may begin
 abbrev pub begins_with : End → Input → (Call → Bool) → List Call → List Begin
 begins_with side t may calls = map (λ call. record { side = side; input = t; call = Some call }) (filter may calls)
+
+-- every call
+abbrev pub all_sender_calls : List SenderCall
+all_sender_calls = SC.IsClosed ∷ SC.Send ∷ SC.Drop ∷ SC.AsInner ∷ SC.IntoInner ∷ SC.DropError ∷ []
+
+abbrev pub all_receiver_calls : List ReceiverStart
+all_receiver_calls =
+    RC.TryRecv
+    ∷ RC.RecvRef
+    ∷ RC.RecvDeadline
+    ∷ RC.RecvTimeout false
+    ∷ RC.RecvTimeout true
+    ∷ RC.Recv
+    ∷ RC.HasMessage
+    ∷ RC.IsClosed
+    ∷ RC.Drop
+    ∷ RC.IntoFuture
+    ∷ RC.Poll
+    ∷ RC.AsyncTryRecv
+    ∷ RC.DropAsync
+    ∷ []
 
 -- the moves of an end: it continues the call under way, or begins any call
 abbrev pub sender_begins : Option Place → SenderState → Option Call → List Begin
