@@ -33,9 +33,8 @@ EXAMPLES = re.compile(
 UNREACHED = [
     ("oneshot_drive.Blocking", "EndsAt Path ReceiveBy Stretch end_of load_of ref_end value_end",
      "the clauses of `find`, from which those of the drivers that call it are proved"),
-    ("oneshot_ends.Keeps", "*_stays *_stays_on has_lent_on has_lent_back",
+    ("oneshot_ends.Stays", "*_stays *_stays_on has_lent_on has_lent_back",
      "proofs that the grounds of a receiver cite"),
-    ("oneshot_ends.Taken", "taken_stays taken_stays_on", "proofs that the grounds of a receiver cite"),
     ("oneshot_errors.Texts", "*", "texts, which tests compare with what the errors print"),
     ("oneshot_machine.Standing", "*", "what `tables_are_exact` computes of each table"),
     ("oneshot_machine.*", "*_number *_positions *_opens receiver_count",

@@ -24,13 +24,12 @@ use Rattle.oneshot_ends.specs.declared.token.Given.{Given}
 use Rattle.oneshot_ends.specs.declared.token.Half.TheVariants.{Parking, Waking}
 use Rattle.oneshot_ends.specs.declared.token.WakingHalf.{WakingHalf}
 use Rattle.oneshot_ends.specs.Ends.{registered_if}
-use Rattle.oneshot_ends.specs.Keeps.{own_stays, polled_stays}
+use Rattle.oneshot_ends.specs.Stays.{own_stays, polled_stays, taken_stays}
 use Rattle.oneshot_ends.specs.NoLostWakeup.{SleepsOn, ParkerAt, HasGivenTokenOf, HasUsed}
 use Rattle.oneshot_contract_examples.specs.ExampleLogs.{waits as blocks}
 use Rattle.oneshot_contract_examples.specs.OwnExamples.{side_by, sender_of_it, sender_of_task, parks_beside, UsesThatAre, UsesThatAreNot}
 use Rattle.oneshot_ends.specs.OwnWakers.{RealWaker, IsCopyFor, IsTaskOf, IsHalfOf, IsNoThread, is_waiting, WaitsByHalvesOf}
 use Rattle.oneshot_ends.specs.Woken.{Sending, IsWoken, WokeBy, phase, found_waiting as shown_waiting, HasEnded}
-use Rattle.oneshot_ends.specs.Taken.{taken_stays}
 use Rattle.oneshot_ends.proofs.GrewByRuns.{words_of}
 use Rattle.oneshot_ends.proofs.OwnWakers.{same_put}
 use Rattle.oneshot_ends.specs.Tokens.{TokenIs}

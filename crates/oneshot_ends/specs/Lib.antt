@@ -6,7 +6,7 @@
 -- receiver took. `Ends` takes `HasEnd` from `Deadlines`, which states when a deadline is over, and `IsCopyFor` from
 -- `OwnWakers`. Read beneath them:
 -- 1. The grounds: `Grounds`, and for a poll `Polling` and `Copies`. `Keeps` states what a receiver's ground keeps from
--- step to step, and `Invariants` what always holds between two calls.
+-- step to step (`Stays` has lemmas about this), and `Invariants` what always holds between two calls.
 -- 2. The wakers: `Tokens` is the rule of a parker's token, `Woken` states what a used waker leaves behind, and
 -- `OwnWakers` whose wakers a receiver gives.
 -- 3. The laws of both ends together: `Moments` defines a moment at which both are seen, and `NoLostWakeup` states the
@@ -28,6 +28,7 @@ pub mod Patience
 pub mod PatienceExamples
 pub mod DeadlineExamples
 pub mod Keeps
+pub mod Stays
 pub mod Invariants
 -- the definitions of the crates beneath that the contracts of `oneshot_reply` name
 pub use Rattle.oneshot_drive.specs.BetweenCalls

@@ -27,15 +27,6 @@ pub record KeepsTaken {T : Type 0} (before after : Option T) (log next : List No
   pub stays : StaysTaken before after
   pub found : TookAsFound before log → TookAsFound after next
 
--- a step that changes nothing keeps it, and so do two steps that do
-abbrev pub taken_stays : {T : Type 0} {took : Option T} {log : List Noted} → KeepsTaken took took log log
-taken_stays = record { stays = λ _ is. is; found = λ so. so }
-
-abbrev pub taken_stays_on : {T : Type 0} {before now after : Option T} {log next last : List Noted}
-    → KeepsTaken before now log next → KeepsTaken now after next last → KeepsTaken before after log last
-taken_stays_on first second =
-    record { stays = λ x is. second.stays x (first.stays x is); found = λ so. second.found (first.found so) }
-
 -- A receive that returned a message had taken none, and has taken that one. Any other takes none.
 abbrev pub Takes : {T E : Type 0} → Result T E → Option T → Option T → Type 0
 Takes (Ok x) before after = (before ≡ None) × (after ≡ Some x)

@@ -2,9 +2,10 @@
 
 use super::answers::{Outcome, assert_answers, assert_both_orders};
 use super::channels::channels;
-use super::counted::load;
+use super::counted::{Counted, load};
 use super::races::race;
 use oneshot_calls::{ReceiverCall, Receiving, Reply, SenderCall, Sending, Tasks, script};
+use oneshot_channel::{Receiver, Sender};
 use std::process::Abort;
 use std::random::RandomSource;
 use std::sync::Wait;
@@ -13,6 +14,21 @@ use std::thread::Threads;
 use std::time::Clock;
 
 const ROUNDS: u64 = 10_000;
+
+fn send_by(calls: &[SenderCall], sender: Sender<Counted>, message: Counted) -> Reply<u64> {
+    let sending = Sending::new(sender, Some(message));
+    sending.make_all(calls).numbered()
+}
+
+fn receive_by<R: Wait + Clock + RandomSource + AllocGlobal>(
+    rt: &R,
+    tasks: &Tasks,
+    calls: &[ReceiverCall],
+    receiver: Receiver<Counted, &R>,
+) -> Reply<u64> {
+    let receiving = Receiving::new(receiver);
+    receiving.make_all(rt, Some(tasks), calls).numbered()
+}
 
 /// Makes the calls of both scripts in each round, with a message of 999. Returns the outcomes of the sender. Fails
 /// unless the last call of each script returns each of these texts often, and no other, and each message is dropped
@@ -35,12 +51,8 @@ pub(super) fn duel<R: Threads + Wait + Abort + Clock + AllocGlobal + RandomSourc
         rt.alloc(),
         loaded,
         receivers,
-        |(sender, message)| Sending::new(sender, Some(message))
-            .make_all(&sends)
-            .numbered(),
-        |receiver| Receiving::new(receiver)
-            .make_all(rt, Some(&tasks), &receives)
-            .numbered(),
+        |(sender, message)| send_by(&sends, sender, message),
+        |receiver| receive_by(rt, &tasks, &receives, receiver),
     );
     assert_answers(rt, &about, &ones, sent);
     assert_answers(rt, &about, &others, received);

@@ -5,6 +5,7 @@ use super::channels::channels;
 use super::races::race;
 use super::receives::{BLOCKING, TRYING};
 use oneshot_calls::{ReceiverCall, Receiving, Tasks, script};
+use oneshot_channel::{Receiver, Sender};
 use std::alloc::{AllocError, Global};
 use std::process::{Abort, Termination};
 use std::random::RandomSource;
@@ -49,6 +50,25 @@ fn beside_rounds<E: Drop>(
     rounds.iter().zip(ends).collect(alloc)
 }
 
+/// Writes the note of a round, and then sends.
+fn write_and_send(round: &Round, sender: Sender<()>) -> bool {
+    round.note.store(round.number, Ordering::SeqCst);
+    sender.send(()).is_ok()
+}
+
+/// Receives, and fails unless the note of the round is there then. Returns whether a message came.
+fn receive_and_look<R: Wait + Clock + RandomSource + AllocGlobal + Abort>(
+    rt: &R,
+    tasks: &Tasks,
+    calls: &[ReceiverCall],
+    round: &Round,
+    receiver: Receiver<(), &R>,
+) -> bool {
+    let reply = Receiving::new(receiver).make_all(rt, Some(tasks), calls);
+    round.assert_noted(rt);
+    reply.message().is_some()
+}
+
 // Fails unless after each receive its round's note has the number that the sender wrote there.
 fn assert_finds_notes<R: Threads + Wait + Abort + Clock + AllocGlobal + RandomSource + Sync>(
     rt: &R,
@@ -65,15 +85,8 @@ fn assert_finds_notes<R: Threads + Wait + Abort + Clock + AllocGlobal + RandomSo
         rt.alloc(),
         senders,
         receivers,
-        |(round, sender)| {
-            round.note.store(round.number, Ordering::SeqCst);
-            sender.send(()).is_ok()
-        },
-        |(round, receiver)| {
-            let reply = Receiving::new(receiver).make_all(rt, Some(&tasks), &calls);
-            round.assert_noted(rt);
-            reply.message().is_some()
-        },
+        |(round, sender)| write_and_send(round, sender),
+        |(round, receiver)| receive_and_look(rt, &tasks, &calls, round, receiver),
     );
     assert_answers(rt, receives, &sends, &["true"]);
     assert_answers(rt, receives, &receipts, &["true"]);

@@ -5,7 +5,7 @@ use super::channels::channels;
 use super::races::race;
 use super::receives::{BLOCKING, TRYING};
 use oneshot_calls::{ReceiverCall, Receiving, Tasks, script};
-use oneshot_channel::Sender;
+use oneshot_channel::{Receiver, Sender};
 use std::process::{Abort, Termination};
 use std::random::RandomSource;
 use std::sync::Wait;
@@ -18,6 +18,17 @@ const ROUNDS: u64 = 100;
 // A function: in a closure this takes a minute longer to prove.
 fn is_sent<T: Send + Drop>(sender: Sender<T>, message: T) -> bool {
     sender.send(message).is_ok()
+}
+
+fn is_received<R: Wait + Clock + RandomSource + AllocGlobal, T: Copy + PartialEq + Send>(
+    rt: &R,
+    tasks: &Tasks,
+    calls: &[ReceiverCall],
+    receiver: Receiver<T, &R>,
+    message: T,
+) -> bool {
+    let reply = Receiving::new(receiver).make_all(rt, Some(tasks), calls);
+    reply.message() == Some(message)
 }
 
 // Fails unless `message` comes in each round.
@@ -34,10 +45,7 @@ fn assert_comes<
         senders,
         receivers,
         |sender| is_sent(sender, message),
-        |receiver| {
-            let reply = Receiving::new(receiver).make_all(rt, Some(&tasks), &calls);
-            reply.message() == Some(message)
-        },
+        |receiver| is_received(rt, &tasks, &calls, receiver, message),
     );
     assert_answers(rt, receives, &sends, &["true"]);
     assert_answers(rt, receives, &receipts, &["true"]);

@@ -40,6 +40,28 @@ fn if_sent(sent: bool, received: Reply<u64>) -> Reply<u64> {
     }
 }
 
+/// Sends 1, and then receives.
+fn send_and_receive<R: Wait + Clock + RandomSource + AllocGlobal>(
+    rt: &R,
+    calls: &[ReceiverCall],
+    sender: Sender<u64>,
+    receiver: Receiver<u64, &R>,
+) -> Reply<u64> {
+    let sent = sender.send(1).is_ok();
+    if_sent(sent, receive(rt, calls, receiver))
+}
+
+/// Receives, and then sends 2.
+fn receive_and_send<R: Wait + Clock + RandomSource + AllocGlobal>(
+    rt: &R,
+    calls: &[ReceiverCall],
+    sender: Sender<u64>,
+    receiver: Receiver<u64, &R>,
+) -> Reply<u64> {
+    let received = receive(rt, calls, receiver);
+    if_sent(sender.send(2).is_ok(), received)
+}
+
 #[test]
 fn each_thread_gets_the_message_of_the_other(rt: HostRuntime) -> Result<(), Fail> {
     let calls = script::<ReceiverCall>(rt.alloc(), "longtimeout")?;
@@ -50,14 +72,8 @@ fn each_thread_gets_the_message_of_the_other(rt: HostRuntime) -> Result<(), Fail
         rt.alloc(),
         both_ends(rt.alloc(), to_other, from_other)?,
         both_ends(rt.alloc(), to_one, from_one)?,
-        |(sender, receiver)| {
-            let sent = sender.send(1).is_ok();
-            if_sent(sent, receive(&rt, &calls, receiver))
-        },
-        |(sender, receiver)| {
-            let received = receive(&rt, &calls, receiver);
-            if_sent(sender.send(2).is_ok(), received)
-        },
+        |(sender, receiver)| send_and_receive(&rt, &calls, sender, receiver),
+        |(sender, receiver)| receive_and_send(&rt, &calls, sender, receiver),
     );
     assert_answers(&rt, "the one", &ones, &["Ok(2)"]);
     assert_answers(&rt, "the other", &others, &["Ok(1)"]);

@@ -1,14 +1,11 @@
 -- In every state that the rule allows, the message that the receiver took is the one that the sender gave, and the
 -- waker that the sender took is the one that the receiver gave last.
-use Rattle.std.specs.Prelude.{◌≡◌, ◌≢◌, ℕ, List, [], ◌∷◌, Option, Some, None}
-use Rattle.oneshot_machine.specs.declared.machine.Seen.TheVariants.{Word}
-use Rattle.oneshot_machine.specs.declared.states.Op.TheVariants.{Load, Add}
-use Rattle.oneshot_machine.specs.declared.states.TheConstants.{RECEIVING, UNPARKING, EMPTY, MESSAGE}
+use Rattle.std.specs.Prelude.{◌≡◌, ℕ, List, [], ◌∷◌, Option, Some}
 use Rattle.oneshot_machine.specs.Noted.{Noted}
 use Rattle.oneshot_word.specs.declared.any_waker.AnyWaker.{AnyWaker}
 use Rattle.oneshot_word.specs.declared.rule.Role.TheVariants.{Sender, Receiver}
 use Rattle.oneshot_word.specs.declared.rule.View.{View}
-use Rattle.oneshot_word.specs.Rule.{Home, out, bare, has_message, has_waker, Tied}
+use Rattle.oneshot_word.specs.Rule.{Home, has_message, has_waker, Tied}
 use Rattle.oneshot_word.specs.Seats.{view}
 
 -- the views of both ends: the message that the sender gave and the waker that it took, and the message that the

@@ -96,7 +96,8 @@ impl<T, P: Promise<T>> ReceiverGround<T, AnyWaker<WakingHalf, Waker>>
     for SharedReceiver<T, WakingHalf, Waker, P> {
     ghost use Rattle.std.proofs.Common.{subst, Some};
     ghost use Rattle.oneshot_ends.specs.Grounds.{state_of};
-    ghost use Rattle.oneshot_ends.specs.Keeps.{KeepsOwn, own_stays, own_stays_on};
+    ghost use Rattle.oneshot_ends.specs.Keeps.{KeepsOwn};
+    ghost use Rattle.oneshot_ends.specs.Stays.{own_stays, own_stays_on};
 
     ghost state = { state_of };
 

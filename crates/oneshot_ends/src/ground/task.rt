@@ -5,7 +5,8 @@ ghost use Rattle.futures.specs.Task.{IsArmed, Hears, Keeps};
 ghost use Rattle.oneshot_machine.specs.Logs.{Grows, copied};
 ghost use Rattle.oneshot_word.specs.declared.any_waker.AnyWaker.TheVariants.{Task};
 ghost use Rattle.oneshot_ends.specs.Copies.{HasMade, HasNoneOf, HasCopyFor};
-ghost use Rattle.oneshot_ends.specs.Keeps.{KeepsPolled, polled_stays, polled_stays_on};
+ghost use Rattle.oneshot_ends.specs.Keeps.{KeepsPolled};
+ghost use Rattle.oneshot_ends.specs.Stays.{polled_stays, polled_stays_on};
 ghost use Rattle.oneshot_ends.specs.Polling.{polled_state, token_of};
 
 use super::ChannelReceiver;

@@ -49,7 +49,8 @@ impl<'g, 'p, 'r, T, Rt, P: Promise<T>> ReceiverGround<T, ChannelWaker>
     ghost use Rattle.std.specs.Prelude.{[], ◌∷◌};
     ghost use Rattle.std.proofs.Common.{subst, Some};
     ghost use Rattle.oneshot_ends.specs.Grounds.{lent};
-    ghost use Rattle.oneshot_ends.specs.Keeps.{KeepsLent, lent_stays, lent_stays_on};
+    ghost use Rattle.oneshot_ends.specs.Keeps.{KeepsLent};
+    ghost use Rattle.oneshot_ends.specs.Stays.{lent_stays, lent_stays_on};
     ghost use Rattle.oneshot_ends.specs.OwnWakers.{BlockHas};
 
     // The state's channel also names what was lent, so that a caller recognizes it.
@@ -110,7 +111,7 @@ impl<'g, 'p, 'r, T, Rt, P: Promise<T>> WaitGround<T, ChannelWaker>
 
 impl<'g, 'p, 'r, T, Rt: Wait + Clock, P: Promise<T>> BlockGround<T, ChannelWaker>
     for Blocking<'g, 'p, 'r, ChannelReceiver<T, P>, Rt> {
-    ghost use Rattle.oneshot_ends.specs.Keeps.{has_lent_on, has_lent_back};
+    ghost use Rattle.oneshot_ends.specs.Stays.{has_lent_on, has_lent_back};
     ghost use Rattle.oneshot_ends.specs.Patience.{Parked, Reads};
 
     ghost parks = { λ timed a b. Parked timed a.patience b.patience a.parker.now b.parker.now };

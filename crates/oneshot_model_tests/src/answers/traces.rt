@@ -627,20 +627,14 @@ block freed
     ),
 ];
 
-const TABLES: &[&[(&str, &str)]; 6] = &[
-    OF_EACH_CALL,
-    OF_LOOKS,
-    OF_A_REFUSED_SEND,
-    OF_RECEIVES_THAT_WAIT,
-    OF_DEADLINES,
-    OF_A_LARGE_MESSAGE,
-];
-
 #[test]
 fn each_input_has_its_trace(rt: HostRuntime) {
-    for traces in TABLES {
-        assert_traces(&rt, traces);
-    }
+    assert_traces(&rt, OF_EACH_CALL);
+    assert_traces(&rt, OF_LOOKS);
+    assert_traces(&rt, OF_A_REFUSED_SEND);
+    assert_traces(&rt, OF_RECEIVES_THAT_WAIT);
+    assert_traces(&rt, OF_DEADLINES);
+    assert_traces(&rt, OF_A_LARGE_MESSAGE);
 }
 
 const SCHEDULES: &[&str; 4] = &[

@@ -93,6 +93,27 @@ fn read_beside(text: &str) -> Option<Deed> {
 }
 
 impl Line<'_> {
+    /// Fails unless the line states this reply, and that the receiver's hand then has this.
+    fn assert_hand<R: Abort + AllocGlobal>(
+        &self,
+        rt: &R,
+        reply: Reply<u64>,
+        hand: &Option<u8>,
+    ) -> Result<(), AllocError> {
+        let hand = format!(in rt.alloc(); "{hand:?}")?;
+        self.assert(rt, reply, &hand)
+    }
+
+    /// Fails unless the line states this reply, and that the future's tasks then have these counts.
+    fn assert_counts<R: Abort + AllocGlobal>(
+        &self,
+        rt: &R,
+        reply: Reply<u64>,
+        tasks: &[MemoryTask; 2],
+    ) -> Result<(), AllocError> {
+        self.assert(rt, reply, &counts_of(rt.alloc(), tasks)?)
+    }
+
     /// Fails unless the line states this reply, and that the life then has this.
     fn assert<R: Abort + AllocGlobal>(
         &self,
@@ -107,6 +128,11 @@ impl Line<'_> {
         );
         Ok(())
     }
+}
+
+/// Reads a line of a life. `Err`: it is none.
+fn read_line(text: &str) -> Result<Line<'_>, Fail> {
+    Ok(read(text).ok_or("a line of a life")?)
 }
 
 /// Has happen what is no call.
@@ -159,11 +185,11 @@ fn receive<R: Wait + Abort + AllocGlobal>(rt: &R, lines: &str, last: &str) -> Re
     let mut g = MemoryReceiver::new(rt, rt.alloc());
     let mut hand = Some(9);
     for line in lines.lines() {
-        let line = read(line).ok_or("a line of a life")?;
+        let line = read_line(line)?;
         let reply = perform(rt, &mut g, &mut hand, line.deed);
-        line.assert(rt, reply, &format!(in rt.alloc(); "{hand:?}")?)?;
+        line.assert_hand(rt, reply, &hand)?;
     }
-    let last = read(last).ok_or("the last line of a life")?;
+    let last = read_line(last)?;
     let reply = match last.deed {
         Deed::Calls(ReceiverCall::Recv) => Reply::received(recv(&mut g, rt, &mut hand)),
         Deed::Calls(ReceiverCall::Drop) => {
@@ -172,7 +198,7 @@ fn receive<R: Wait + Abort + AllocGlobal>(rt: &R, lines: &str, last: &str) -> Re
         }
         deed => perform(rt, &mut g, &mut hand, deed),
     };
-    last.assert(rt, reply, &format!(in rt.alloc(); "{hand:?}")?)?;
+    last.assert_hand(rt, reply, &hand)?;
     Ok(steps_of(rt.alloc(), g.events())?)
 }
 
@@ -228,11 +254,11 @@ fn poll_all<R: Wait + Abort + AllocGlobal>(
     let tasks = [MemoryTask::new(), MemoryTask::new()];
     let mut future = Future::new(rt, rt.alloc(), &tasks[0]);
     for line in lines.lines() {
-        let line = read(line).ok_or("a line of a life")?;
+        let line = read_line(line)?;
         let reply = perform_polled(&mut future, &tasks, line.deed);
-        line.assert(rt, reply, &counts_of(rt.alloc(), &tasks)?)?;
+        line.assert_counts(rt, reply, &tasks)?;
     }
-    let last = read(last).ok_or("the last line of a life")?;
+    let last = read_line(last)?;
     let reply = match last.deed {
         Deed::Calls(ReceiverCall::Drop) => {
             drop_async(&mut future);
@@ -240,7 +266,7 @@ fn poll_all<R: Wait + Abort + AllocGlobal>(
         }
         deed => perform_polled(&mut future, &tasks, deed),
     };
-    last.assert(rt, reply, &counts_of(rt.alloc(), &tasks)?)?;
+    last.assert_counts(rt, reply, &tasks)?;
     Ok(steps_of(rt.alloc(), future.receiver.events())?)
 }
 

@@ -317,15 +317,28 @@ fn assert_looks(
         _alive: Arc::try_clone(&alive)?,
     };
     let mut ends = Ends::open(rt.alloc(), counted, &life)?;
-    assert_eq!(rt; (text, ends.looks(rt, &tasks)), (text, ("open", "open")));
-    for step in &life.steps {
-        assert_reply(rt, &mut ends, &tasks, step)?;
-        assert_looks_after(rt, &mut ends, &tasks, step, &alive);
-    }
+    assert_steps(rt, &mut ends, &tasks, &life, &alive)?;
     assert_eq!(rt;
         (text, ends.finish(), Arc::strong_count(&alive)),
         (text, 1, 1)
     );
+    Ok(())
+}
+
+/// Makes the steps, of which the first finds both ends open.
+fn assert_steps<W: Wait + Clock + Drop>(
+    rt: &(impl Wait + Clock + AllocGlobal + RandomSource + Abort),
+    ends: &mut Ends<W>,
+    tasks: &Tasks,
+    life: &Life<'_>,
+    alive: &Arc<u8>,
+) -> Result<(), AllocError> {
+    let text = life.text;
+    assert_eq!(rt; (text, ends.looks(rt, tasks)), (text, ("open", "open")));
+    for step in &life.steps {
+        assert_reply(rt, ends, tasks, step)?;
+        assert_looks_after(rt, ends, tasks, step, alive);
+    }
     Ok(())
 }
 

@@ -1,5 +1,5 @@
 -- Proofs of the goals that `exchange` of `Blocking` as a `ReceiverGround` leaves.
-use Rattle.oneshot_ends.specs.Keeps.{has_lent_on}
+use Rattle.oneshot_ends.specs.Stays.{has_lent_on}
 use Rattle.oneshot_ends.proofs.LentGrounds.{blocking_keeps}
 use Rattle.oneshot_ends.proofs.ground.thread.BlockingChannelReceiverReceiverGroundChannelWaker.exchange.Goals as goal
 

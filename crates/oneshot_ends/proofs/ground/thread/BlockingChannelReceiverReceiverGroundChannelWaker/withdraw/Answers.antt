@@ -1,6 +1,6 @@
 -- Proofs of the goals that `withdraw` of `Blocking` as a `ReceiverGround` leaves.
 use Rattle.std.proofs.Common.{Some}
-use Rattle.oneshot_ends.specs.Keeps.{has_lent_on}
+use Rattle.oneshot_ends.specs.Stays.{has_lent_on}
 use Rattle.oneshot_ends.proofs.LentGrounds.{blocking_keeps}
 use Rattle.oneshot_ends.proofs.ground.thread.BlockingChannelReceiverReceiverGroundChannelWaker.withdraw.Goals as goal
 
