@@ -6,7 +6,7 @@
 //! or to a poll, and a ground in memory (`oneshot_memory`), by which tests compare each step.
 //!
 //! There is a trait for each kind of call. A driver whose calls may not block, write a waker or drop a message has a
-//! trait without that step.
+//! trait without that step, except `into_inner`, which has the trait of `drop_error`.
 
 ghost use Rattle.std.specs.Prelude.{◌≡◌, Bool, true, ◌∷◌, [], Option, Some, None, IfSome};
 ghost use Rattle.oneshot_machine.specs.declared.machine.Step.TheVariants.{DropMessage, WriteWaker, TakeWaker, Withdraw, Wake, WakeOwn, Free};

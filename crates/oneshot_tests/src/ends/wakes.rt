@@ -228,16 +228,6 @@ pub(crate) fn waited_for<
     Ok(())
 }
 
-/// Fails unless a send wakes the tasks as often as `waits` states, and its message is then there.
-fn assert_a_send_wakes(
-    rt: &(impl Wait + Abort + Clock + RandomSource + AllocGlobal),
-    waits: &Waits,
-) -> Result<(), Fail> {
-    let (sender, future) = async_channel(rt, rt.alloc())?;
-    let act = || assert!(rt; sender.send(19u64).is_ok());
-    waited_for(rt, waits, Receiving::of_future(future), act, "Ok(19)")
-}
-
 /// Fails unless the drop of the sender wakes the tasks as often as `waits` states, and is then found.
 fn assert_a_drop_wakes(
     rt: &(impl Wait + Abort + Clock + RandomSource + AllocGlobal),
@@ -253,7 +243,9 @@ fn a_task_that_waits_beside_others_is_woken_by_the_sender_alone(
     rt: HostRuntime,
 ) -> Result<(), Fail> {
     for waits in WAITS {
-        assert_a_send_wakes(&rt, waits)?;
+        let (sender, future) = async_channel(&rt, rt.alloc())?;
+        let act = || assert!(rt; sender.send(19u64).is_ok());
+        waited_for(&rt, waits, Receiving::of_future(future), act, "Ok(19)")?;
         assert_a_drop_wakes(&rt, waits)?;
     }
     Ok(())

@@ -31,10 +31,8 @@ fn short_reads_and_writes_move_all(rt: HostRuntime) {
         let mut writer = Writer::new(rt.alloc(), 1, Failures::none());
         let mut reader = Reader::new(input, Failures::none());
         let ended = ending(&rt, &mut reader, &mut writer);
-        assert_eq!(rt;
-            (input, ended.as_str(), writer.written.as_slice()),
-            (input, "0 ", trace.as_bytes())
-        );
+        assert_eq!(rt; ended.as_str(), "0 ", "{input}");
+        assert_eq!(rt; writer.written.as_slice(), trace.as_bytes(), "{input}");
     }
 }
 
@@ -94,9 +92,11 @@ fn assert_made_again(
     let interrupts = Failures::of(before, count, ErrorKind::Interrupted);
     let mut writer = Writer::new(rt.alloc(), 1, interrupts);
     let ended = ending(rt, &mut input.as_bytes(), &mut writer);
+    assert_eq!(rt; (count, before, ended.as_str()), (count, before, "0 "));
     assert_eq!(rt;
-        (count, before, ended.as_str(), writer.written.as_slice()),
-        (count, before, "0 ", trace.as_bytes())
+        writer.written.as_slice(),
+        trace.as_bytes(),
+        "{count} after {before} writes"
     );
 }
 
