@@ -42,8 +42,8 @@ fn a_ticket_waits_to_the_nanosecond(rt: HostRuntime) -> Result<(), Fail> {
         let (_request, mut ticket) = ask(&clock, rt.alloc())?;
         let waited = ticket.wait_for(Duration::from_nanos(timeout)).map(bytes_of);
         assert_eq!(rt;
-            (waited, clock.made()),
-            (Err(RecvTimeoutError::Timeout), made)
+            (timeout, written, waited, clock.made()),
+            (timeout, written, Err(RecvTimeoutError::Timeout), made)
         );
     }
     Ok(())

@@ -1,6 +1,7 @@
 //! Requests whose server is told when nobody waits: each call of both ends, and when the server is told.
 
 use super::MOMENT;
+use crate::ends::clocks::{TIMEOUTS, Written};
 use crate::reply::{TEXT, bytes_of};
 use futures::executor::block_on;
 use futures::task::Poll;
@@ -76,6 +77,20 @@ fn a_reply_is_waited_for_with_a_timeout(rt: HostRuntime) -> Result<(), Fail> {
         (early, answered, waited),
         (Err(RecvTimeoutError::Timeout), true, Ok(21))
     );
+    Ok(())
+}
+
+#[test]
+fn a_ticket_waits_to_the_nanosecond(rt: HostRuntime) -> Result<(), Fail> {
+    for (timeout, written, made) in TIMEOUTS {
+        let clock = Written::new(&rt, written);
+        let (_request, mut ticket) = ask(&clock, rt.alloc())?;
+        let waited = ticket.wait_for(Duration::from_nanos(timeout)).map(bytes_of);
+        assert_eq!(rt;
+            (timeout, written, waited, clock.made()),
+            (timeout, written, Err(RecvTimeoutError::Timeout), made)
+        );
+    }
     Ok(())
 }
 

@@ -74,7 +74,7 @@ fn a_deadline_ends_a_wait_once_the_clock_is_past_it(rt: HostRuntime) -> Result<(
         let clock = Written::new(&rt, written);
         let (_guard, mut watch) = watch(&clock, rt.alloc())?;
         let gone = watch.wait_deadline(instant_at(&rt, 5)?);
-        assert_eq!(rt; (gone, clock.made()), (false, made));
+        assert_eq!(rt; (written, gone, clock.made()), (written, false, made));
     }
     Ok(())
 }
@@ -85,7 +85,10 @@ fn a_timeout_of_a_wait_counts_from_one_reading(rt: HostRuntime) -> Result<(), Fa
         let clock = Written::new(&rt, written);
         let (_guard, mut watch) = watch(&clock, rt.alloc())?;
         let gone = watch.wait_timeout(Duration::from_nanos(timeout));
-        assert_eq!(rt; (gone, clock.made()), (false, made));
+        assert_eq!(rt;
+            (timeout, written, gone, clock.made()),
+            (timeout, written, false, made)
+        );
     }
     Ok(())
 }
