@@ -29,7 +29,8 @@ fn first_of<R: Wait + RandomSource + AllocGlobal>(
     right: AsyncReceiver<usize, (), Below>,
 ) -> io::Result<Both>
     requires { right.channel.about ≡ left.channel.about }
-    ensures { IfOk result (λ both. IfOk both.0 (λ index. index < left.channel.about.0)) }
+    ensures first { IfOk result (λ both. IfOk both.0 (λ index. index < left.channel.about.0)) }
+    ensures other { IfOk result (λ both. IfOk both.1 (λ index. index < left.channel.about.0)) }
 {
     match block_on(rt, select(left, right))? {
         Either::Left((first, mut other)) => Ok((first, other.try_recv())),

@@ -1,6 +1,7 @@
 //! Fan-in: a count from each of several workers, under a promise.
 
 ghost use Rattle.std.specs.Prelude.{◌≡◌, ◌≤◌, IfSome};
+ghost use Rattle.std.specs.List.{sum};
 
 use oneshot_channel::{Promise, Receiver, Sender, channel_for};
 use std::alloc::Global;
@@ -40,6 +41,7 @@ fn total<Rt: Wait + Clock + Copy + Drop, F: FnMut(Part)>(
     mut start: F,
 ) -> Option<u64>
     requires { (start : _) (part : _) → F.pre start part }
+    ensures { IfSome result (λ total. total ≤ sum sizes.now) }
 {
     let mut counts = Vec::new(alloc);
     for size in sizes {
