@@ -107,7 +107,8 @@ fn wait<T, W: Drop, G: BlockGround<T, W>>(
     unreachable!()
 }
 
-// Whether there is a deadline and it is over. Without one the clock is not read.
+// Whether there is a deadline and it is over. Without one the clock is not read. It is a function of its own, so that
+// its contract refuses a body that reads the clock and ignores the answer.
 fn is_over<T, W, G: BlockGround<T, W>>(g: &mut G, timed: bool) -> bool
     requires { Stands (waits blocked) (G.state g.old) }
     ensures path { (way : ReceiveBy timed)

@@ -54,7 +54,7 @@ impl NextReading {
 }
 
 /// When a receive stops waiting.
-#[derive(Clone, Copy, Debug, Eq, PartialEq)]
+#[derive(Clone, Copy)]
 pub(crate) enum Deadline {
     /// Once the clock is past this instant.
     At(Instant),
