@@ -51,6 +51,21 @@ class Result:
                 f"{self.orders - self.missed} of the model's {least}{self.orders} orders")
 
 
+# What both programs say of a pair whose runs are right, and their statuses; and differences, each of which is wrong.
+RIGHT = ("runs 2 operations 3 stuck 0 differ 0 met 2\norders 2 missed 0\n",
+         "runs 2 pruned 0 points 3 longest 3 died 0 complete 1\n", 0, 0)
+WRONG = [RIGHT[:2] + (1, 0), RIGHT[:2] + (0, 1)] + [
+    tuple(part.replace(old, new) for part in RIGHT[:2]) + (0, 0)
+    for old, new in [("runs 2", "runs 0"), ("runs 2 o", "runs 1 o"), ("runs 2 p", "runs 3 p"), ("differ 0", "differ 1"),
+                     ("missed 0", "missed 1"), ("orders 2 missed 0", ""), ("died 0 complete 1", ""),
+                     ("complete 1", "complete 0")]]
+
+
+def sees_planted(wrong_of, pair):
+    """Whether the right result of a pair passes, and each planted difference of it is wrong."""
+    return not wrong_of(Result(pair, *RIGHT)) and all(wrong_of(Result(pair, *planted)) for planted in WRONG)
+
+
 def tell_first(found, told):
     result = found.popleft().result()
     if result:
