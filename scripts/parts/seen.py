@@ -15,9 +15,8 @@ from parts.sources import CRATES
 STUB = CRATES.parent / "scripts" / "parts" / "unproved.c"
 # What is planted, the reason for which runs differ, the file, its text and the other, and the pair that shows it.
 DAMAGES = [
-    ("the receiver is woken before the last swap: a wakeup is lost", "a wakeup is lost", "oneshot_drive/src/sender.rt",
-     "    let found = g.swap(last);\n    g.wake(waker);\n", "    g.wake(waker);\n    let found = g.swap(last);\n",
-     Pair("", "send", "recv", "")),
+    ("the token is not given: a wakeup is lost", "a wakeup is lost", "oneshot_ends/src/token.rt",
+     "unparker.unpark_as::<Gives>(&mut pass);", "drop(unparker);", Pair("", "send", "recv", "")),
     ("both ends have one share: a freed block is read", "a freed block is accessed", "oneshot_word/src/opening.rt",
      "Arc::try_clone(&table)?", "unsafe { std::ptr::read(&table) }", Pair("", "send", "try drop", "")),
 ]
