@@ -29,7 +29,8 @@ pub fn orders_are_runs<T>()
 {}
 
 /// Each run of the model whose logs the rule of the word allows performs the operations of both in
-/// their one order. So a run with the logs of real ends performs them in the order in which they happened.
+/// their one order. So if the operations of real ends happened in an order in which each finds the word that the
+/// one before it left, a run with their logs performs them in this order.
 pub fn runs_are_in_order<T>()
     ensures law { RunsAreInOrder T }
     ensures worked { (m : T) → WorkedOrder m }

@@ -19,8 +19,9 @@ use std::marker::Model;
 
 /// The error of a `send` that was refused, since the receiver was gone.
 ///
-/// It owns the message, and the channel's memory in the sender's place. Dropping it drops both;
-/// `into_inner` returns the message and releases the memory. None of its calls blocks or allocates.
+/// It owns the message, and the sender's share of the channel's memory. Dropping it drops both; `into_inner` returns
+/// the message and drops the share. None of its calls waits or allocates, and the drop blocks only if that of the
+/// message does.
 ///
 /// It may go to another thread where `T` is `Send`.
 ///

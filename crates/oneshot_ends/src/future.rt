@@ -31,8 +31,8 @@ use std::marker::{Model, PhantomData};
 /// sender was dropped without a message or the message was received before.
 ///
 /// Dropping it also drops its `rt`, and a message that was sent and not received. A later `send` is
-/// refused: its error owns the message. The drop never blocks. If the sender is about to finish, the drop
-/// returns at once, the sender's side frees the memory, and a `send` is refused too.
+/// refused: its error owns the message. So is a `send` that is about to finish, since the drop does not wait for
+/// the sender: it blocks only if the drop of the message or of `rt` does.
 ///
 /// A contract sees the future's channel, with the value that it is about, the log of the future's
 /// operations on the word, which determines whether it is closed, the source at which its polls register, the
@@ -136,9 +136,10 @@ impl<T: Drop, Rt: Drop, P: Promise<T>> Future for AsyncReceiver<T, Rt, P> {
     /// - `Ready(Ok)`: the message.
     /// - `Ready(Err)`: the sender was dropped without a message, or the message was received before. A
     ///   future that was ready returns this from then on.
-    /// - `Pending`: no message yet. The task is registered, and woken when that changes: the waker that the
-    ///   sender then takes is a copy of this task's (clause `woken`). If no copy of its waker could be made, or
-    ///   the sender is about to finish, the task is woken at once.
+    /// - `Pending`: no message yet. The task is registered: the channel has a waker that wakes it, and the sender
+    ///   uses this waker when that changes. Or the task has asked for another poll, because no copy of its waker
+    ///   could be made or the sender is about to finish. Clause `woken` states this, except where the task's
+    ///   context could make no waker.
     fn poll(&mut self, cx: &mut Context<'_>) -> Poll<Result<T, RecvError>>
         ensures value { IfReady result (λ answer. IfOk answer (λ message. P.keeps self.old.channel.about message)) }
         ensures again { OnPending result ⊤ }

@@ -142,8 +142,8 @@ pub fn a_token_is_given_once_and_then_taken()
 ///
 /// What the law requires of the sender (`HasEnded`), the functions require that release it. What it requires of a
 /// receiver that sleeps (`SleepsOn`), `park` of its ground and of its parker's half require. That the rules of both
-/// tables allow what the ends and the halves show (`AtOneMoment`, `ParkerAt`), the tables guarantee between any two
-/// steps.
+/// tables allow what the ends and the halves show (`AtOneMoment`, `ParkerAt`) holds between any two steps as
+/// `atomic_table` promises, and no clause states it.
 pub fn no_wakeup_is_lost<T, P: Promise<T>>()
     ensures tokens { EndedSendersGaveTokens P.keeps }
     ensures sleepers { NoSleeperIsForgotten P.keeps }

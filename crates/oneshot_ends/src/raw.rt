@@ -65,7 +65,8 @@ impl<T: Drop, P: Promise<T>> Drop for RawSender<T, P> {
 /// An opaque receiver, which `Receiver::from_raw` turns back. The Rust crate has a pointer here.
 ///
 /// Dropping it drops the receiver with its `rt`, and a message that was sent and not received. A later
-/// `send` is refused: its error owns the message. The drop never blocks.
+/// `send` is refused: its error owns the message. The drop does not wait for the sender: it blocks only if the
+/// drop of the message or of `rt` does.
 ///
 /// A contract sees it as the receiver that it owns. It may go to another thread where `T` and `Rt` are
 /// `Send`.

@@ -31,7 +31,8 @@ use std::time::{Clock, Duration, Instant};
 /// Receives one message from its sender.
 ///
 /// Dropping it also drops its `rt`, and a message that was sent and not received. A later `send` is
-/// refused: its error owns the message. The drop never blocks.
+/// refused: its error owns the message. The drop does not wait for the sender: it blocks only if the drop of the
+/// message or of `rt` does.
 ///
 /// The receives that block (`recv`, `recv_ref`, `recv_deadline`, `recv_timeout`) need `Rt: Wait + Clock`.
 /// The other calls accept any `Rt: Drop`, such as `()`.
@@ -97,8 +98,8 @@ impl<T: Drop, Rt: Drop, P: Promise<T>> Receiver<T, Rt, P> {
     /// Receives the message if it is there. It never blocks and does not allocate.
     ///
     /// - `Ok`: the message. The receiver is closed from then on.
-    /// - `Err(Empty)`: no message yet. The sender is there, and may be in its `send`. The receiver stays
-    ///   open.
+    /// - `Err(Empty)`: no message yet. The sender is there, and may be in its `send` or its drop. The receiver
+    ///   stays open.
     /// - `Err(Disconnected)`: the sender is gone without a message, or the message was received before.
     ///   Every later receive fails in the same way.
     pub fn try_recv(&mut self) -> Result<T, TryRecvError>

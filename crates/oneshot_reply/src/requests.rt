@@ -9,8 +9,8 @@ use std::marker::Model;
 
 /// A question, with the sender of its reply.
 ///
-/// Dropping it unanswered drops that sender: a waiting ticket is woken, and returns an error. The drop never
-/// blocks.
+/// Dropping it unanswered drops that sender: a waiting ticket is woken, and returns an error. The drop does not wait
+/// for the ticket: it blocks only if the drop of the question does.
 ///
 /// It may be sent to another thread if `Q` and `A` are `Send`.
 ///
@@ -55,17 +55,20 @@ impl<Q: Eq, A: Answer<Q>> Request<Q, A> {
         *reply.question() == self.asked.question
     }
 
-    /// Returns whether the ticket was dropped. Then an answer is refused. It is one load and never blocks.
+    /// Returns whether the ticket was dropped, or the future that it became. Then an answer is refused. It is one
+    /// load and never blocks.
     pub fn is_cancelled(&self) -> bool {
         self.reply.is_closed()
     }
 }
 
 impl<Q: Eq + Drop, A: Answer<Q> + Message> Request<Q, A> {
-    /// Answers with a reply that fits, and wakes a waiting ticket. It never blocks and does not allocate.
+    /// Answers with a reply that fits, wakes a waiting ticket, and drops the question. It does not allocate, and
+    /// blocks only if the drop of the question does.
     ///
     /// - `Ok`: the ticket was there. It may still be dropped before it takes the reply.
-    /// - `Err`: the ticket was dropped. The error has the reply.
+    /// - `Err`: the ticket was dropped, or the future that it became was dropped, perhaps while `answer` was about
+    ///   to wake its task. The error has the reply.
     pub fn answer(self, reply: A) -> Result<(), SendError<A, Asked<Q>>>
         requires fits { Q.eq (A.asked reply) self.channel.about.question ≡ true }
         ensures reply { IfErr result (λ error. error.message ≡ reply) }

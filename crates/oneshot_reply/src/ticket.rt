@@ -23,7 +23,7 @@ use std::time::{Clock, Duration};
 /// Every reply that it returns names a question equal to its own, and is right for the one that it names.
 ///
 /// Dropping it drops a reply that came and was not taken. A later answer is refused: its error has the reply.
-/// The drop never blocks. It drops `rt` too.
+/// It drops `rt` too. The drop does not wait for the request: it blocks only if the drop of the reply or of `rt` does.
 ///
 /// It may be sent to another thread if `Q`, `A` and `Rt` are `Send`. Two threads cannot share it.
 ///

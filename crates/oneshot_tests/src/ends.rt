@@ -10,7 +10,7 @@ mod nested;
 mod overdue;
 mod polls;
 mod promised;
-mod raw;
+pub(super) mod raw;
 mod refused;
 mod steps;
 mod threads;

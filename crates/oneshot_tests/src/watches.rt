@@ -2,6 +2,7 @@
 
 mod cancelled;
 mod order;
+mod threads;
 mod waits;
 
 use futures::executor::block_on;

@@ -18,7 +18,7 @@ use std::marker::Model;
 
 /// A future that is ready once its guard is gone.
 ///
-/// Dropping it never blocks, and drops `rt` too; the guard is not told. Nor does any other call of it block.
+/// Dropping it drops `rt` too, and blocks only if that drop does; the guard is not told. No other call of it blocks.
 ///
 /// In contracts it is its receiver's value (`FutureView`): it is closed exactly if a call has found its guard
 /// gone.
@@ -77,8 +77,10 @@ impl<Rt: Drop> Future for AsyncWatch<Rt> {
     /// Polls once, for the task of `cx`. It never blocks and does not allocate.
     ///
     /// - `Ready`: the guard is gone. A future that was ready returns this from then on (clause `stays_gone`).
-    /// - `Pending`: the guard is there. The task is registered, and woken when the guard is dropped (clause
-    ///   `woken`). If no copy of its waker could be made, or the guard's drop is under way, it is woken at once.
+    /// - `Pending`: the guard is there. The task is registered: the channel has a waker that wakes it, and the drop
+    ///   of the guard uses this waker. Or the task has asked for another poll, because no copy of its waker could be
+    ///   made or the guard's drop is under way. Clause `woken` states this, except where the task's context could
+    ///   make no waker.
     #[tactic(auto, using(crate::proofs::Gone::not_pending))]
     fn poll(&mut self, cx: &mut Context<'_>) -> Poll<()>
         ensures value { IfReady result (λ _. ⊤) }

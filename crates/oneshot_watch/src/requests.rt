@@ -12,7 +12,7 @@ use std::marker::Model;
 /// Its calls are those of `Request`, with the same contracts; `into_parts` also gives the watch.
 ///
 /// Dropping it unanswered drops the sender of the reply: a waiting ticket is woken, and returns an error. The drop
-/// never blocks.
+/// does not wait for the ticket: it blocks only if the drop of the question or of the watch's `rt` does.
 ///
 /// It may be sent to another thread if `Q`, `A` and `Rt` are `Send`.
 ///
@@ -53,7 +53,8 @@ impl<Q: Eq, A: Answer<Q>, Rt> CancellableRequest<Q, A, Rt> {
         self.request.fits(reply)
     }
 
-    /// Returns whether the ticket was dropped. Then an answer is refused. It is one load and never blocks.
+    /// Returns whether the ticket was dropped, or the future that it became. Then an answer is refused. It is one
+    /// load and never blocks.
     pub fn is_cancelled(&self) -> bool {
         self.request.is_cancelled()
     }
@@ -68,10 +69,12 @@ impl<Q: Eq, A: Answer<Q>, Rt> CancellableRequest<Q, A, Rt> {
 }
 
 impl<Q: Eq + Drop, A: Answer<Q> + Message, Rt: Drop> CancellableRequest<Q, A, Rt> {
-    /// Answers with a reply that fits, and wakes a waiting ticket. It never blocks and does not allocate.
+    /// Answers with a reply that fits, wakes a waiting ticket, and drops the question and the watch. It does not
+    /// allocate, and blocks only if the drop of the question or of the watch's `rt` does.
     ///
     /// - `Ok`: the ticket was there. It may still be dropped before it takes the reply.
-    /// - `Err`: the ticket was dropped. The error has the reply.
+    /// - `Err`: the ticket was dropped, or the future that it became was dropped, perhaps while `answer` was about
+    ///   to wake its task. The error has the reply.
     pub fn answer(self, reply: A) -> Result<(), SendError<A, Asked<Q>>>
         requires fits { Q.eq (A.asked reply) self.channel.about.question ≡ true }
         ensures reply { IfErr result (λ error. error.message ≡ reply) }

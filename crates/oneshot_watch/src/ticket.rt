@@ -23,7 +23,8 @@ use std::time::{Clock, Duration};
 /// Its calls are those of `Ticket`, with the same contracts.
 ///
 /// Dropping it drops a reply that came and was not taken, and its `rt`. A later answer is refused: its error has
-/// the reply. Then the drop tells the server's watch. It never blocks.
+/// the reply. Then the drop tells the server's watch. It does not wait for the server: it blocks only if the drop of
+/// the reply or of `rt` does.
 ///
 /// It may be sent to another thread if `Q`, `A` and `Rt` are `Send`. Two threads cannot share it.
 ///

@@ -16,8 +16,8 @@ use std::time::{Clock, Duration, Instant};
 
 /// Learns that its guard is gone.
 ///
-/// Once a call has found the guard gone, each later one finds the same. Dropping the watch never blocks, and
-/// drops `rt` too; the guard is not told.
+/// Once a call has found the guard gone, each later one finds the same. Dropping the watch drops `rt` too, and blocks
+/// only if that drop does; the guard is not told.
 ///
 /// In contracts a watch is its receiver's value (`ReceiverView`): it is closed exactly if a call has found its guard
 /// gone.

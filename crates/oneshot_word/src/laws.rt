@@ -20,9 +20,8 @@ pub fn every_state_is_reached<T, H, K, P: Promise<T>>()
 {}
 
 /// The logs of both ends have only one order: in any two orders of them, in which each operation finds
-/// the word that the one before it left, the ends operate in the same sequence. So the order of
-/// `every_state_is_reached` is the one in which the operations happened. With examples of orders, and
-/// counterexamples.
+/// the word that the one before it left, the ends operate in the same sequence. So if the operations happened in
+/// such an order, it is the one of `every_state_is_reached`. With examples of orders, and counterexamples.
 pub fn order_is_one()
     ensures law { OrderIsOne }
     ensures orders { WorkedOrders }

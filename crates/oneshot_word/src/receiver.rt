@@ -150,7 +150,7 @@ impl<T, H, K, P: Promise<T>> ReceiverSide<T, H, K, P> {
 
 // It has no `Drop`, so that none can be forgotten.
 impl<T: Drop, H: Drop, K: Drop, P: Promise<T>> ReceiverSide<T, H, K, P> {
-    /// Releases the side's share of the table. Its receiver has received or has left.
+    /// Releases the side's share of the table. Its receiver has found the message or that none will come, or has left.
     pub fn let_go(self)
         requires { ReceiverIsOver (receiver_at self.log) }
     {

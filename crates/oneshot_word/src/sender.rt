@@ -157,7 +157,7 @@ impl<T, H, K, P: Promise<T>> SenderSide<T, H, K, P> {
 
 // It has no `Drop`, so that none can be forgotten.
 impl<T: Drop, H: Drop, K: Drop, P: Promise<T>> SenderSide<T, H, K, P> {
-    /// Releases the side's share of the table. Its sender's call is over.
+    /// Releases the side's share of the table. Its sender has performed its last operation on the word.
     pub fn let_go(self)
         requires { (by : By) × SenderIsOver by (sender_at self.log) }
     {

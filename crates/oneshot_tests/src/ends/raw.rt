@@ -4,8 +4,8 @@ use oneshot_channel::{RawReceiver, RawSender, Receiver, Sender, channel};
 use std::test::Fail;
 use std::thread::{Threads, join};
 
-// Moves a value to another thread, which returns it.
-fn there_and_back<A: Send + Drop>(rt: &impl Threads, value: A) -> A {
+/// Moves a value to another thread, which returns it.
+pub fn there_and_back<A: Send + Drop>(rt: &impl Threads, value: A) -> A {
     let (value, ()) = join(rt, move || value, || ());
     value
 }

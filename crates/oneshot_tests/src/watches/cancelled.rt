@@ -21,13 +21,13 @@ type Ends<Rt> = (
 );
 
 /// A request for the length of `TEXT`.
-fn ask<Rt: Drop>(rt: Rt, alloc: Global) -> Result<Ends<Rt>, AllocError> {
+pub fn ask<Rt: Drop>(rt: Rt, alloc: Global) -> Result<Ends<Rt>, AllocError> {
     let question = String::from_str(alloc, TEXT)?;
     cancellable_request(rt, (), alloc, question).map_err(|_| AllocError)
 }
 
 /// Answers with the length of the text. Inner `Err`: the ticket was gone, and the reply came back.
-fn answer(
+pub fn answer(
     request: CancellableRequest<String, Length, ()>,
 ) -> Result<Result<(), Length>, AllocError> {
     let length = Length::of(request.question().clone()?);
