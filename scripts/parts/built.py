@@ -40,13 +40,15 @@ def build_program(crate, compiler):
     made, program = folder / "out" / crate, folder / "out" / f"{crate}{ENDINGS[compiler]}"
     kept = made.read_bytes() if made != program and made.exists() else None
     words = (folder / "args").read_text().split() if (folder / "args").exists() else []
-    with open(folder / "stdin" if (folder / "stdin").exists() else os.devnull) as given:
-        run(["rt", "run", "--backend", compiler, "--", *words], cwd=folder, stdin=given, stdout=subprocess.DEVNULL)
-    if made != program and made.exists():
-        shutil.move(made, program)
-    if kept:
-        made.write_bytes(kept)
-        made.chmod(0o755)
+    try:
+        with open(folder / "stdin" if (folder / "stdin").exists() else os.devnull) as given:
+            run(["rt", "run", "--backend", compiler, "--", *words], cwd=folder, stdin=given, stdout=subprocess.DEVNULL)
+    finally:
+        if made != program and made.exists():
+            shutil.move(made, program)
+        if kept:
+            made.write_bytes(kept)
+            made.chmod(0o755)
 
 
 def find_program(crate, compiler="llvm"):
