@@ -40,12 +40,15 @@ def build_program(crate, compiler):
     made, program = folder / "out" / crate, folder / "out" / f"{crate}{ENDINGS[compiler]}"
     kept = made.read_bytes() if made != program and made.exists() else None
     words = (folder / "args").read_text().split() if (folder / "args").exists() else []
+    is_built = False
     try:
         with open(folder / "stdin" if (folder / "stdin").exists() else os.devnull) as given:
             run(["rt", "run", "--backend", compiler, "--", *words], cwd=folder, stdin=given, stdout=subprocess.DEVNULL)
+        is_built = True
     finally:
+        # An interrupt may leave the other compiler's program in the place of LLVM's.
         if made != program and made.exists():
-            shutil.move(made, program)
+            shutil.move(made, program) if is_built else made.unlink()
         if kept:
             made.write_bytes(kept)
             made.chmod(0o755)

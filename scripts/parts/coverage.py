@@ -258,9 +258,12 @@ def counted(is_so):
 
 
 def look_at_pairs(known):
-    """The program has to make each call that a pair is said to make. No text of it names the drop of an end as such."""
-    made = set().union(*(made_in(code_of(file), known) for file in sources(*KINDS["Interleaving"])))
+    """The program has to make each call that a pair is said to make, and `oneshot_calls` each that a word of a plain
+    channel is. No text of them names the drop of an end as such."""
+    made, by_words = (set().union(*(made_in(code_of(file), known) for file in sources(*names)))
+                      for names in (KINDS["Interleaving"], ["oneshot_calls"]))
     lacks = {call for pair in SHORT + ALL for call in made_by_pair(pair)} - made
+    lacks |= {call for pair in SHORT + ALL if not pair.kind for call in made_by_pair(pair)} - by_words - {"channel"}
     if lost := sorted(call for call in lacks if not call.endswith("::drop")):
         raise Differs(f"{KINDS['Interleaving'][0]} makes no call of {', '.join(lost)}")
 

@@ -29,10 +29,12 @@ IN_PRINTED = [
     # what covers a call: a test, and an edit that can no more be made
     ("crates/oneshot_out_of_memory/src/channels.rt", "async_channel(", "channel("),
     ("crates/oneshot_drive/must-fail/always_sent.edit", "old: DISCONNECTED", "old: DISCONNECTS"),
-    # how many rounds a race has, which end drops, and a call that no program makes for the pairs that have it
+    # how many rounds a race has, which end drops, and calls that no program makes for the pairs that have them
     ("crates/oneshot_rounds/src/sizes.rt", "ROUNDS: u64 = 100;", "ROUNDS: u64 = 99;"),
     ("crates/oneshot_rounds/src/beside_a_send.rt", '"send into", "drop"', '"send into", "try"'),
     ("crates/oneshot_calls/src/receives.rt", "self.recv_ref()", "self.recv()"),
+    ("crates/oneshot_calls/src/receives.rt", "Receiver::from_raw(self.into_raw())", "self"),
+    ("crates/oneshot_calls/src/sends.rt", "Sender::from_raw(self.into_raw())", "self"),
     # the file of a contract that a trait's function has, and a drop without a clause
     ("docs/COVERAGE.md", "| `AsyncReceiver::poll` | ends/future |", "| `AsyncReceiver::poll` | none |"),
     ("docs/COVERAGE.md", "| `Sender::drop` | none |", "| `Sender::drop` | ends/sender |"),
