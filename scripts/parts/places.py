@@ -28,7 +28,8 @@ def told(error):
     """An error of the operating system as a sentence, with the file that it is about."""
     if isinstance(error, shutil.Error):
         source, _, reason = error.args[0][0]
-        return f"{source} could not be copied: {re.sub(r'^.Errno [0-9]+. ', '', str(reason))}"
+        number = re.match(r"\[Errno (\d+)\] ", str(reason))
+        return f"{source} could not be copied: {REASONS.get(int(number[1]), reason) if number else reason}"
     place = error.filename2 or error.filename
     if not place:
         return REASONS.get(error.errno, str(error))
