@@ -83,6 +83,8 @@ def is_new(program, crate):
 
 def compile_library(made, files, *flags):
     """A library of C that is loaded before a program."""
+    if re.search(r"[\s:]", str(made)):
+        raise Differs(f"{made.parent}: LD_PRELOAD takes no name with a space or a colon: set TMPDIR to another folder")
     words = [os.environ.get("CC", "cc"), "-O2", "-Wall", "-Wextra", "-shared", "-fPIC", *flags, "-o", made, *files]
     ran = subprocess.run(words, capture_output=True, text=True)
     if ran.returncode or ran.stderr or not made.exists():

@@ -7,6 +7,7 @@ import shutil
 import subprocess
 import tempfile
 
+from parts import groups
 from parts.compare import Differs
 from parts.sources import CRATES
 
@@ -26,9 +27,9 @@ def try_program(crate, given, *flags, environment=None):
     with tempfile.TemporaryDirectory() as folder:
         for name, text in given.items():
             (pathlib.Path(folder) / name).write_bytes(text)
-        ran = subprocess.run(["rt", "try", *flags, "--cases", folder], cwd=crate, capture_output=True, env=environment,
-                             stdin=subprocess.DEVNULL)
-    return ran.stdout.decode(), ran.stderr.decode(errors="replace")
+        written, said = groups.run(["rt", "try", *flags, "--cases", folder], cwd=crate, env=environment,
+                                   stdin=subprocess.DEVNULL, stdout=subprocess.PIPE, stderr=subprocess.PIPE)
+    return written.decode(), said.decode(errors="replace")
 
 
 def same_lines(what, where, written, expected):

@@ -6,6 +6,7 @@ import io
 import sys
 from unittest import mock
 
+from parts.groups import end_on_signals
 from parts.sources import CRATES, TEXTS, text_of
 
 # A function that returns how many things it compared, by the names of these things; how many these are at least; and
@@ -62,6 +63,7 @@ def counted(comparison):
 
 def run(script, *comparisons):
     """Makes each comparison, also after one that differs, and ends with status 1 where one did."""
+    end_on_signals()
     failed = not comparisons
     for comparison in comparisons:
         try:

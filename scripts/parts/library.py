@@ -14,7 +14,8 @@ from parts.compare import Differs, none_of
 from parts.sources import CRATES, text_of
 
 TOP = CRATES.parent
-CALLED = ("add-to", "release", "parts/copies.py", "parts/names.py", "parts/places.py", "parts/sources.py")
+CALLED = ("add-to", "release", "parts/copies.py", "parts/groups.py", "parts/names.py", "parts/places.py",
+          "parts/sources.py")
 FILES = ("crates.txt", "HANDLES", "LICENSE-APACHE", "LICENSE-MIT", "CHANGELOG.md")
 KILLED = 9
 Ran = collections.namedtuple("Ran", "status output errors")

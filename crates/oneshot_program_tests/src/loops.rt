@@ -9,7 +9,7 @@ use oneshot_loops::fault::Fault;
 use oneshot_loops::loops::{Awaited, Loop};
 use oneshot_loops::measure::{measure, timed};
 use oneshot_loops::polled::{PolledRound, pend, repeat_in_task};
-use oneshot_loops::queues::queue;
+use oneshot_loops::queues::{queue, task_fault};
 use oneshot_loops::round_trip::{Request, ask, serve};
 use oneshot_loops::rounds::repeat;
 use oneshot_loops::tally::Tally;
@@ -357,6 +357,52 @@ fn no_round_is_made_before_the_time_or_after_it(rt: HostRuntime) -> Result<(), F
         assert_eq!(rt; time, Duration::from_nanos(times));
     }
     Ok(())
+}
+
+// Tasks of one queue, for which no round asks the allocator.
+#[test]
+fn a_round_that_awaits_makes_no_executor(rt: HostRuntime) -> Result<(), Fail> {
+    for channel in OF_FUTURES {
+        let asked = Asked {
+            rt: &rt,
+            times: AtomicU64::new(0),
+        };
+        let tally = measure(&asked, channel, Loop::Awaited(Awaited::MakeSendAwait), 20)?.tally;
+        let times = asked.times.load(Ordering::SeqCst);
+        assert!(rt;
+            times < 20,
+            "{channel:?}: the allocator was asked for {times} times"
+        );
+        assert_eq!(rt; (channel, tally.polled), (channel, 20));
+    }
+    Ok(())
+}
+
+#[test]
+fn a_tally_adds_each_count_of_another(rt: HostRuntime) {
+    let other = Tally {
+        channels: 1,
+        room: 2,
+        tried: 3,
+        waited: 4,
+        pended: 5,
+        polled: 6,
+    };
+    let mut tally = tally_of(10, other);
+    tally.add(other);
+    assert_eq!(rt; tally, tally_of(11, other));
+}
+
+#[test]
+fn memory_that_a_task_is_refused_is_a_fault_of_its_own(rt: HostRuntime) {
+    let refused = task_fault(io::ErrorKind::OutOfMemory.into());
+    let failed = task_fault(io::ErrorKind::Other.into());
+    assert!(rt;
+        matches!(
+            (refused, failed),
+            (Fault::OutOfMemory(_), Fault::TaskFailed)
+        )
+    );
 }
 
 #[test]

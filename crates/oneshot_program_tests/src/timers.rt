@@ -159,6 +159,21 @@ fn timers_fire_each_millisecond(rt: HostRuntime) -> Result<(), Fail> {
     Ok(())
 }
 
+// The clock would fail in a second turn.
+#[test]
+fn timers_end_if_nobody_is_left_to_stop_them(rt: HostRuntime) -> Result<(), Fail> {
+    let task = MockTask::new(&rt)?;
+    let clock = Written::new(&rt, &[0, 0], &task);
+    let start = Instant::now(&Written::new(&rt, &[0], &task))?;
+    let timers = Driver::new(rt.alloc(), start)?;
+    let (stop, stopped) = channel(&clock, rt.alloc())?;
+    drop(stop);
+    let own = Solo::new(&rt, Doorbell::parking())?;
+    let kept = keep_time(&clock, timers, own, stopped).is_ok();
+    assert!(rt; kept, "they end with the first turn");
+    Ok(())
+}
+
 #[test]
 fn where_no_report_comes_nobody_was_given_up(rt: HostRuntime) -> Result<(), Fail> {
     let timers = Driver::new(rt.alloc(), Instant::now(&rt)?)?;

@@ -34,3 +34,12 @@ fn a_started_task_is_joined_after_its_result(rt: HostRuntime) -> Result<(), Fail
     assert_eq!(rt; (thread.join(&rt), received), (None, Ok(7)));
     Ok(())
 }
+
+#[test]
+fn a_started_task_gives_back_what_nobody_waits_for(rt: HostRuntime) -> Result<(), Fail> {
+    let (waiter, receiver) = channel::<u8, ()>((), rt.alloc())?;
+    drop(receiver);
+    let thread = start(&rt, || 7u8, waiter)?;
+    assert_eq!(rt; thread.join(&rt), Some(7));
+    Ok(())
+}

@@ -403,6 +403,13 @@ fn another_reply_ends_a_test(rt: HostRuntime) {
     let _ = live_by(&rt, "channel\nR try = Ok(19) | gone open").report(&rt);
 }
 
+// The text of the reply is the beginning of what the line has.
+#[test]
+#[should_panic(expected = "S send = Ok(19) | gone full: Ok")]
+fn a_shorter_reply_ends_a_test(rt: HostRuntime) {
+    let _ = live_by(&rt, "channel\nS send = Ok(19) | gone full").report(&rt);
+}
+
 #[test]
 fn a_line_with_an_unknown_word_is_no_step(rt: HostRuntime) -> Result<(), Fail> {
     for line in [
