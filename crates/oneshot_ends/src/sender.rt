@@ -57,7 +57,7 @@ impl<T, P: Promise<T>> Sender<T, P> {
 
 impl<T: Message> Sender<T> {
     /// Sends `message`, and wakes a waiting receiver. It never blocks and does not allocate.
-    /// Waking a task takes the lock of its executor's queue (docs/TRUST.md).
+    /// Waking a task takes the lock of its executor's queue (docs/TRUST.md of Hekotumi).
     ///
     /// - `Ok`: the receiver was there. It may still be dropped before it receives the message.
     /// - `Err`: the receiver was gone, or was a future that was dropped while `send` was about to wake its
