@@ -50,8 +50,9 @@ impl Numbered for Counted {
 }
 
 impl Drops {
-    /// Fails unless each message was dropped once.
-    pub(super) fn assert_once(&self, rt: &impl Abort) {
+    /// Fails unless there were so many messages, and each was dropped once.
+    pub(super) fn assert_once(&self, rt: &impl Abort, messages: u64) {
+        assert_eq!(rt; self.0.len() as u64, messages);
         for drops in &self.0 {
             let count = drops.load(Ordering::SeqCst);
             assert!(rt; count == 1, "{count} drops of a message");
@@ -67,5 +68,5 @@ fn a_message_that_is_not_dropped_ends_a_test(rt: HostRuntime) {
     counts
         .push(drops.expect(&rt, "memory"))
         .expect(&rt, "memory");
-    Drops(counts).assert_once(&rt);
+    Drops(counts).assert_once(&rt, 1);
 }

@@ -56,7 +56,7 @@ pub(super) fn duel<R: Threads + Wait + Abort + Clock + AllocGlobal + RandomSourc
     );
     assert_answers(rt, &about, &ones, sent);
     assert_answers(rt, &about, &others, received);
-    drops.assert_once(rt);
+    drops.assert_once(rt, ROUNDS);
     assert_both_orders(rt, &about, &others);
     Ok(ones)
 }
