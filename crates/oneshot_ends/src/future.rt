@@ -136,10 +136,10 @@ impl<T: Drop, Rt: Drop, P: Promise<T>> Future for AsyncReceiver<T, Rt, P> {
     /// - `Ready(Ok)`: the message.
     /// - `Ready(Err)`: the sender was dropped without a message, or the message was received before. A
     ///   future that was ready returns this from then on.
-    /// - `Pending`: no message yet. The task is registered: the channel has a waker that wakes it, and the sender
-    ///   uses this waker when that changes. Or the task has asked for another poll, because no copy of its waker
-    ///   could be made or the sender is about to finish. Clause `woken` states this, except where the task's
-    ///   context could make no waker.
+    /// - `Pending`: no message yet. A registered waker wakes the task, or the task has asked for
+    ///   another poll (clause `woken`, which leaves a context out that could make no waker). The task asks for one if
+    ///   no copy of its waker could be made, or if the sender is about to finish. The law `no_wakeup_is_lost` states
+    ///   that a sender which has ended has used the registered waker.
     fn poll(&mut self, cx: &mut Context<'_>) -> Poll<Result<T, RecvError>>
         ensures value { IfReady result (λ answer. IfOk answer (λ message. P.keeps self.old.channel.about message)) }
         ensures again { OnPending result ⊤ }

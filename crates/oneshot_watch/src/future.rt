@@ -77,10 +77,10 @@ impl<Rt: Drop> Future for AsyncWatch<Rt> {
     /// Polls once, for the task of `cx`. It never blocks and does not allocate.
     ///
     /// - `Ready`: the guard is gone. A future that was ready returns this from then on (clause `stays_gone`).
-    /// - `Pending`: the guard is there. The task is registered: the channel has a waker that wakes it, and the drop
-    ///   of the guard uses this waker. Or the task has asked for another poll, because no copy of its waker could be
-    ///   made or the guard's drop is under way. Clause `woken` states this, except where the task's context could
-    ///   make no waker.
+    /// - `Pending`: the guard is there. A registered waker wakes the task, or the task has asked for another poll
+    ///   (clause `woken`, which leaves a context out that could make no waker). The task asks for one if no copy of its
+    ///   waker could be made, or if the guard's drop is under way. The law `no_wakeup_is_lost` states that the drop
+    ///   uses the registered waker.
     #[tactic(auto, using(crate::proofs::Gone::not_pending))]
     fn poll(&mut self, cx: &mut Context<'_>) -> Poll<()>
         ensures value { IfReady result (λ _. ⊤) }
