@@ -7,8 +7,8 @@
 -- `StatesRun` concludes.
 -- 2. Each log is a walk's. `SenderScripted` writes down the walk of each log of the sender. `ReceiverStands` and
 -- `Standpoints` state where a receiver's walk is, whichever calls follow. `ReceiverScripted` shows that a row which
--- passes a test leads on as a walk does. `RowsTurn` finds a row for each operation of a log. `ReceiverLogs` computes
--- that every row passes, and follows the log. `Among` has lemmas on lists.
+-- passes a test leads on as a walk does. `RowsChangeSlots` finds a row for each operation of a log. `ReceiverLogs`
+-- computes that every row passes, and follows the log. `Among` has lemmas on lists.
 -- 3. What each run with both logs has. `PhaseCodes`, `PhasesBeside` and `PhasesRead` find its phases, and `CellsRun`
 -- its cells, by the search of the product. `RunOrder` finds the order of its operations.
 -- 4. The program's own calls. `CallsWalk` continues a walk by the run of one call. `ReceiverCalls` and `SenderCalls` do

@@ -25,7 +25,7 @@ use Rattle.oneshot_bridge.specs.OrdersRun.{RunsTo}
 
 module _ {T : Type 0} (a : SenderScript T) (b : ReceiverScript) where
   -- The receiver waits in the world that these entries led to: its next step is a park, and no token is
-  -- there; or its last poll replied "pending", and nothing has woken its task since.
+  -- there; or its last poll replied "pending", and nothing has woken its task since that poll began.
   abbrev pub waits : List Entry → World → Bool
   waits entries w = waits_in_park (ahead_of w) || waits_in_task (marks (calls_of a b) entries)
 

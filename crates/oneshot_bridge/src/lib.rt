@@ -88,10 +88,10 @@ pub fn laws_of_each_run<T>()
 {}
 
 /// What the laws of the model state, in each run, of a receiver that waits in a park or in a task. Once
-/// the sender's `send` or drop has replied, it does not wait. If the sender's last operation found the
-/// receiver here and the call is still under way, the sender's next step is a wake, after which the
-/// receiver does not wait. If that operation found the receiver gone, the receiver was dropped, and has
-/// ended.
+/// the sender's `send` or drop has replied, it does not wait. The other clauses are of runs whose operations
+/// also come by rows of the phases of both ends (`Reaches`). If the sender's last operation found the receiver
+/// here and the call is still under way, the sender's next step is a wake, after which the receiver does not
+/// wait. If that operation found the receiver gone, the receiver was dropped, and has ended.
 pub fn wakes_of_each_run<T>()
     ensures nobody_waits_in_a_run { NobodyWaitsInARun T }
     ensures wake_is_next_in_a_run { WakeIsNextInARun T }

@@ -1,6 +1,6 @@
 //! The receivers that a script may be of.
 
-use crate::limits::{LOOKS, far, pass_time};
+use crate::limits::{LOOKS, far, pass_time, short};
 use crate::reply::{Bare, Reply};
 use crate::words::Ask;
 use oneshot_channel::reply::{Answer, Asked, Ticket};
@@ -95,7 +95,9 @@ fn later<R: Clock>(rt: &R, time: Duration) -> Option<Instant> {
 
 fn an_hour_ago<R: Clock>(rt: &R) -> Option<Instant> {
     let now = Instant::now(rt).ok()?;
-    Some(now.checked_sub(far()).unwrap_or(now))
+    // On a machine that was started within the hour no instant is so long ago.
+    let long_ago = now.checked_sub(far()).or(now.checked_sub(short()));
+    Some(long_ago.unwrap_or(now))
 }
 
 impl<Q: Eq + Drop, A: Answer<Q> + Drop, W: Wait + Clock + Drop> Receives<A> for Ticket<Q, A, W> {

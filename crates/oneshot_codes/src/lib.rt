@@ -1,5 +1,6 @@
 //! What a program under the scheduler reports by the length of a sleep in nanoseconds. The C compiler gets the codes
-//! below 100, which the scheduler reads; the others are replies, for the program that holds the runs against the model.
+//! below 100, which the scheduler reads. The others are for the program that holds the runs against the model: replies,
+//! and from `TASKS` on whether a task was woken.
 #![tactic(auto)]
 
 /// From here on each allocation gets pages of its own.
@@ -41,10 +42,10 @@ pub const AT_FIRST: u64 = 12;
 /// The thread goes on with its end of the second channel.
 pub const AT_SECOND: u64 = 13;
 
-/// The next call computes a new deadline.
+/// A `recv_timeout` is next, which reads the clock itself to compute its deadline.
 pub const TIMEOUT: u64 = 20;
 
-/// A new deadline is computed for the next call.
+/// The program next reads the clock for the deadline of its next call, a `recv_deadline`.
 pub const DEADLINE: u64 = 21;
 
 /// A `send` returned `Ok`.

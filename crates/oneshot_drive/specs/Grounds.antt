@@ -39,8 +39,9 @@ unfilled_or slots [] = slots
 unfilled_or slots (row ∷ rows) =
     if is_unfilled row.1.0 && is_unfilled row.1.1 then row.1 else unfilled_or slots rows
 
--- The slots of an end at a phase with these rows, before it puts anything into a slot there: those of the
--- first row that needs no slot filled, or else of the first row. No contract names a phase without rows.
+-- The slots of an end at a phase with these rows, once its waker is out of its slot and before it puts anything into a
+-- slot there: those of the first row that needs no slot filled, or else of the first row. No contract names a phase
+-- without rows.
 abbrev pub slots_by : {At : Type 0} → List (Row At) → Slots
 slots_by [] = (none, none)
 slots_by (row ∷ rows) = unfilled_or row.1 (row ∷ rows)

@@ -299,7 +299,7 @@ pub trait TaskGround<T, W>: WaitGround<T, W> {
     // The poll has woken its own task.
     ghost woke_own: { Self → Type 0 };
 
-    /// Clones the task's waker, and returns this copy. `None`: the copy was refused.
+    /// Copies the task's waker, and returns the copy, which may be one that was kept. `None`: the copy was refused.
     fn copy(&mut self) -> Option<W>
         ensures log { Grows (Self.state self.old).log (Self.state self.new).log (copied result ∷ []) }
         ensures message { (Self.state self.new).message ≡ (Self.state self.old).message }

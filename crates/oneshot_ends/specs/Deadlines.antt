@@ -14,7 +14,7 @@ IsOver (At end) None = Unit {0}
 IsOver Passed reading = Unit {0}
 IsOver Never reading = ⊥
 
--- by this reading at least 100 milliseconds are left, more than all spins of a receive take
+-- by this reading at least 100 milliseconds are left, which is meant to be more than all spins of a receive take
 abbrev pub IsFar : Deadline → Option Instant → Type 0
 IsFar (At end) (Some now) = instant_nanos now + 100_000_000 ≤ instant_nanos end
 IsFar _ _ = ⊥

@@ -61,7 +61,7 @@ IsTaskOf cx _ = ⊥
 abbrev pub WaitsForTask : {T P : Type 0} → Context → Side T RealWaker P → Type 0
 WaitsForTask cx = WaitsBy (IsTaskOf cx)
 
--- a receiver whose only waker is this one
+-- a receiver that has no other waker than this one, and waits by no other
 abbrev pub WaitsByThis : {T W P : Type 0} → W → Side T W P → Type 0
 WaitsByThis k = WaitsBy (λ other. other ≡ k)
 

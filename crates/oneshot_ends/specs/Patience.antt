@@ -45,8 +45,9 @@ unread patience = record patience { reading = None }
 abbrev pub spun : Patience → Patience
 spun patience = record patience { reading = None; spins = patience.spins + 1 }
 
--- A park that may spin counts one spin, and leaves the token. Any other sleeps: without a deadline until the token is
--- taken, and not at all if it was taken before. What a counted spin does is not stated.
+-- A park that may spin counts one spin, and leaves the token. Any other sleeps: without a deadline it returns once the
+-- token is taken. If the token was taken before, the half stays as it is; that the park then does not sleep is not
+-- stated. What a counted spin does is not stated either.
 pub record Parked (timed : Bool) (before after : Patience) (half next : ParkingView) : Type 0 where
   pub spins : MaySpin timed before → (after ≡ spun before) × (next ≡ half)
   pub rests : ¬ MaySpin timed before → after ≡ unread before

@@ -34,6 +34,9 @@ use std::marker::{Model, PhantomData};
 /// refused: its error owns the message. So is a `send` that is about to finish, since the drop does not wait for
 /// the sender: it blocks only if the drop of the message or of `rt` does.
 ///
+/// The drop wakes the task of each copy of a waker that the future still has, since the drop of a waker wakes its task.
+/// To wake a task, it takes the lock of the queue of that task's executor, as `Sender::send` does.
+///
 /// A contract sees the future's channel, with the value that it is about, the log of the future's
 /// operations on the word, which determines whether it is closed, the source at which its polls register, the
 /// message that it took out of the channel, if it has, and while it is registered the waker by which its sender
@@ -131,7 +134,8 @@ impl<T: Drop, Rt: Drop, P: Promise<T>> Future for AsyncReceiver<T, Rt, P> {
     // The message keeps the promise, also after an executor or a combinator has passed it on.
     ghost gives = { λ r answer. IfOk answer (λ message. P.keeps r.channel.about message) };
 
-    /// Polls once, for the task of `cx`. It never blocks and does not allocate: no poll waits for the sender.
+    /// Polls once, for the task of `cx`. It never blocks and does not allocate: no poll waits for the sender. If it
+    /// makes a new copy of a waker, it may drop one of another task that the future kept, which wakes that task.
     ///
     /// - `Ready(Ok)`: the message.
     /// - `Ready(Err)`: the sender was dropped without a message, or the message was received before. A

@@ -30,8 +30,8 @@ impl Patience {
         Patience::of(deadline, NextReading::Due)
     }
 
-    /// That of a receive which waits until `timeout` after `reading`. Its first check of the deadline uses `reading`
-    /// too, so the clock is read once for both.
+    /// That of a receive which waits until `timeout` after `reading`. The first check, whose answer the driver ignores,
+    /// uses `reading` too; each later one reads the clock.
     pub(crate) fn after(reading: Reading, timeout: Duration) -> Patience
         ensures deadline { IsAfter timeout reading.instant result.deadline }
         ensures new { result ≡ waits_until result.deadline (Taken reading) }
@@ -67,8 +67,9 @@ impl Patience {
         self.deadline.has_end()
     }
 
-    /// Reads the clock, and returns whether the deadline is over. Once it is, the receive may spin again, since its
-    /// sender is about to finish.
+    /// Takes the next reading of the clock, and returns whether the deadline is over by it. The first reading for a
+    /// timeout is that from which the deadline was computed. Once the deadline is over, the receive may spin again:
+    /// from then on it waits only for a sender that is about to finish.
     pub(crate) fn is_over(&mut self, clock: &impl Clock) -> bool
         ensures { Reads result self.old self.new }
     {
@@ -81,10 +82,10 @@ impl Patience {
         self.late
     }
 
-    /// Spins once, if the receive may spin. `false`: it may not.
+    /// Spins once, if the receive may spin. `false`: it may not. Either way the last reading is used up.
     // Inlined, so that a receive which finds its message stores nothing of its patience.
     #[inline(always)]
-    pub(crate) fn spins(&mut self, timed: bool) -> bool
+    pub(crate) fn try_spin(&mut self, timed: bool) -> bool
         ensures spins { result ≡ true → MaySpin timed self.old }
         ensures spun { result ≡ true → self.new ≡ spun self.old }
         ensures sleeps { result ≡ false → ¬ MaySpin timed self.old }

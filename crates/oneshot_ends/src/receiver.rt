@@ -224,7 +224,8 @@ impl<T: Drop, Rt: Wait + Clock + Drop, P: Promise<T>> Receiver<T, Rt, P> {
 }
 
 impl<T: Message, Rt: Wait + Clock + Drop, P: Promise<T>> Receiver<T, Rt, P> {
-    /// Blocks until the message is there or will never come. It consumes the receiver and does not allocate.
+    /// Blocks until the message is there or will never come. It consumes the receiver, drops its `rt`, and does not
+    /// allocate.
     ///
     /// - `Ok`: the message.
     /// - `Err`: the sender is gone without a message, or the message was received before.

@@ -19,7 +19,8 @@ use std::marker::Model;
 
 /// Sends one message to its receiver.
 ///
-/// Dropping it without a `send` wakes a waiting receiver, and no message comes. The drop never blocks.
+/// Dropping it without a `send` wakes a waiting receiver, and no message comes. The drop never blocks. To wake a task,
+/// it takes the lock of the queue of that task's executor, as `send` does.
 ///
 /// A contract sees the sender's channel, with the value that it is about, and the log of the sender's
 /// operations on the word, which is empty until its one call.

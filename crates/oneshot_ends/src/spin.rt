@@ -11,7 +11,7 @@ pub(crate) const SPINS: u32 = 17;
 /// end. Sixteen pauses take some 3 microseconds, or some ten times that on a processor with a slower hint.
 const HINTS: u32 = 32;
 
-/// Spins once: yields if `number` is the first of `SPINS`, else pauses. `number` counts spins from 1.
+/// Spins once: yields for the first of each `SPINS` spins, else pauses. `number` counts spins from 1.
 pub(crate) fn spin(number: u32) {
     // The yield comes first: if both ends share a processor, a pause would only keep the sender from acting.
     if number % SPINS == 1 {

@@ -9,8 +9,8 @@ use std::fmt::{Display, Formatter};
 /// The two reasons are those of the Rust crate.
 #[derive(Clone, Copy, Debug, Eq, Hash, PartialEq)]
 pub enum RecvTimeoutError {
-    /// The deadline was over, nothing was sent, and the sender was not dropped. The receiver stays open, and
-    /// a later receive may return the message.
+    /// The deadline was over, and when the call last checked, the sender was there and had sent nothing. The receiver
+    /// stays open, and a later receive may return the message.
     ///
     /// In this port the deadline also counts as over if the clock fails.
     Timeout,

@@ -9,8 +9,8 @@ use std::fmt::{Display, Formatter};
 /// The two reasons are those of the Rust crate.
 #[derive(Clone, Copy, Debug, Eq, Hash, PartialEq)]
 pub enum TryRecvError {
-    /// Nothing was sent yet, and the sender was not dropped; or, for a future, the sender is about to finish.
-    /// The receiver stays open, and a later receive may return the message.
+    /// When the call checked, the sender was there and had sent nothing; or, for a future, the sender was about to
+    /// finish. The receiver stays open, and a later receive may return the message.
     Empty,
     /// The sender was dropped without sending, or the message was received before. None will ever come.
     Disconnected,

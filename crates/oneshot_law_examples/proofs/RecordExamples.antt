@@ -91,6 +91,7 @@ right_records =
         legal = refl;
         message_followed = refl;
         message_put = refl;
+        message_there = refl;
         message_ended = refl;
         wakers = wakers_are_computed.of_all waited_for_message.entries (marks_in waited_for_message) refl;
         cell_kept = refl;
@@ -124,6 +125,7 @@ right_records =
         legal = refl;
         message_followed = refl;
         message_put = refl;
+        message_there = refl;
         message_ended = refl;
         wakers = wakers_are_computed.of_all dropped_while_pending.entries (marks_in dropped_while_pending) refl;
         cell_kept = refl;
@@ -213,6 +215,7 @@ wrong_records =
       legal = λ moves freed rest right. let is : false ≡ true = right.legal in cc is;
       message_followed = λ moves freed rest right. let is : false ≡ true = right.message_followed in cc is;
       message_put = λ moves freed rest right. let is : false ≡ true = right.message_put in cc is;
+      message_there = λ moves freed rest right. let is : false ≡ true = right.message_there in cc is;
       message_ended = λ moves freed rest right. let is : false ≡ true = right.message_ended in cc is;
       cell_kept = λ moves freed rest right. let is : false ≡ true = right.cell_kept in cc is;
       freed_right = λ moves freed rest right. let is : false ≡ true = right.freed_right in cc is;

@@ -13,7 +13,7 @@ use Rattle.oneshot_world.specs.declared.trace.WakerName.TheVariants.{Parker}
 use Rattle.oneshot_world.specs.declared.trace.Place.TheVariants as P
 use Rattle.oneshot_laws.specs.Marks.{Mark, marks}
 use Rattle.oneshot_laws.specs.History.{has_legal_history}
-use Rattle.oneshot_laws.specs.MessagePlaces.{is_message_followed, is_message_ended, is_message_put}
+use Rattle.oneshot_laws.specs.MessagePlaces.{is_message_followed, is_message_ended, is_message_put, is_message_there}
 use Rattle.oneshot_laws.specs.WakerPlaces.{waker_moves, is_waker_followed, is_waker_ended, is_cell_kept}
 use Rattle.oneshot_laws.specs.Holders.{is_freed_right}
 use Rattle.oneshot_laws.specs.Replies.{is_gone_after_got, is_got_after_full, is_gone_after_closed, is_refused_after_closed, is_nothing_only_if_open, is_dropped_once}
@@ -33,7 +33,10 @@ fails_at law x = not (law (marks_in x))
 -- THE MESSAGE'S PLACE
 abbrev pub is_message_right : Example → Bool
 is_message_right x =
-    is_message_followed x.calls x.entries && is_message_ended x.entries (marks_in x) && is_message_put (marks_in x)
+    is_message_followed x.calls x.entries
+    && is_message_ended x.entries (marks_in x)
+    && is_message_put (marks_in x)
+    && is_message_there (marks_in x)
 
 abbrev pub MisplacedMessages : Type 0
 MisplacedMessages =
@@ -71,6 +74,20 @@ WronglyPut =
     ∷ moved_by 1 P.NotSent P.InCell dropped_then_tried
     -- an accepted send moves it into an error
     ∷ up_to 3 (answered_by 3 R.Sent dropped_with_the_error)
+    ∷ []
+    ))
+
+-- each path is allowed for a message, and each move is of a call that may make it, but a reply has it elsewhere
+abbrev pub WronglyReplied : Type 0
+WronglyReplied =
+    IsTrue (list_all (fails_at is_message_there)
+    -- a receive returns the message, which stays in the cell; or which the drop of the receiver then drops
+    (up_to 5 (unmoved_by 5 sent_then_taken)
+    ∷ moved_by 7 P.InCell P.Dropped (unmoved_by 5 sent_then_taken)
+    -- a send is refused while the message is in the cell
+    ∷ up_to 3 (unmoved_by 3 taken_from_the_error)
+    -- `into_inner` returns the message, which stays in the error
+    ∷ up_to 6 (unmoved_by 5 taken_from_the_error)
     ∷ []
     ))
 

@@ -95,6 +95,8 @@ pub record WrongRecords : Type 0 where
   pub legal : IsWrong sends (receiving (TryRecv ∷ []) RL.Drop) (without 2 sent_then_taken)
   pub message_followed : IsWrong sends (receiving (TryRecv ∷ []) RL.Drop) (twice 5 sent_then_taken)
   pub message_put : IsWrong sends (receiving (TryRecv ∷ []) RL.Drop) (moved_by 5 P.InCell P.Dropped sent_then_taken)
+  pub message_there : IsWrong sends (receiving (TryRecv ∷ []) RL.Drop)
+      (moved_by 7 P.InCell P.Dropped (unmoved_by 5 sent_then_taken))
   pub message_ended : IsWrong sends (receiving (TryRecv ∷ []) RL.Drop) (unmoved_by 5 sent_then_taken)
   -- the sender never has the waker that it uses, and the waker that it has is never used
   pub wakers_followed : IsWrong sends (receiving [] RL.Recv) (uncarried_by 6 waited_for_message)

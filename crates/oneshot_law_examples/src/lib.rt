@@ -2,7 +2,7 @@
 #![tactic(auto)]
 
 ghost use Rattle.oneshot_law_examples.specs.HistoryExamples.{ObjectAnswers, ActingEntries, LegalTraces, IllegalTraces, IdleTraces, NotIdleTraces};
-ghost use Rattle.oneshot_law_examples.specs.LawExamples.{RightTraces, MisplacedMessages, WronglyPut, MisfreedBlocks, WrongReplies, WrongAlone};
+ghost use Rattle.oneshot_law_examples.specs.LawExamples.{RightTraces, MisplacedMessages, WronglyPut, WronglyReplied, MisfreedBlocks, WrongReplies, WrongAlone};
 ghost use Rattle.oneshot_law_examples.specs.WaitExamples.{WaitsAreTold, WaitsAct, IllegalWaits, MisfreedWaits, WrongReceives};
 ghost use Rattle.oneshot_law_examples.specs.TimedExamples.{TimedAreTold, TimedAreRight, TimedAct, IllegalTimeouts, WrongTimeouts};
 ghost use Rattle.oneshot_law_examples.specs.WakerExamples.{MisplacedWakers, FullCells};
@@ -25,6 +25,7 @@ pub fn examples()
     ensures right { RightTraces }
     ensures misplaced { MisplacedMessages }
     ensures wrongly_put { WronglyPut }
+    ensures wrongly_replied { WronglyReplied }
     ensures misfreed { MisfreedBlocks }
     ensures wrong_replies { WrongReplies }
     ensures wrong_alone { WrongAlone }

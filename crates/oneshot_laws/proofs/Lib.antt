@@ -30,6 +30,7 @@ pub mod EndedRuns
 pub mod IdleRuns
 pub mod MessagePlacesRuns
 pub mod MessagePlacesPut
+pub mod MessagePlacesThere
 pub mod WakerPaths
 pub mod WakerPlacesRuns
 pub mod WakerCellRuns

@@ -3,7 +3,7 @@
 use Rattle.oneshot_laws.proofs.Names.{◌≡◌, ℕ, zero, suc, ◌+◌, Bool, true, false, ◌&&◌, ◌||◌, List, [], ◌∷◌, ◌++◌, Option, Some, None, is_some, map, replicate, refl, sym, ◌∙◌, ap, subst, list_any}
 use Rattle.oneshot_laws.proofs.Names.{filter_map, cons_option, Call, Of_sender, calls_of, sender_last, Classes, World, IsRun, opening, opening_place, Move, ReceiverScript, SenderLast, SenderScript}
 use Rattle.oneshot_laws.proofs.Names.{Entry, Place, NotSent, both, only_if, Object, is_send, Reading, Mark, marks, marks_from, all_ended, is_path, last_place, is_same_place, is_message_move}
-use Rattle.oneshot_laws.proofs.Names.{message_moves, is_message_followed, last_message_place, is_message_end, is_message_ended}
+use Rattle.oneshot_laws.proofs.Names.{message_goes_to, message_moves, is_message_followed, last_message_place, is_message_end, is_message_ended}
 use Rattle.oneshot_machine.specs.declared.machine.sender.SenderCall.TheVariants as SC
 use Rattle.oneshot_world.specs.declared.script.SenderLast.TheVariants as SL
 use Rattle.oneshot_world.specs.declared.trace.Entry.TheVariants.{Idle, Made as Made_entry}
@@ -28,16 +28,12 @@ may_move place None = true
 may_move None (Some move) = false
 may_move (Some place) (Some move) = is_same_place move.0 place && is_message_move move.0 move.1
 
-abbrev goes_to : Place → Option (Place × Place) → Place
-goes_to place None = place
-goes_to place (Some move) = move.1
-
 abbrev moves_rightly : Option Place → PastView → Bool
 moves_rightly place g = may_move place g.entry.message
 
 abbrev place_then : Option Place → PastView → Option Place
 place_then None g = None
-place_then (Some place) g = Some (goes_to place g.entry.message)
+place_then (Some place) g = Some (message_goes_to place g.entry.message)
 
 abbrev pub path_law : Law (Option Place)
 path_law =
@@ -63,7 +59,7 @@ no_move None later h k = k
 no_move (Some move) later h k = cc
 
 one_move : (x : Option (Place × Place)) (place : Place) (later : List (Place × Place)) → may_move (Some place) x ≡ true
-    → IsPath true (goes_to place x) later → IsPath true place (cons_option x later)
+    → IsPath true (message_goes_to place x) later → IsPath true place (cons_option x later)
 one_move None place later h k = k
 one_move (Some move) place later h k = both _ _ h k
 
@@ -117,7 +113,7 @@ pub record Sending : Type 0 where
   pub place : Place
 
 abbrev sending_then : Sending → PastView → Sending
-sending_then x g = record { begun = x.begun || is_send g.call; place = goes_to x.place g.entry.message }
+sending_then x g = record { begun = x.begun || is_send g.call; place = message_goes_to x.place g.entry.message }
 
 abbrev not_sent_yet : Sending
 not_sent_yet = record { begun = false; place = NotSent }
@@ -143,7 +139,7 @@ begun_after (m ∷ ms) x =
     ∙ sym (or_more x.begun (is_send m.call) (list_any (λ m. is_send m.call) ms))
 
 last_after : (x : Option (Place × Place)) (place : Place) (later : List (Place × Place))
-    → last_place (goes_to place x) later ≡ last_place place (cons_option x later)
+    → last_place (message_goes_to place x) later ≡ last_place place (cons_option x later)
 last_after None place later = refl
 last_after (Some move) place later = refl
 

@@ -12,7 +12,7 @@ pub use Rattle.oneshot_laws.specs.Marks.{Mark, marks, after_each, Reading, read,
 pub use Rattle.oneshot_laws.specs.Marks.{swaps_closed_in, works_on_word, finds_full_or_closed, First, Never, rule, receive_rule, reply_among, or_stray, to_reply, read_by, mark_at, object_then, ends}
 pub use Rattle.oneshot_laws.specs.Marks.{Rule, Last, acts, has_acted}
 pub use Rattle.oneshot_laws.specs.MessagePlaces.{is_path, last_place, is_same_place, is_message_move, message_moves, is_message_followed, last_message_place, is_message_end, is_message_ended, may_put}
-pub use Rattle.oneshot_laws.specs.MessagePlaces.{is_message_put, place_code}
+pub use Rattle.oneshot_laws.specs.MessagePlaces.{is_message_put, place_code, message_goes_to, is_reply_placed, are_replies_placed, is_message_there}
 pub use Rattle.oneshot_laws.specs.Object.{Object, is_open_content, Action, Send, Sender_gone, Take, Take_and_go, Look_full, Look_closed, Look_receiver_gone, Receiver_gone, Content, new_object}
 pub use Rattle.oneshot_laws.specs.Object.{is_same_flag, Open, Full, Closed, object_after, content_code, is_same_object}
 pub use Rattle.oneshot_laws.specs.Replies.{answers, is_dropped, is_dropping, is_one_by_receiver, is_dropped_once, is_nothing_only_if_open, next_receive_gets, is_got_after_full, is_gone_after_got}

@@ -5,6 +5,7 @@ use Rattle.oneshot_laws.proofs.PastLaws.{Laws, no_laws, also, all_of, Each, each
 use Rattle.oneshot_laws.proofs.HoldersRuns.{held_law, free_law, freed_ending}
 use Rattle.oneshot_laws.proofs.MessagePlacesPut.{put_law}
 use Rattle.oneshot_laws.proofs.MessagePlacesRuns.{path_law, sending_ending}
+use Rattle.oneshot_laws.proofs.MessagePlacesThere.{there_law}
 use Rattle.oneshot_laws.proofs.WakerPlacesRuns.{parker_moves}
 use Rattle.oneshot_laws.proofs.WakerCellRuns.{write_law}
 
@@ -18,7 +19,8 @@ place_laws =
     (also held_law
     (also free_law
     (also (kept freed_ending)
-    no_laws)))))))
+    (also there_law
+    no_laws))))))))
 
 place_explored : LawExplored (all_of place_laws)
 place_explored = record { found = all_past (all_of place_laws); all = refl }
@@ -50,3 +52,6 @@ module _ {T : Type 0} where
 
   pub freed : Passed (kept freed_ending) T
   freed = each.1.1.1.1.1.1.1.0
+
+  pub there : Passed there_law T
+  there = each.1.1.1.1.1.1.1.1.0

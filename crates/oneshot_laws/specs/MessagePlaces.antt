@@ -3,7 +3,8 @@ use Rattle.std.specs.Prelude.{ℕ, Bool, true, false, ◌&&◌, ◌||◌, ◌==�
 use Rattle.std.specs.List.{list_any, list_all, filter_map}
 use Rattle.oneshot_machine.specs.declared.machine.Reply.{Reply}
 use Rattle.oneshot_machine.specs.declared.machine.Reply.TheVariants as R
-use Rattle.oneshot_world.specs.Calls.{Call, Calls}
+use Rattle.oneshot_machine.specs.declared.machine.sender.SenderCall.TheVariants as SC
+use Rattle.oneshot_world.specs.Calls.{Call, Calls, Of_sender}
 use Rattle.oneshot_world.specs.declared.trace.Entry.{Entry}
 use Rattle.oneshot_world.specs.declared.trace.Entry.TheVariants.{Idle, Made as Made_entry}
 use Rattle.oneshot_world.specs.declared.trace.Made.{Made}
@@ -88,3 +89,31 @@ may_put call reply Dropped = is_drop_of_receiver call || is_drop_of_error call
 abbrev pub is_message_put : List Mark → Bool
 is_message_put ms =
     list_all (λ m. elim m.entry.message [ None ↦ true | Some move ↦ may_put m.call m.entry.reply move.1 ]) ms
+
+-- where the message is after a step
+abbrev pub message_goes_to : Place → Option (Place × Place) → Place
+message_goes_to place None = place
+message_goes_to place (Some move) = move.1
+
+-- where the message has to be if this call's reply has it: `as_inner` leaves it in the error, `into_inner` takes it
+-- out, and a receive gets it
+abbrev pub place_for : Call → Place
+place_for (Of_sender SC.AsInner) = InError
+place_for (Of_sender SC.IntoInner) = FromError
+place_for _ = Delivered
+
+-- a reply of this call for the message in this place: a refused send's error has the message
+abbrev pub is_reply_placed : Call → Option Reply → Place → Bool
+is_reply_placed call reply place =
+    only_if (is_reply R.Refused reply) (is_same_place place InError)
+    && only_if (is_reply R.Message reply) (is_same_place place (place_for call))
+
+abbrev pub are_replies_placed : Place → List Mark → Bool
+are_replies_placed place [] = true
+are_replies_placed place (m ∷ ms) =
+    is_reply_placed m.call m.entry.reply (message_goes_to place m.entry.message)
+    && are_replies_placed (message_goes_to place m.entry.message) ms
+
+-- each reply that has the message comes once the message is where the reply says
+abbrev pub is_message_there : List Mark → Bool
+is_message_there ms = are_replies_placed NotSent ms

@@ -17,7 +17,7 @@ pub data Form : Type 0 where
   as_receiver : Form
   as_future : Form
 
--- the calls that operate on the word and do not end the receiver
+-- the calls whose operations are in the log (so no looks), and which do not end the receiver
 abbrev pub stays : Form → ReceiverStart → Bool
 stays as_receiver RC.TryRecv = true
 stays as_receiver RC.RecvRef = true
@@ -27,7 +27,7 @@ stays as_future RC.Poll = true
 stays as_future RC.AsyncTryRecv = true
 stays _ _ = false
 
--- the sender's calls that operate on the word: each ends the sender
+-- the sender's calls whose operations are in the log: each ends the sender
 abbrev pub ends : SenderCall → Bool
 ends SC.Send = true
 ends SC.Drop = true

@@ -1,8 +1,9 @@
 //! The types that both transition tables use: ends, steps, what a step sees, and replies.
 //!
-//! Each table stands twice. The files of this folder have its rows as code, which the model runs. The files of `specs/`
-//! have the same rows as definitions, by which contracts and laws are stated. A `row` here has one arm for each row of
-//! the definition, in the order in which the rows are written there, and its contract proves that it is the definition.
+//! Each table stands twice. The files of the folder `machine` have its rows as code, which the model runs. The files of
+//! `specs/` have the same rows as definitions, by which contracts and laws are stated. A `row` here has the arms in the
+//! order of the definition's rows, one for each (of `StartSwap`, one for both values of `timed` where their rows are
+//! the same), and its contract proves that it is the definition.
 //!
 //! A row that is wrong in both places meets this contract. Other proofs may refuse it: `tables_are_exact` compares the
 //! operations of both tables, each driver of `oneshot_drive` is proved to follow the rows, and every run has to keep
@@ -106,7 +107,7 @@ pub enum Reply {
     Message,
     /// `try_recv` found no message yet.
     Empty,
-    /// The deadline of a receive is over, and its swap found no message.
+    /// The deadline of a receive is over, and its swap found that the sender had not acted.
     Timeout,
     /// The call's disconnected error.
     Disconnected,

@@ -13,7 +13,7 @@ use std::random::RandomSource;
 use std::sync::Wait;
 use std::sync::atomic::{AtomicU64, Ordering};
 use std::test::Fail;
-use std::thread::{Threads, join, sleep};
+use std::thread::{Threads, join, sleep, yield_now};
 use std::time::{Clock, Duration};
 
 /// The sender's script, and its message.
@@ -60,18 +60,26 @@ impl Pace {
     }
 }
 
-// More loads than a thread makes while another starts.
-const SPINS: u64 = 100_000_000;
+// More loads than a thread makes while another starts: some ten seconds of them, of which most yield first.
+const SPINS: u64 = 20_000_000;
 
-// Returns once both threads are here, or after `SPINS` loads.
-fn meet(here: &AtomicU64) {
+// How many loads a running thread makes while the other starts.
+const QUICK: u64 = 20_000;
+
+// Returns once both threads are here. Fails after `SPINS` loads.
+fn meet(rt: &impl Abort, here: &AtomicU64) {
     here.fetch_add(1, Ordering::SeqCst);
-    for _ in 0..SPINS {
+    for spin in 0..SPINS {
         if here.load(Ordering::SeqCst) == 2 {
             return;
         }
-        spin_loop();
+        if spin < QUICK {
+            spin_loop();
+        } else {
+            yield_now();
+        }
     }
+    panic!(rt; "the other thread does not come");
 }
 
 /// What both ends return. Both threads begin at about the same time, and the sender's then sleeps for
@@ -97,14 +105,14 @@ pub(super) fn on_two_threads<
     join(
         rt,
         || {
-            meet(&here);
+            meet(rt, &here);
             if !pause.is_zero() {
                 sleep(rt, pause);
             }
             sending.make_all(sends)
         },
         || {
-            meet(&here);
+            meet(rt, &here);
             let start = now(rt);
             let received = receive(receiver);
             assert_woken_since(rt, start);

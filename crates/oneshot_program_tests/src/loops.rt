@@ -359,21 +359,27 @@ fn no_round_is_made_before_the_time_or_after_it(rt: HostRuntime) -> Result<(), F
     Ok(())
 }
 
+/// How often the allocator is asked for where so many rounds await. Fails unless each does.
+fn asked_in<R>(rt: &R, channel: Channel, count: u64) -> Result<u64, Fail>
+where
+    R: Abort + AllocGlobal + RandomSource + Threads + Wait + Sync,
+{
+    let asked = Asked {
+        rt,
+        times: AtomicU64::new(0),
+    };
+    let kind = Loop::Awaited(Awaited::MakeSendAwait);
+    let tally = measure(&asked, channel, kind, count)?.tally;
+    assert_eq!(rt; (channel, tally.polled), (channel, count));
+    Ok(asked.times.load(Ordering::SeqCst))
+}
+
 // Tasks of one queue, for which no round asks the allocator.
 #[test]
 fn a_round_that_awaits_makes_no_executor(rt: HostRuntime) -> Result<(), Fail> {
     for channel in OF_FUTURES {
-        let asked = Asked {
-            rt: &rt,
-            times: AtomicU64::new(0),
-        };
-        let tally = measure(&asked, channel, Loop::Awaited(Awaited::MakeSendAwait), 20)?.tally;
-        let times = asked.times.load(Ordering::SeqCst);
-        assert!(rt;
-            times < 20,
-            "{channel:?}: the allocator was asked for {times} times"
-        );
-        assert_eq!(rt; (channel, tally.polled), (channel, 20));
+        let (none, twenty) = (asked_in(&rt, channel, 0)?, asked_in(&rt, channel, 20)?);
+        assert_eq!(rt; (channel, twenty), (channel, none));
     }
     Ok(())
 }

@@ -135,11 +135,20 @@ impl<'a, R> Clock for Written<'a, R> {
 /// A millisecond, in nanoseconds.
 const MILLISECOND: u64 = 1_000_000;
 
-/// A turn at zero; a wait that begins at zero, and is over a nanosecond after its millisecond; and a turn after two.
-const TWO_TURNS: [u64; 4] = [0, 0, MILLISECOND + 1, 2 * MILLISECOND];
+/// A turn at zero; a wait that begins at zero, is not over at its millisecond, nor after its park, and is over a
+/// nanosecond later; and a turn after two.
+const TWO_TURNS: [u64; 6] = [
+    0,
+    0,
+    MILLISECOND,
+    MILLISECOND,
+    MILLISECOND + 1,
+    2 * MILLISECOND,
+];
 
-// A longer wait would take the last reading, and the clock would fail before the second turn. Once the clock has
-// failed, each timer fails, which wakes the task too, but no reading sees that.
+// A longer wait would take the last reading, and the clock would fail before the second turn. A shorter one would have
+// its second turn at the millisecond, at which no timer is due, and the clock would fail before a third. Once the clock
+// has failed, each timer fails, which wakes the task too, but no reading sees that.
 #[test]
 fn timers_fire_each_millisecond(rt: HostRuntime) -> Result<(), Fail> {
     let task = MockTask::new(&rt)?;

@@ -5,6 +5,7 @@ use Rattle.oneshot_laws.proofs.IdleRuns.{idle_run}
 use Rattle.oneshot_laws.proofs.HistoryRuns.{legal_run}
 use Rattle.oneshot_laws.proofs.MessagePlacesRuns as Places
 use Rattle.oneshot_laws.proofs.MessagePlacesPut as Put
+use Rattle.oneshot_laws.proofs.MessagePlacesThere as There
 use Rattle.oneshot_laws.proofs.WakerPlacesRuns as Wakers
 use Rattle.oneshot_laws.proofs.WakerCellRuns as Cell
 use Rattle.oneshot_laws.proofs.UnwokenRuns as Unwoken
@@ -46,6 +47,7 @@ module _ {T : Type 0} where
         legal = legal_run s r run.worlds moves entries run.is_run;
         message_followed = Places.message_followed Moved.path s r run.worlds moves entries run.is_run;
         message_put = Put.message_put Moved.put s r run.worlds moves entries run.is_run;
+        message_there = There.message_there Moved.there s r run.worlds moves entries run.is_run;
         message_ended = Places.message_ended Moved.sending s r run.worlds moves entries run.is_run;
         wakers = Wakers.wakers_right Moved.parker s r run.worlds moves entries run.is_run;
         cell_kept = Cell.cell_kept Moved.write s r run.worlds moves entries run.is_run;

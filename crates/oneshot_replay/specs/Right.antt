@@ -8,7 +8,7 @@ use Rattle.oneshot_world.specs.declared.script.SenderScript.{SenderScript}
 use Rattle.oneshot_laws.specs.Marks.{marks}
 use Rattle.oneshot_laws.specs.History.{has_legal_history}
 use Rattle.oneshot_laws.specs.Idle.{is_idle_right}
-use Rattle.oneshot_laws.specs.MessagePlaces.{is_message_followed, is_message_put, is_message_ended, last_message_place}
+use Rattle.oneshot_laws.specs.MessagePlaces.{is_message_followed, is_message_put, is_message_there, is_message_ended, last_message_place}
 use Rattle.oneshot_laws.specs.WakerPlaces.{AreWakersRight, is_cell_kept}
 use Rattle.oneshot_laws.specs.Unwoken.{NeverUnwoken}
 use Rattle.oneshot_laws.specs.Holders.{is_freed, is_freed_right}
@@ -26,6 +26,7 @@ pub record IsRight {T : Type 0}
   pub legal : IsTrue (has_legal_history (marks (calls_of s r) t.entries))
   pub message_followed : IsTrue (is_message_followed (calls_of s r) t.entries)
   pub message_put : IsTrue (is_message_put (marks (calls_of s r) t.entries))
+  pub message_there : IsTrue (is_message_there (marks (calls_of s r) t.entries))
   pub message_ended : IsTrue (is_message_ended t.entries (marks (calls_of s r) t.entries))
   pub wakers : AreWakersRight t.entries (marks (calls_of s r) t.entries)
   pub cell_kept : IsTrue (is_cell_kept t.entries)

@@ -1,4 +1,5 @@
-//! Typed requests: every reply that a ticket returns is right, and answers the ticket's own question.
+//! Typed requests: every reply that a ticket returns names a question equal to the ticket's, and is right for the
+//! question that it names.
 #![tactic(auto)]
 
 mod answer;

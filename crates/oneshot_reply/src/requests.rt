@@ -48,7 +48,8 @@ impl<Q: Eq, A: Answer<Q>> Request<Q, A> {
         &self.asked.question
     }
 
-    /// Returns whether `reply` names a question equal to the request's.
+    /// Returns whether `reply` names a question equal to the request's. It calls `question` of the reply and `==` of
+    /// `Q`, and blocks only if one of these does.
     pub fn fits(&self, reply: &A) -> bool
         ensures { result ≡ Q.eq (A.asked reply.now) self.now.channel.about.question }
     {

@@ -60,7 +60,8 @@ impl<Q: Eq, A: Answer<Q> + Drop, Rt: Drop> Ticket<Q, A, Rt> {
     /// Takes the reply if it is there. It never blocks and does not allocate.
     ///
     /// - `Ok`: the reply. The ticket is closed from then on.
-    /// - `Err(Empty)`: no reply came yet, and the request was not dropped. The ticket stays open.
+    /// - `Err(Empty)`: when the call checked, no reply had come, and the request was not dropped. The ticket stays
+    ///   open.
     /// - `Err(Disconnected)`: the request was dropped unanswered, or the reply was taken before. Every later
     ///   call returns the same.
     pub fn try_take(&mut self) -> Result<A, TryRecvError>
@@ -91,7 +92,7 @@ impl<Q: Eq, A: Answer<Q> + Drop, Rt: Drop> Ticket<Q, A, Rt> {
 }
 
 impl<Q: Eq, A: Answer<Q> + Message, Rt: Wait + Clock + Drop> Ticket<Q, A, Rt> {
-    /// Blocks until the request is answered or dropped, and consumes the ticket. It does not allocate.
+    /// Blocks until the request is answered or dropped. It consumes the ticket, drops its `rt`, and does not allocate.
     ///
     /// - `Ok`: the reply.
     /// - `Err`: the request was dropped unanswered, or the reply was taken before.
@@ -113,12 +114,16 @@ impl<Q: Eq, A: Answer<Q> + Drop, Rt: Wait + Clock + Drop> Ticket<Q, A, Rt> {
     /// than `timeout`. It does not allocate.
     ///
     /// - `Ok`: the reply. The ticket is closed from then on.
-    /// - `Err(Timeout)`: no reply came in time, and the request was not dropped. The ticket stays open.
+    /// - `Err(Timeout)`: the deadline is over. When the call last checked, no reply had come, and the request was not
+    ///   dropped. The ticket stays open.
     /// - `Err(Disconnected)`: the request was dropped unanswered, or the reply was taken before. Every later
     ///   call returns the same.
     ///
     /// If no instant can hold the sum of now and `timeout`, the call never returns `Timeout`. If the clock
     /// fails, the deadline is over at once.
+    ///
+    /// Past the deadline the call still waits for a request that has found this ticket waiting and is in its
+    /// `answer` or its drop.
     pub fn wait_for(&mut self, timeout: Duration) -> Result<A, RecvTimeoutError>
         ensures own { IfOk result (λ reply. Q.eq (A.asked reply) self.old.channel.about.question ≡ true) }
         ensures right { IfOk result (λ reply. A.answers (A.asked reply) reply) }

@@ -1,6 +1,6 @@
 //! Guards and their watches, and requests whose server is told when nobody waits.
 
-mod cancelled;
+pub(crate) mod cancelled;
 mod order;
 mod threads;
 mod waits;
@@ -10,6 +10,7 @@ use futures::future::{Either, ready, select};
 use futures::task::Poll;
 use futures::test::MockTask;
 use oneshot_watch::watch;
+use std::sync::atomic::{AtomicU64, Ordering};
 use std::test::Fail;
 use std::thread::{join, sleep};
 use std::time::Duration;
@@ -59,15 +60,17 @@ fn a_polled_watch_is_woken_by_the_guards_drop_alone(rt: HostRuntime) -> Result<(
 #[test]
 fn a_watch_is_awaited(rt: HostRuntime) -> Result<(), Fail> {
     let (guard, watch) = watch((), rt.alloc())?;
-    let (awaited, ()) = join(
+    let goes = AtomicU64::new(0);
+    let (went, ()) = join(
         &rt,
-        || block_on(&rt, watch.into_future()),
+        || block_on(&rt, watch.into_future()).map(|()| goes.load(Ordering::SeqCst)),
         || {
             sleep(&rt, Duration::from_millis(MOMENT));
+            goes.store(1, Ordering::SeqCst);
             drop(guard);
         },
     );
-    awaited?;
+    assert_eq!(rt; went?, 1, "it is ready before its guard goes");
     Ok(())
 }
 

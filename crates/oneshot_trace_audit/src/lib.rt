@@ -1,4 +1,4 @@
-//! Tests of `replay` under drawn schedules: an auditor that knows only the definitions accepts their traces, and
+//! Tests of `replay` under drawn schedules: an auditor that was written from the definitions accepts their traces, and
 //! refuses damaged ones.
 //!
 //! `replay` is proved to keep the laws of `oneshot_laws`. These tests are of the laws themselves: a law whose

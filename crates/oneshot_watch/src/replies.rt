@@ -56,13 +56,14 @@ impl<Q: Eq, A: Answer<Q>, Rt> CancellableReply<Q, A, Rt> {
         CancellableReply { replies, guard }
     }
 
-    /// Returns whether the request was dropped unanswered, or the reply was received. It is one load and never
-    /// blocks.
+    /// Returns whether the request was dropped unanswered, or the reply was received; if so, every later poll and
+    /// `try_recv` returns an error. It is one load and never blocks.
     pub fn is_closed(&self) -> bool {
         self.replies.is_closed()
     }
 
-    /// Returns whether the reply is there, for the next poll. It is one load and never blocks.
+    /// Returns whether the reply is there; if so, the next poll or `try_recv` returns it. It is one load and never
+    /// blocks.
     pub fn has_message(&self) -> bool {
         self.replies.has_message()
     }
@@ -72,9 +73,10 @@ impl<Q: Eq, A: Answer<Q> + Drop, Rt: Drop> CancellableReply<Q, A, Rt> {
     /// Takes the reply if it is there, as `AsyncReceiver::try_recv`. It never blocks and does not allocate.
     ///
     /// - `Ok`: the reply. The future is closed from then on.
-    /// - `Err(Empty)`: no reply came yet, or an answer is under way. The future stays open, and a task that was
-    ///   registered still is.
-    /// - `Err(Disconnected)`: the request was dropped unanswered, or the reply was received before.
+    /// - `Err(Empty)`: no reply came yet, or an answer or the request's drop is under way. The future stays open, and a
+    ///   task that was registered still is.
+    /// - `Err(Disconnected)`: the request was dropped unanswered, or the reply was received before. Every later call
+    ///   and poll fails in the same way.
     pub fn try_recv(&mut self) -> Result<A, TryRecvError>
         ensures channel { self.new.channel ≡ self.old.channel }
         ensures source { self.new.source ≡ self.old.source }

@@ -90,7 +90,8 @@ impl<Rt: Wait + Clock + Drop> Watch<Rt> {
     /// - `true`: the guard is gone, however late the call is.
     /// - `false`: the clock is past `deadline`, and the guard was there when the call last checked.
     ///
-    /// A clock that fails counts as past every deadline.
+    /// A clock that fails counts as past every deadline. Past the deadline the call still waits for a guard that has
+    /// found this watch waiting and is in its drop.
     pub fn wait_deadline(&mut self, deadline: Instant) -> bool
         ensures channel { self.new.channel ≡ self.old.channel }
         ensures gone { result ≡ true → IsClosed self.new.log }

@@ -77,7 +77,8 @@ abbrev pub has_made : List Noted → Bool
 has_made [] = false
 has_made (x ∷ xs) = true
 
--- What the sender took: no waker, or, by an operation of its own, the one that the receiver gave last.
+-- What the sender took: no waker, or, once it has performed an operation, the one that the receiver gave last. (That
+-- the operation found the receiver waiting is an invariant of the seats.)
 pub data IsClaimed {W : Type 0} (put : Option W) (xs : List Noted) : Option W → Type 0 where
   claimed_none : IsClaimed put xs None
   claimed_it : (k : W) → put ≡ Some k → has_made xs ≡ true → IsClaimed put xs (Some k)

@@ -5,6 +5,6 @@
 pub enum AnyWaker<H, K> {
     /// The waking half of a thread's parker.
     Thread(H),
-    /// A clone of a task's waker.
+    /// A copy of a task's waker.
     Task(K),
 }

@@ -18,9 +18,8 @@ use std::alloc::Global;
 use std::marker::Model;
 use std::sync::Arc;
 
-/// The receiver's seat, with its share of the table. Words are codes of `oneshot_machine`, 0 to 4. An
-/// operation on the word requires that the phases' table allows it after the log, and appends itself
-/// to the log.
+/// The receiver's seat, with its share of the table. Words are codes of `oneshot_machine`, 0 to 4. An operation on the
+/// word requires that the end's phase permits it after the log, and appends itself to the log.
 pub struct ReceiverSide<T, H, K, P: Promise<T> = ()> {
     pub(crate) table: Arc<WordTable<T, H, K, P>, Global>,
     pub(crate) seat: WordSeat<T, H, K, P>,
@@ -49,13 +48,14 @@ impl<T, H, K, P: Promise<T>> ReceiverSide<T, H, K, P> {
         self.table.shared.load::<Loads>(&mut self.seat, 0) as u8
     }
 
-    /// Stores `new`, and returns the word before, which the log does not have: in the tables a store sees nothing.
+    /// Stores `new`, and returns the word before, which the log does not have: in the transition table a store sees
+    /// nothing.
     pub fn store(&mut self, new: u8) -> u8
         requires { ReceiverCan self.old (Store new) }
         ensures { ReceiverDid self.old (Store new) result self.new }
     {
-        // By a swap, since a row of the phases' table names the word before. A `store` of `atomic_table` passes only
-        // the number that it stores to its note.
+        // By a swap, since a row of the receiver's phases names the word before. A `store` of `atomic_table` passes
+        // only the number that it stores to its note.
         self.table
             .shared
             .swap::<Stores>(&mut self.seat, 0, new as u64) as u8

@@ -22,7 +22,7 @@ pub enum Slot<T, H, K> {
     Message(T),
     /// The waking half of a thread's parker.
     Thread(H),
-    /// A clone of a task's waker.
+    /// A copy of a task's waker.
     Task(K),
 }
 

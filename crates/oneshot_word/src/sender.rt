@@ -19,9 +19,8 @@ use std::alloc::Global;
 use std::marker::Model;
 use std::sync::Arc;
 
-/// The sender's seat, with its share of the table. Words are codes of `oneshot_machine`, 0 to 4. An
-/// operation on the word requires that the phases' table allows it after the log, and appends itself
-/// to the log.
+/// The sender's seat, with its share of the table. Words are codes of `oneshot_machine`, 0 to 4. An operation on the
+/// word requires that the end's phase permits it after the log, and appends itself to the log.
 pub struct SenderSide<T, H, K, P: Promise<T> = ()> {
     pub(crate) table: Arc<WordTable<T, H, K, P>, Global>,
     pub(crate) seat: WordSeat<T, H, K, P>,

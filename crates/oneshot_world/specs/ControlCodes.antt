@@ -94,8 +94,8 @@ is_same_control c d =
     is_same_state c.state d.state
     && (is_same_under_way c.sender d.sender && is_same_under_way c.receiver d.receiver)
 
--- the order in which the search keeps them. No two values that a run can reach have the same code, or
--- the search would leave one of them out.
+-- The order in which the search keeps them. No two values that a run can reach have the same code, or the search would
+-- not find one of them again, and the proof would fail.
 abbrev pub wakers_code : Wakers → ℕ
 wakers_code w = ((name_code w.cell * 4 + name_code w.hand) * 4 + name_code w.taken) * 2 + bool_code w.token
 

@@ -7,7 +7,7 @@ use crate::sender::Sender;
 use oneshot_machine::states::{DISCONNECTED, MESSAGE};
 use oneshot_word::{Peek, Promise};
 
-// Both peeks are private to this file, so that only the looks of an end can perform one.
+// Both peeks are private to this file: another file has to import `Peek` to perform one.
 impl<T, H, K, P: Promise<T>> Unsent<T, H, K, P> {
     fn peek(&self) -> u8 {
         self.side.peek()
@@ -42,13 +42,14 @@ impl<T, Rt, P: Promise<T>> Receiver<T, Rt, P> {
 }
 
 impl<T, Rt, P: Promise<T>> AsyncReceiver<T, Rt, P> {
-    /// Whether the sender is gone without a message, or the message was received. It performs one load and
-    /// never blocks.
+    /// Whether the sender is gone without a message, or the message was received; if so, every later poll and
+    /// `try_recv` returns an error. It performs one load and never blocks.
     pub fn is_closed(&self) -> bool {
         self.ground.peek() == DISCONNECTED
     }
 
-    /// Whether the message is there; if so, the next poll returns it. It performs one load and never blocks.
+    /// Whether the message is there; if so, the next poll or `try_recv` returns it. It performs one load and never
+    /// blocks.
     pub fn has_message(&self) -> bool {
         self.ground.peek() == MESSAGE
     }

@@ -14,7 +14,7 @@ use oneshot_word::laws::a_sender_is_in_an_order;
 use oneshot_word::{AnyWaker, Promise, SenderSide};
 use std::marker::Model;
 
-/// The side of a sender that has performed no operation. Only its look can load the word.
+/// The side of a sender that has performed no operation.
 pub(crate) struct Unsent<T, H, K, P: Promise<T>> {
     pub(super) side: SenderSide<T, H, K, P>,
 }

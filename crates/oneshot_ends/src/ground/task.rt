@@ -168,7 +168,7 @@ fn given(copies: &mut Copies<Waker>) -> ChannelWaker
     ChannelWaker::Task(waker)
 }
 
-/// Keeps a copy that was taken back, beside the one in hand.
+/// Keeps a copy that was taken back. One that is in hand stays there.
 fn keep(copies: &mut Copies<Waker>, copy: ChannelWaker)
     ensures { IfSome copies.old.hand (λ made. copies.new.hand ≡ Some made) }
 {

@@ -125,7 +125,7 @@ impl<'g, 'p, 'r, T, Rt: Wait + Clock, P: Promise<T>> BlockGround<T, ChannelWaker
     fn park(&mut self, timed: bool) {
         // A park that spins ends without the token: the receiver then checks whether the sender has acted. If the token
         // was taken, it has, which the next load finds.
-        if self.patience.spins(timed) || self.parker.has_taken() {
+        if self.patience.try_spin(timed) || self.parker.has_taken() {
             return;
         }
         if !timed {

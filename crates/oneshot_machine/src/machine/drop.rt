@@ -1,4 +1,4 @@
-//! The drop of a receiver.
+//! The drop of a receiver, and the last steps that the drop of a future shares with it.
 
 ghost use Rattle.std.specs.Prelude.{◌≡◌};
 ghost use Rattle.std.specs.Option.{option_map};
@@ -11,7 +11,7 @@ use crate::machine::receiver::ReceiverPos::Drop;
 use crate::machine::{Reply, RowEnd, Seen, Step};
 use crate::states::{DISCONNECTED, EMPTY, MESSAGE, Op};
 
-/// A position of a receiver's drop.
+/// A position of a receiver's drop, or of the last steps that a future's drop shares with it.
 #[derive(Clone, Copy)]
 pub enum DropPos {
     /// The drop is about to close the channel.

@@ -29,12 +29,13 @@ pub enum ReceiverStart {
     RecvDeadline,
     /// `Receiver::recv_timeout`.
     RecvTimeout {
-        /// Whether an `Instant` can represent now plus the timeout. If not, the call has no deadline.
+        /// Whether an `Instant` can represent now plus the timeout, or the clock failed. If not, the call has no
+        /// deadline.
         representable: bool,
     },
-    /// `Receiver::has_message`.
+    /// `has_message` of a `Receiver` or an `AsyncReceiver`.
     HasMessage,
-    /// `Receiver::is_closed`.
+    /// `is_closed` of a `Receiver` or an `AsyncReceiver`.
     IsClosed,
     /// `Receiver::into_future`.
     IntoFuture,
@@ -53,7 +54,7 @@ pub enum ReceiverStart {
 pub enum ReceiverPos {
     /// A look.
     Look(LookPos),
-    /// A `try_recv`, or the last steps that other receives share with it.
+    /// A `try_recv`, or the last steps of another receive.
     Try(TryPos),
     /// A receive by reference.
     Ref(RefPos),
@@ -65,7 +66,7 @@ pub enum ReceiverPos {
     Future(FuturePos),
     /// The drop of a future.
     AsyncDrop(AsyncDropPos),
-    /// The drop of a receiver.
+    /// The drop of a receiver, or the last steps that a future's drop shares with it.
     Drop(DropPos),
 }
 

@@ -18,7 +18,7 @@ use crate::states::{DISCONNECTED, EMPTY, MESSAGE, Op, RECEIVING, UNPARKING};
 pub enum TimedPos {
     /// `recv_timeout` is about to read the clock, to compute its deadline.
     SumClock {
-        /// Whether an `Instant` can represent the deadline.
+        /// Whether the call has a deadline: an `Instant` can represent it, or the reading failed.
         representable: bool,
     },
     /// The receive is about to read the clock, to see whether its deadline is over.

@@ -1,4 +1,4 @@
-//! `try_recv`, and the last steps that every other receive but `recv` shares with it.
+//! `try_recv`, and the last steps of every other receive but `recv`.
 
 ghost use Rattle.std.specs.Prelude.{◌≡◌};
 ghost use Rattle.std.specs.Option.{option_map};
@@ -11,7 +11,7 @@ use crate::machine::receiver::ReceiverPos::Try;
 use crate::machine::{Reply, RowEnd, Seen, Step};
 use crate::states::{DISCONNECTED, EMPTY, MESSAGE, Op};
 
-/// A position of `try_recv`, or of the last steps that other receives share with it.
+/// A position of `try_recv`, or of the last steps of another receive.
 #[derive(Clone, Copy)]
 pub enum TryPos {
     /// `try_recv` is about to read the word.

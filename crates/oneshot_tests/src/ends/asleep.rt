@@ -8,6 +8,7 @@ use std::hint::spin_loop;
 use std::io;
 use std::process::Abort;
 use std::random::RandomSource;
+use std::sync::atomic::AtomicU64;
 use std::sync::{Arc, Wait};
 use std::test::Fail;
 use std::thread::Threads;
@@ -41,7 +42,8 @@ fn time_of<R: Threads + Wait + Clock + CpuClock + RandomSource + AllocGlobal + S
         sends: &[SenderCall::Closed, SenderCall::Send],
         receives,
     };
-    let pace = Pace::Sleep(Duration::from_millis(lingers));
+    let here = AtomicU64::new(0);
+    let pace = Pace::Sleep(&here, Duration::from_millis(lingers));
     let outcome = beside(rt, message, calls, &pace)?;
     Ok((outcome.received.numbered(), outcome.used))
 }
@@ -92,13 +94,14 @@ fn a_receive_that_waits_uses_little_processor_time(rt: HostRuntime) -> Result<()
 }
 
 /// In how many of `SHORT_WAITS` short waits a receive spins.
-fn spinning_waits<R: Threads + Wait + Clock + CpuClock + RandomSource + AllocGlobal + Sync>(
+fn spinning_waits<R: Threads + Wait + Clock + CpuClock + RandomSource + AllocGlobal + Abort + Sync>(
     rt: &R,
     receives: &[ReceiverCall],
 ) -> Result<u32, Fail> {
     let mut spinning = 0u32;
     for _ in 0..SHORT_WAITS {
-        let (spins, _received) = spins(rt, receives, SHORT)?;
+        let (spins, received) = spins(rt, receives, SHORT)?;
+        assert!(rt; shows(&received, "Ok(19)"), "{receives:?}: {received}");
         if spins {
             spinning = spinning.saturating_add(1);
         }

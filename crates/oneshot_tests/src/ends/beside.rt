@@ -33,8 +33,8 @@ pub(super) struct Calls<'a> {
 /// When both threads act.
 #[derive(Drop)]
 pub(super) enum Pace<'a> {
-    /// The sender first sleeps so long.
-    Sleep(Duration),
+    /// Both first count themselves here and wait for each other; then the sender sleeps so long.
+    Sleep(&'a AtomicU64, Duration),
     /// Both first count themselves here and wait for each other; then the sender makes so many loads.
     Meet(&'a AtomicU64, u64),
 }
@@ -73,15 +73,17 @@ impl Pace<'_> {
     /// Waits until the receive begins.
     fn receive(&self) {
         match self {
-            Pace::Sleep(_) => {}
-            Pace::Meet(here, _) => meet(here),
+            Pace::Sleep(here, _) | Pace::Meet(here, _) => meet(here),
         }
     }
 
     /// Waits until the sender acts.
     fn act(&self, rt: &impl Clock) {
         match self {
-            Pace::Sleep(time) => sleep(rt, *time),
+            Pace::Sleep(here, time) => {
+                meet(here);
+                sleep(rt, *time);
+            }
             Pace::Meet(here, loads) => {
                 meet(here);
                 for _ in 0..*loads {
@@ -246,13 +248,14 @@ fn a_message_that_is_not_sent_ends_a_test(rt: HostRuntime) {
 fn assert_each_waits<
     R: Threads + Wait + Clock + CpuClock + RandomSource + AllocGlobal + Abort + Sync,
 >(rt: &R, sends: &[SenderCall]) -> Result<(), Fail> {
-    let pace = Pace::Sleep(Duration::from_millis(2));
     for receives in WAITS {
         let receives = script::<ReceiverCall>(rt.alloc(), receives)?;
         let calls = Calls {
             sends,
             receives: &receives,
         };
+        let here = AtomicU64::new(0);
+        let pace = Pace::Sleep(&here, Duration::from_millis(2));
         assert_receives(rt, calls, &pace)?;
     }
     Ok(())

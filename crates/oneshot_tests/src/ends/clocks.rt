@@ -97,12 +97,17 @@ fn a_deadline_ends_a_receive_once_the_clock_is_past_it(rt: HostRuntime) -> Resul
 /// An hour, in nanoseconds.
 const HOUR: u64 = 3_600_000_000_000;
 
+/// A hundred years, in nanoseconds.
+const CENTURY: u64 = 876_600 * HOUR;
+
 /// A timeout in nanoseconds, a clock's readings, and how many a receive with this timeout makes. The first is for the
 /// deadline, and each turn reads the clock anew.
-pub(crate) const TIMEOUTS: [(u64, &[u64], usize); 9] = [
+pub(crate) const TIMEOUTS: [(u64, &[u64], usize); 10] = [
     // The deadline is six. Six is not past it, even after the park; seven is, and eight is not read.
     (5, &[1, 7, 8], 2),
     (5, &[1, 6, 6, 7, 8], 4),
+    // So it is with a timeout of a hundred years.
+    (CENTURY, &[1, CENTURY + 1, CENTURY + 1, CENTURY + 2, 0], 4),
     // A failed reading counts as past it, and is not repeated: at the deadline's own reading, and in a turn.
     (5, &[], 2),
     (5, &[1], 2),

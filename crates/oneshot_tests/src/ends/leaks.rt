@@ -5,6 +5,7 @@ use super::lives::{DROPPED, OVER, RAW, READY, RECEIVED, TRIED, UNRECEIVED, live}
 use super::steps::read;
 use crate::pages::{grown_pages, resident_pages};
 use crate::reply::{answer, ask};
+use crate::watches::cancelled;
 use std::alloc::{AllocError, Global};
 use std::io;
 use std::process::{Abort, Termination};
@@ -119,7 +120,8 @@ fn raw_ends_leave_nothing(rt: HostRuntime) -> Result<(), Fail> {
     assert_none_leaks(&rt, RAW)
 }
 
-/// Ends three requests: one with its reply, one whose reply comes back, and one without a reply.
+/// Ends five requests: one with its reply, one whose reply comes back, one without a reply, and two whose reply is not
+/// taken, of which one's ticket became a future.
 fn end_requests(alloc: Global) -> Result<(), AllocError> {
     let (request, mut ticket) = ask((), alloc)?;
     let _ = answer(request)?;
@@ -130,6 +132,31 @@ fn end_requests(alloc: Global) -> Result<(), AllocError> {
     let (request, ticket) = ask((), alloc)?;
     drop(request);
     drop(ticket);
+    let (request, ticket) = ask((), alloc)?;
+    let _ = answer(request)?;
+    drop(ticket);
+    let (request, ticket) = ask((), alloc)?;
+    let reply = ticket.into_future();
+    let _ = answer(request)?;
+    drop(reply);
+    Ok(())
+}
+
+/// Ends three requests that have a watch: one with its reply, one whose ticket goes first, and one whose ticket became
+/// a future, and whose reply is not taken.
+fn end_cancellable_requests(alloc: Global) -> Result<(), AllocError> {
+    let (request, mut ticket) = cancelled::ask((), alloc)?;
+    let _ = cancelled::answer(request)?;
+    let _ = ticket.try_take();
+    let (request, ticket) = cancelled::ask((), alloc)?;
+    let (request, watch) = request.into_parts();
+    drop(ticket);
+    let _ = answer(request)?;
+    drop(watch);
+    let (request, ticket) = cancelled::ask((), alloc)?;
+    let reply = ticket.into_future();
+    let _ = cancelled::answer(request)?;
+    drop(reply);
     Ok(())
 }
 
@@ -137,6 +164,7 @@ fn end_requests(alloc: Global) -> Result<(), AllocError> {
 fn requests_leave_nothing(rt: HostRuntime) -> Result<(), Fail> {
     if compares_memory(&rt)? {
         assert_leaves_nothing(&rt, 0, || Ok(end_requests(rt.alloc())?))?;
+        assert_leaves_nothing(&rt, 1, || Ok(end_cancellable_requests(rt.alloc())?))?;
     }
     Ok(())
 }

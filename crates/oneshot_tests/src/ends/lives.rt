@@ -177,7 +177,7 @@ pub(super) const UNRECEIVED: &[&str; 6] = &[
     R recv = Err(RecvError) | gone gone",
 ];
 
-/// Receivers whose time is over before the sender acts. Their word shows that they wait only during a receive.
+/// Receivers whose time is over before the sender acts.
 pub(super) const OVER: &[&str; 5] = &[
     "channel
     R try = Err(Empty) | open open
@@ -370,7 +370,7 @@ fn assert_gets_a_message(
         R {receive} = Ok(19) | gone closed
         R {receive} = Err(Disconnected) | gone closed"
     )?;
-    live_by(rt, &sent)
+    assert_looks(rt, &sent)
 }
 
 /// Fails unless this timed receive finds that the sender was dropped before it.
@@ -383,7 +383,7 @@ fn assert_finds_a_drop(
         S drop = dropped | gone closed
         R {receive} = Err(Disconnected) | gone closed"
     )?;
-    live_by(rt, &dropped)
+    assert_looks(rt, &dropped)
 }
 
 #[test]

@@ -34,8 +34,10 @@ impl<'a, T: Drop, Rt: Drop> Future for Counted<'a, T, Rt> {
     ghost needs = { λ c s. s ≡ c.receiver.source };
 
     fn poll(&mut self, cx: &mut Context<'_>) -> Poll<Result<T, RecvError>> {
+        let polled = self.receiver.poll(cx);
+        // Counted once its task is registered, since the sender of a test waits for this count.
         self.polls.fetch_add(1, Ordering::SeqCst);
-        self.receiver.poll(cx)
+        polled
     }
 }
 
@@ -110,6 +112,7 @@ fn polls_of_two<R: thread::Threads + Wait + Clock + RandomSource + AllocGlobal +
         rt,
         || block_on(rt, join(counted, other)),
         || {
+            wait_for_a_poll(rt, &polls);
             thread::sleep(rt, Duration::from_millis(100));
             let first = other_sender.send(1u8).is_ok();
             thread::sleep(rt, Duration::from_millis(100));
@@ -117,7 +120,10 @@ fn polls_of_two<R: thread::Threads + Wait + Clock + RandomSource + AllocGlobal +
         },
     );
     assert_eq!(rt; (sent, received?), (true, (Ok(19), Ok(1))));
-    Ok(polls.load(Ordering::SeqCst))
+    let polls = polls.load(Ordering::SeqCst);
+    // Both once, and the one that waits again.
+    assert!(rt; 2 < polls, "{polls} polls");
+    Ok(polls)
 }
 
 // A receiver keeps the copy of a waker that its channel gives back. Dropping it would wake the task, which

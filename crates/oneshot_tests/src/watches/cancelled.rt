@@ -106,6 +106,7 @@ fn a_reply_is_waited_for(rt: HostRuntime) -> Result<(), Fail> {
 fn a_dropped_request_has_no_reply(rt: HostRuntime) -> Result<(), Fail> {
     let (request, ticket) = ask(&rt, rt.alloc())?;
     drop(request);
+    assert!(rt; ticket.is_closed());
     assert_eq!(rt; ticket.wait().map(bytes_of), Err(RecvError));
     Ok(())
 }
@@ -134,9 +135,10 @@ fn a_reply_is_awaited(rt: HostRuntime) -> Result<(), Fail> {
 fn a_dropped_request_closes_the_awaited_reply(rt: HostRuntime) -> Result<(), Fail> {
     let (request, ticket) = ask((), rt.alloc())?;
     let reply = ticket.into_future();
-    let was_closed = reply.is_closed();
+    let before = (reply.is_closed(), reply.has_message());
     drop(request);
-    assert_eq!(rt; (was_closed, reply.is_closed()), (false, true));
+    let after = (reply.is_closed(), reply.has_message());
+    assert_eq!(rt; (before, after), ((false, false), (true, false)));
     assert_eq!(rt; block_on(&rt, reply)?.map(bytes_of), Err(RecvError));
     Ok(())
 }
@@ -174,6 +176,53 @@ fn an_awaited_reply_that_goes_is_told(rt: HostRuntime) -> Result<(), Fail> {
         (was_gone, watch.is_gone(), request.is_cancelled()),
         (false, true, true)
     );
+    Ok(())
+}
+
+#[test]
+fn a_ticket_that_is_asked_is_there(rt: HostRuntime) -> Result<(), Fail> {
+    let (request, mut ticket) = ask(&rt, rt.alloc())?;
+    let (request, mut watch) = request.into_parts();
+    let tried = ticket.try_take().map(bytes_of);
+    let waited = ticket.wait_for(Duration::from_millis(1)).map(bytes_of);
+    assert_eq!(rt;
+        (tried, waited, watch.is_gone()),
+        (
+            Err(TryRecvError::Empty),
+            Err(RecvTimeoutError::Timeout),
+            false
+        )
+    );
+    let answered = crate::reply::answer(request)?.is_ok();
+    let taken = ticket.try_take().map(bytes_of);
+    assert_eq!(rt; (answered, taken, watch.is_gone()), (true, Ok(21), false));
+    drop(ticket);
+    assert!(rt; watch.is_gone());
+    Ok(())
+}
+
+#[test]
+fn an_awaited_reply_that_is_asked_is_there(rt: HostRuntime) -> Result<(), Fail> {
+    let task = MockTask::new(&rt)?;
+    let (request, ticket) = ask((), rt.alloc())?;
+    let (request, mut watch) = request.into_parts();
+    let mut reply = ticket.into_future();
+    let is_pending = matches!(task.poll(&mut reply), Poll::Pending);
+    let tried = reply.try_recv().map(bytes_of);
+    assert_eq!(rt;
+        (is_pending, tried, watch.is_gone()),
+        (true, Err(TryRecvError::Empty), false)
+    );
+    let answered = crate::reply::answer(request)?.is_ok();
+    let full = (reply.is_closed(), reply.has_message());
+    let received = reply.try_recv().map(bytes_of);
+    let closed = (reply.is_closed(), reply.has_message());
+    assert_eq!(rt;
+        (answered, full, received, closed, watch.is_gone()),
+        (true, (false, true), Ok(21), (true, false), false)
+    );
+    drop(reply);
+    assert!(rt; watch.is_gone());
     Ok(())
 }
 
