@@ -47,7 +47,7 @@ module _ {T W : Type 0} where
   copied_on c is s message waker = stands_on (copied c ∷ []) refl is s message waker
 
   -- the poll woke its own task: it ends with nothing found, in the same state
-  pub owned_ends : {at : ReceiverAt} {b a : GroundState T W} → LeavesPolled {T = T} Pending at → Stands at b
+  pub owned_ends : {at : ReceiverAt} {b a : GroundState T W} → LeavesPolled R.Pending at → Stands at b
       → Grows b.log a.log (did Steps.WakeOwn ∷ []) → a.message ≡ b.message → a.waker ≡ b.waker → EndsPoll F.Nothing a
   owned_ends {at} leaves is s message waker =
       record { at = at; is_one = leaves; stands = stands_on (did Steps.WakeOwn ∷ []) refl is s message waker }

@@ -24,6 +24,7 @@ pub mod LastSwap
 pub mod StoredWaker
 pub mod Waits
 pub mod Receives
+pub mod LeftPhases
 pub mod ReadyHands
 pub mod PollLoads
 pub mod TriedFutures

@@ -1,8 +1,8 @@
 -- The names of other crates and of this one's definitions that the proofs use, exported from one place.
 pub use Rattle.futures.specs.declared.task.Poll.TheVariants.{Ready, Pending}
-pub use Rattle.oneshot_drive.specs.BetweenCalls.{AtRest, rests_open, IsClosedAt, LeavesClosed, left_received, left_closed, LeavesTimed, timed_received, timed_out, timed_closed, IsReady}
+pub use Rattle.oneshot_drive.specs.BetweenCalls.{AtRest, rests_open, IsClosedAt, IsReady}
 pub use Rattle.oneshot_machine.specs.Over.{is_late, is_overtaken}
-pub use Rattle.oneshot_drive.specs.BetweenCalls.{rests_new, rests_closed, leaves_open, leaves_closed, Rests, Leaves, finishing, LastFinds}
+pub use Rattle.oneshot_drive.specs.BetweenCalls.{rests_new, rests_closed, Rests, finishing, LastFinds}
 pub use Rattle.oneshot_machine.specs.Over.{IsLate}
 pub use Rattle.oneshot_drive.specs.BetweenCalls.{finds_waiting, finds_overdue, finds_gone, Finishes, send_reply, IsFresh, IsError, Owes, IsOvertaken, IsOpenAt}
 pub use Rattle.oneshot_drive.specs.Blocking.{Path, value_end, EndsAt, Stretch, nothing, answers, onward, ReceiveBy, by_ref, by_value, load_of}

@@ -1,18 +1,17 @@
 -- What a future between two calls finds by its load, and the run of a poll.
-use Rattle.oneshot_drive.proofs.Names.{◌≡◌, ℕ, true, [], ◌∷◌, Some, Ok, Err, refl, sym, ap, ◌∙◌, subst, Ready, Pending, RecvError, Found, ReceiverPos, Try, Future, AsyncDrop, Close, Take, PollLoad}
+use Rattle.oneshot_drive.proofs.Names.{◌≡◌, ℕ, true, [], ◌∷◌, Some, refl, sym, ap, ◌∙◌, subst, Found, ReceiverPos, Try, Future, AsyncDrop, Close, Take, PollLoad}
 use Rattle.oneshot_drive.proofs.Names.{AsyncLoad, AsyncSwap, Load, Store, Swap, Log, Grows, receiver_of, did, took, worded, ReceiverAt, idle, after_load, after_timeout, waits}
 use Rattle.oneshot_drive.proofs.Names.{again, claimed, full, Got}
 use Rattle.oneshot_drive.proofs.Names.{at_once, waited, swapped, by_future, by_poll, Closing, found_closed, closed_itself, disconnected, resolved, receiver_next, receiver_moves, empty, word_of}
 use Rattle.oneshot_drive.proofs.Names.{receiver_step, receiver_row, Outcome, Goes, Answers, last, more, ReceiverRan, and_then, GroundState, StandsWith, Stands, StandsIn, receiver_slots, ReceiverAsks}
 use Rattle.oneshot_drive.proofs.Names.{ReceiverMakes, Path, rests_new, rests_open, rests_closed, IsClosedAt, Polled, unpolled, left_copy, kept_copy, found_sender, has_resolved, IsPolled, LeavesPolled}
-use Rattle.oneshot_drive.proofs.Names.{leaves_resolved, leaves_over, leaves_gone, leaves_uncopied, leaves_waiting, leaves_its_copy, leaves_claimed, EndsPoll, has_row, Each, landings, RECEIVING}
+use Rattle.oneshot_drive.proofs.Names.{leaves_uncopied, leaves_waiting, leaves_its_copy, leaves_claimed, EndsPoll, has_row, Each, landings, RECEIVING}
 use Rattle.oneshot_drive.proofs.Names.{UNPARKING, DISCONNECTED, EMPTY, MESSAGE}
 use Rattle.oneshot_drive.specs.declared.found.Found.TheVariants as F
 use Rattle.oneshot_machine.specs.declared.machine.Reply.TheVariants as R
 use Rattle.oneshot_machine.specs.declared.machine.Seen.TheVariants as S
 use Rattle.oneshot_machine.specs.declared.machine.Step.TheVariants as Steps
 use Rattle.oneshot_machine.specs.declared.machine.receiver.ReceiverStart.TheVariants as C
-use Rattle.oneshot_drive.specs.Polls.{leaves_received}
 use Rattle.oneshot_drive.proofs.AfterOperations.{Came, came, asks, lands}
 use Rattle.oneshot_drive.proofs.Stretches.{on, by_word, by_own, ran}
 
@@ -65,21 +64,8 @@ no_word (met_closed k) a b c d e = absurd (c refl)
 no_word met_empty a b c d e = absurd (d refl)
 no_word (met_message word drops) a b c d e = absurd (e refl)
 
--- how a poll leaves the future
-leaves_taken : {T : Type 0} (g : Got) (x : T)
-    → LeavesPolled (Ready (Ok x)) (receiver_next (full g) (Store DISCONNECTED) S.Done)
-leaves_taken at_once x = leaves_received x
-leaves_taken waited x = leaves_received x
-leaves_taken (swapped by) x = leaves_received x
-leaves_taken by_future x = leaves_resolved x
-leaves_taken by_poll x = leaves_resolved x
-
-pub taken_leaves : {T : Type 0} {at : ReceiverAt} (g : Got) (x : T)
-    → at ≡ receiver_next (full g) (Store DISCONNECTED) S.Done
-    → LeavesPolled (Ready (Ok x)) at
-taken_leaves g x is = subst (λ at. LeavesPolled (Ready (Ok x)) at) (sym is) (leaves_taken g x)
-
-pending_polled : {T : Type 0} {at : ReceiverAt} → LeavesPolled {T = T} Pending at → Polled at
+-- it is between two calls then
+pending_polled : {at : ReceiverAt} → LeavesPolled R.Pending at → Polled at
 pending_polled leaves_uncopied = unpolled (rests_open after_load)
 pending_polled leaves_waiting = left_copy
 pending_polled leaves_its_copy = kept_copy
@@ -89,11 +75,6 @@ closed_polled : (at : ReceiverAt) → IsClosedAt at → Polled at
 closed_polled (disconnected c) is = unpolled (rests_closed c)
 closed_polled (resolved c) is = has_resolved c
 closed_polled _ is = absurd (cc is)
-
-closed_leaves : {T : Type 0} (at : ReceiverAt) (e : RecvError) → IsClosedAt at → LeavesPolled {T = T} (Ready (Err e)) at
-closed_leaves (disconnected c) e is = leaves_over e c
-closed_leaves (resolved c) e is = leaves_gone e c
-closed_leaves _ e is = absurd (cc is)
 
 module _ {T W : Type 0} where
   open_met : {at : ReceiverAt} {s : GroundState T W} → Met EMPTY at → Stands at s → Stands (idle after_load) s
@@ -185,17 +166,9 @@ module _ {T W : Type 0} where
   pub pending_rests : {s : GroundState T W} → EndsPoll F.Nothing s → IsPolled s
   pending_rests ends = record { at = ends.at; is_one = pending_polled ends.is_one; stands = ends.stands }
 
-  pub pending_leaves : {s : GroundState T W} → EndsPoll F.Nothing s → LeavesPolled {T = T} Pending (receiver_of s.log)
-  pending_leaves ends = subst (λ at. LeavesPolled {T = T} Pending at) (sym ends.stands.phase) ends.is_one
-
   -- or finds it closed
   pub gone_rests : {s : GroundState T W} → StandsIn IsClosedAt s → IsPolled s
   gone_rests is = record { at = is.at; is_one = closed_polled is.at is.is_one; stands = is.stands }
-
-  pub gone_leaves : {s : GroundState T W} (e : RecvError) → StandsIn IsClosedAt s
-      → LeavesPolled {T = T} (Ready (Err e)) (receiver_of s.log)
-  gone_leaves e is =
-      subst (λ at. LeavesPolled {T = T} (Ready (Err e)) at) (sym is.stands.phase) (closed_leaves is.at e is.is_one)
 
   pub poll_gone : (s : GroundState T W) (f : Found) → EndsPoll f s → ¬ (f ≡ F.Message) → ¬ (f ≡ F.Nothing)
       → (f ≡ F.Closed) × StandsIn IsClosedAt s

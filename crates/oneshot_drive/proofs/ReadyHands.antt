@@ -1,47 +1,35 @@
 -- After a call that does not end the receiver its hand is ready: it has a waker, or the receiver is closed.
-use Rattle.oneshot_drive.proofs.Names.{◌≡◌, ◌≢◌, Option, Result, Err, refl, IsClosedAt, IsOpenAt, Leaves, leaves_open, leaves_closed, LeavesClosed, left_received, left_closed, LeavesTimed}
-use Rattle.oneshot_drive.proofs.Names.{timed_received, timed_out, timed_closed, IsReady, RecvError, RecvTimeoutError, TryRecvError, ReceiverAt}
-use Rattle.oneshot_drive.specs.BetweenCalls.{leaves_received}
+use Rattle.oneshot_drive.proofs.Names.{◌≡◌, ◌≢◌, Option, Result, Ok, Err, refl, IsClosedAt, IsOpenAt, IsReady, RecvError, RecvTimeoutError, TryRecvError, ReceiverAt}
+use Rattle.oneshot_drive.specs.BetweenCalls.{Leaves, leaves_received, leaves_closed, leaves_empty, leaves_late, try_recv_reply, recv_reply, timed_reply}
 use Rattle.oneshot_errors.specs.declared.recv_timeout.RecvTimeoutError.TheVariants as Timed
 use Rattle.oneshot_errors.specs.declared.try_recv.TryRecvError.TheVariants as Tried
 
--- `try_recv` leaves the receiver open after `Empty`, otherwise closed
-pub closed_tried : {T : Type 0} {result : Result T TryRecvError} {at : ReceiverAt} → Leaves result at
-    → result ≢ Err Tried.Empty → IsClosedAt at
-closed_tried (leaves_received x) found = refl
-closed_tried leaves_open found = absurd (found refl)
-closed_tried (leaves_closed c) found = refl
+module _ {T : Type 0} where
+  -- `try_recv` leaves the receiver open after `Empty`, otherwise closed
+  pub closed_tried : {at : ReceiverAt} (result : Result T TryRecvError) → Leaves (try_recv_reply result) at → result ≢ Err Tried.Empty
+      → IsClosedAt at
+  closed_tried (Ok x) leaves_received found = refl
+  closed_tried (Err Tried.Empty) leaves found = absurd (found refl)
+  closed_tried (Err Tried.Disconnected) (leaves_closed c) found = refl
 
-pub open_tried : {T : Type 0} {result : Result T TryRecvError} {at : ReceiverAt} → Leaves result at
-    → result ≡ Err Tried.Empty → IsOpenAt at
-open_tried leaves_open nothing = refl
-open_tried _ nothing = absurd (cc nothing)
+  pub open_tried : {at : ReceiverAt} (result : Result T TryRecvError) → Leaves (try_recv_reply result) at → result ≡ Err Tried.Empty
+      → IsOpenAt at
+  open_tried (Err Tried.Empty) leaves_empty nothing = refl
+  open_tried _ leaves nothing = absurd (cc nothing)
 
--- after `try_recv`, which leaves the hand as it is
-pub ready_still : {T W : Type 0} (hand : Option W) (result : Result T TryRecvError) (before after : ReceiverAt)
-    → IsReady hand before → (IsClosedAt before → result ≡ Err Tried.Disconnected) → Leaves result after
-    → IsReady hand after
-ready_still hand result before after ready stays leaves =
-    λ none. let is = stays (ready none) in closed_tried leaves (λ empty. absurd (cc))
+  -- `recv_ref` closes it
+  pub closed_by : {at : ReceiverAt} (result : Result T RecvError) → Leaves (recv_reply result) at → IsClosedAt at
+  closed_by (Ok x) leaves_received = refl
+  closed_by (Err e) (leaves_closed c) = refl
 
--- `recv_ref` closes it
-pub closed_by : {T : Type 0} (result : Result T RecvError) (at : ReceiverAt) → LeavesClosed result at → IsClosedAt at
-closed_by _ _ (left_received x) = refl
-closed_by _ _ (left_closed e c) = refl
+  -- a receive with a deadline leaves it open after `Timeout`, otherwise closed
+  pub closed_in_time : {at : ReceiverAt} (result : Result T RecvTimeoutError) → Leaves (timed_reply result) at
+      → result ≢ Err Timed.Timeout → IsClosedAt at
+  closed_in_time (Ok x) leaves_received found = refl
+  closed_in_time (Err Timed.Timeout) leaves found = absurd (found refl)
+  closed_in_time (Err Timed.Disconnected) (leaves_closed c) found = refl
 
--- after `recv_ref`, which closes the receiver
-pub ready_closed : {T W : Type 0} (hand : Option W) (result : Result T RecvError) (at : ReceiverAt)
-    → LeavesClosed result at → IsReady hand at
-ready_closed hand result at leaves = λ none. closed_by result at leaves
-
--- a receive with a deadline leaves it open after `Timeout`, otherwise closed
-pub closed_in_time : {T : Type 0} {result : Result T RecvTimeoutError} {at : ReceiverAt} → LeavesTimed result at
-    → result ≢ Err Timed.Timeout → IsClosedAt at
-closed_in_time (timed_received x) found = refl
-closed_in_time timed_out found = absurd (found refl)
-closed_in_time (timed_closed c) found = refl
-
-pub open_too_late : {T : Type 0} {result : Result T RecvTimeoutError} {at : ReceiverAt} → LeavesTimed result at
-    → result ≡ Err Timed.Timeout → IsOpenAt at
-open_too_late timed_out late = refl
-open_too_late _ late = absurd (cc late)
+  pub open_too_late : {at : ReceiverAt} (result : Result T RecvTimeoutError) → Leaves (timed_reply result) at
+      → result ≡ Err Timed.Timeout → IsOpenAt at
+  open_too_late (Err Timed.Timeout) leaves_late late = refl
+  open_too_late _ leaves late = absurd (cc late)

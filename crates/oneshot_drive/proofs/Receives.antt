@@ -1,13 +1,12 @@
 -- The obligations of each receive that blocks after the word that decides it, and the runs that its steps make.
-use Rattle.oneshot_drive.proofs.Names.{◌≡◌, ℕ, Bool, true, false, List, [], ◌∷◌, Option, Result, Ok, Err, refl, sym, subst, RecvError, RecvTimeoutError, Found, Reply, ReceiverPos, Try, Ref, Timed}
+use Rattle.oneshot_drive.proofs.Names.{◌≡◌, ℕ, Bool, true, false, List, [], ◌∷◌, Option, refl, sym, subst, Found, Reply, ReceiverPos, Try, Ref, Timed}
 use Rattle.oneshot_drive.proofs.Names.{Value, Close, Take, CloseOnly, StartLoad, SumClock, RecvLoad, RecvTake, RecvFreeGot, RecvFreeGone, Recv, RecvTimeout, Store, Log, Grows, receiver_of, did, took}
 use Rattle.oneshot_drive.proofs.Names.{clocked, worded, after_timeout, ReceiverAt, idle, full, Got, at_once, unclosed, Swapping, Closing, closed_itself, disconnected}
 use Rattle.oneshot_drive.proofs.Names.{receiver_moves, receiver_next, empty}
 use Rattle.oneshot_drive.proofs.Names.{filled, receiver_step, receiver_row, Goes, last, more, Ran, ReceiverRan, vacant, receiver_moved, and_then, GroundState, StandsWith, Stands, receiver_slots}
-use Rattle.oneshot_drive.proofs.Names.{ReceiverAsks, ReceiverMakes, Path, value_end, EndsAt, AtRest, rests_open, IsClosedAt, LeavesClosed}
-use Rattle.oneshot_drive.proofs.Names.{left_received, left_closed, LeavesTimed, timed_received, timed_out, timed_closed, IsReady, is_room, has_row, Each}
+use Rattle.oneshot_drive.proofs.Names.{ReceiverAsks, ReceiverMakes, Path, value_end, EndsAt, AtRest, rests_open, IsClosedAt}
+use Rattle.oneshot_drive.proofs.Names.{IsReady, is_room, has_row, Each}
 use Rattle.oneshot_drive.proofs.Names.{landings, DISCONNECTED}
-use Rattle.oneshot_errors.specs.declared.recv_timeout.RecvTimeoutError.TheVariants as Timed
 use Rattle.oneshot_drive.specs.declared.found.Found.TheVariants as F
 use Rattle.oneshot_machine.specs.declared.machine.Reply.TheVariants as R
 use Rattle.oneshot_machine.specs.declared.machine.Seen.TheVariants as S
@@ -76,10 +75,6 @@ module _ {T W : Type 0} where
       → Grows b.log a.log (worded (Store DISCONNECTED) n ∷ []) → Stands (disconnected closed_itself) a
   shut {b} n is made grows = (lone (lands b (Store DISCONNECTED) n is.phase made grows)).stands
 
-  pub over_leaves : {c : Closing} {s : GroundState T W} → Stands (disconnected c) s
-      → LeavesTimed {T = T} (Err Timed.Disconnected) (receiver_of s.log)
-  over_leaves {c} is = subst (λ at. LeavesTimed {T = T} (Err Timed.Disconnected) at) (sym is.phase) (timed_closed c)
-
   pub shut_ran : {p : ReceiverPos} {l k j : Log T W} (n : ℕ) → Path p (Goes (Try CloseOnly)) l k
       → Grows k j (worded (Store DISCONNECTED) n ∷ []) → Ran receiver_step receiver_row p l j R.Disconnected [] []
   shut_ran n path s = ran path (worded (Store DISCONNECTED) n ∷ []) (last _ refl refl) s refl refl
@@ -102,10 +97,6 @@ module _ {T W : Type 0} where
   pub clock_ready : {l k : Log T W} {hand : Option W} → IsReady hand (receiver_of l) → (past : Bool)
       → Grows l k (clocked past ∷ []) → IsReady hand (receiver_of k)
   clock_ready is past s none = subst IsClosedAt (sym (still (clocked past ∷ []) refl s)) (is none)
-
-  pub clock_closed : {l k : Log T W} (past : Bool) → Grows l k (clocked past ∷ []) → IsClosedAt (receiver_of l)
-      → IsClosedAt (receiver_of k)
-  clock_closed past s is = subst IsClosedAt (sym (still (clocked past ∷ []) refl s)) is
 
   sums : {representable : Bool} {l k : Log T W} (past : Bool) → Grows l k (clocked past ∷ [])
       → Path (Timed (SumClock representable)) (Goes (Ref (StartLoad representable))) l k
@@ -145,21 +136,3 @@ module _ {T W : Type 0} where
 -- a closed receiver needs no waker in its hand
 pub closed_ready : {W : Type 0} {hand : Option W} {q : ReceiverAt} (c : Closing) → q ≡ disconnected c → IsReady hand q
 closed_ready c at none = subst IsClosedAt (sym at) refl
-
-pub full_leaves : {T : Type 0} {q : ReceiverAt} (x : T) → q ≡ disconnected closed_itself → LeavesTimed (Ok x) q
-full_leaves x at = subst (λ q. LeavesTimed (Ok x) q) (sym at) (timed_received x)
-
-pub out_leaves : {T : Type 0} {q : ReceiverAt} → q ≡ idle after_timeout → LeavesTimed {T = T} (Err Timed.Timeout) q
-out_leaves at = rw at timed_out
-
--- `recv_ref`: without a deadline the receiver is closed afterwards
-pub untimed_full : {T : Type 0} {r : Result T RecvTimeoutError} {q : ReceiverAt} (x : T) → r ≡ Ok x → LeavesTimed r q
-    → LeavesClosed (Ok x) q
-untimed_full x is (timed_received y) = left_received x
-untimed_full x is _ = absurd (cc)
-
-pub untimed_gone : {T : Type 0} {r : Result T RecvTimeoutError} {q : ReceiverAt} (e : RecvError) (d : RecvTimeoutError)
-    → r ≡ Err d → ¬ (r ≡ Err Timed.Timeout) → LeavesTimed r q → LeavesClosed {T = T} (Err e) q
-untimed_gone e d is endless (timed_received y) = absurd (cc)
-untimed_gone e d is endless timed_out = absurd (endless refl)
-untimed_gone e d is endless (timed_closed c) = left_closed e c

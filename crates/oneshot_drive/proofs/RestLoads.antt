@@ -3,10 +3,8 @@ use Rattle.oneshot_drive.proofs.Names.{◌≡◌, ℕ, true, false, [], ◌∷�
 use Rattle.oneshot_drive.proofs.Names.{ReceiverAt, idle, after_load, after_timeout, full, at_once, Closing, found_closed, closed_itself, disconnected, resolved, receiver_moves}
 use Rattle.oneshot_drive.proofs.Names.{empty, filled, last, more}
 use Rattle.oneshot_drive.proofs.Names.{ReceiverRan, Held, ReceiverFinds, is_same_op, and_then, GroundState, StandsWith, Stands, receiver_slots, ReceiverAsks, ReceiverMakes, Rests, rests_new}
-use Rattle.oneshot_drive.proofs.Names.{rests_open, rests_closed, AtRest, IsClosedAt, Leaves, leaves_open, leaves_closed, has_row, Each, landings, found_so, DISCONNECTED, EMPTY, MESSAGE}
-use Rattle.oneshot_errors.specs.declared.try_recv.TryRecvError.TheVariants as E
+use Rattle.oneshot_drive.proofs.Names.{rests_open, rests_closed, AtRest, IsClosedAt, has_row, Each, landings, found_so, DISCONNECTED, EMPTY, MESSAGE}
 use Rattle.oneshot_machine.specs.declared.machine.Reply.TheVariants as R
-use Rattle.oneshot_drive.specs.BetweenCalls.{leaves_received}
 use Rattle.oneshot_drive.proofs.AfterOperations.{lone, Came, came, asks, lands}
 
 -- it may load, and may be dropped
@@ -104,21 +102,9 @@ module _ {T W : Type 0} where
   pub rests_over : {c : Closing} {s : GroundState T W} → Stands (disconnected c) s → AtRest s
   rests_over {c} stands = record { at = disconnected c; is_one = rests_closed c; stands = stands }
 
-  pub took_leaves : {s : GroundState T W} (x : T) → Stands (disconnected closed_itself) s
-      → Leaves (Ok x) (receiver_of s.log)
-  took_leaves x is = subst (λ at. Leaves (Ok x) at) (sym is.phase) (leaves_received x)
-
   -- or finds none
   pub rests_here : {s : GroundState T W} → Stands (idle after_load) s → AtRest s
   rests_here here_looked = record { at = idle after_load; is_one = rests_open after_load; stands = here_looked }
-
-  pub open_leaves : {s : GroundState T W} → Stands (idle after_load) s
-      → Leaves {T = T} (Err E.Empty) (receiver_of s.log)
-  open_leaves here_looked = subst (λ at. Leaves {T = T} (Err E.Empty) at) (sym here_looked.phase) leaves_open
-
-  pub closed_leaves : {c : Closing} {s : GroundState T W} → Stands (disconnected c) s
-      → Leaves {T = T} (Err E.Disconnected) (receiver_of s.log)
-  closed_leaves {c} is = subst (λ at. Leaves {T = T} (Err E.Disconnected) at) (sym is.phase) (leaves_closed c)
 
   -- its runs
   pub took_ran : {l k j z : Log T W} (n r : ℕ) (x : T) → n ≡ MESSAGE → Grows l k (worded Load n ∷ [])

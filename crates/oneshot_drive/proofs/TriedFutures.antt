@@ -1,11 +1,8 @@
 -- What `try_recv` of a future finds by its load, how it leaves the future, and its runs.
-use Rattle.oneshot_drive.proofs.Names.{◌≡◌, ℕ, [], ◌∷◌, Some, Result, Ok, Err, refl, sym, ap, ◌∙◌, subst, TryRecvError, Try, Future, Close, AsyncTryLoad, AsyncTryRecv, Load, Store, Log, Grows}
-use Rattle.oneshot_drive.proofs.Names.{receiver_of, took, worded, ReceiverAt, after_load, after_timeout, full, Got, at_once, waited, swapped, by_future, by_poll, Closing}
-use Rattle.oneshot_drive.proofs.Names.{closed_itself, disconnected, resolved}
-use Rattle.oneshot_drive.proofs.Names.{receiver_next, receiver_moves, empty, receiver_row, Goes, Answers, ReceiverRan, and_then, GroundState, StandsWith, Stands, StandsIn, ReceiverMakes, rests_new}
-use Rattle.oneshot_drive.proofs.Names.{rests_open, rests_closed, Polled, unpolled, left_copy, kept_copy, found_sender, has_resolved, IsPolled, LeavesTried, tried_received, tried_resolved}
-use Rattle.oneshot_drive.proofs.Names.{tried_closed, tried_uncopied, tried_its_copy, tried_claimed, is_registered, HandsNoWaker, Each, landings, DISCONNECTED, MESSAGE}
-use Rattle.oneshot_errors.specs.declared.try_recv.TryRecvError.TheVariants as E
+use Rattle.oneshot_drive.proofs.Names.{◌≡◌, ℕ, [], ◌∷◌, Some, refl, sym, ap, ◌∙◌, Try, Future, Close, AsyncTryLoad, AsyncTryRecv, Load, Store, Log, Grows}
+use Rattle.oneshot_drive.proofs.Names.{receiver_of, took, worded, ReceiverAt, after_load, after_timeout}
+use Rattle.oneshot_drive.proofs.Names.{receiver_moves, receiver_row, Goes, Answers, ReceiverRan, and_then, GroundState, ReceiverMakes, rests_new}
+use Rattle.oneshot_drive.proofs.Names.{rests_open, rests_closed, Polled, unpolled, left_copy, kept_copy, found_sender, has_resolved, IsPolled, is_registered, HandsNoWaker, Each, landings, DISCONNECTED, MESSAGE}
 use Rattle.oneshot_machine.specs.declared.machine.Reply.TheVariants as R
 use Rattle.oneshot_machine.specs.declared.machine.Seen.TheVariants as S
 use Rattle.oneshot_drive.proofs.AfterOperations.{Came, lands, one_of}
@@ -13,18 +10,13 @@ use Rattle.oneshot_drive.proofs.Stretches.{whole, by_word}
 use Rattle.oneshot_drive.proofs.Receives.{full_ran}
 use Rattle.oneshot_drive.proofs.PollLoads.{Met, met_empty, met_message, met_closed, met_copy, met_sender, loaded_to}
 
--- each result leaves it between two calls
-tried_polled : {T : Type 0} {result : Result T TryRecvError} {at : ReceiverAt} → LeavesTried result at → Polled at
-tried_polled (tried_received x) = unpolled (rests_closed closed_itself)
-tried_polled (tried_resolved x) = has_resolved closed_itself
-tried_polled (tried_closed c) = unpolled (rests_closed c)
-tried_polled tried_uncopied = unpolled (rests_open after_load)
-tried_polled tried_its_copy = kept_copy
-tried_polled tried_claimed = found_sender
-
-over : {n : ℕ} {at : ReceiverAt} → Met n at → n ≡ DISCONNECTED → (c : Closing) × (at ≡ disconnected c)
-over (met_closed c) e = (c, refl)
-over _ e = absurd (cc)
+-- a load that did not find the message leaves it between two calls
+met_polled : {n : ℕ} {at : ReceiverAt} → Met n at → ¬ (n ≡ MESSAGE) → Polled at
+met_polled met_empty a = unpolled (rests_open after_load)
+met_polled (met_message word drops) a = absurd (a refl)
+met_polled (met_closed c) a = unpolled (rests_closed c)
+met_polled met_copy a = kept_copy
+met_polled met_sender a = found_sender
 
 -- the rows of the words that leave it open
 empty_row : {n : ℕ} {at : ReceiverAt} → Met n at → ¬ (n ≡ MESSAGE) → ¬ (n ≡ DISCONNECTED)
@@ -34,14 +26,6 @@ empty_row (met_message word drops) a b = absurd (a refl)
 empty_row (met_closed c) a b = absurd (b refl)
 empty_row met_copy a b = refl
 empty_row met_sender a b = refl
-
-unsent : {T : Type 0} {n : ℕ} {at : ReceiverAt} → Met n at → ¬ (n ≡ MESSAGE) → ¬ (n ≡ DISCONNECTED)
-    → LeavesTried {T = T} (Err E.Empty) at
-unsent met_empty a b = tried_uncopied
-unsent (met_message word drops) a b = absurd (a refl)
-unsent (met_closed c) a b = absurd (b refl)
-unsent met_copy a b = tried_its_copy
-unsent met_sender a b = tried_claimed
 
 -- after its load it is registered if and only if it was before
 abbrev Unmoved : ReceiverAt → ℕ → ReceiverAt → Type 0
@@ -58,37 +42,8 @@ unmoved found_sender = (λ a b. refl, (λ a b. absurd (a refl), (λ a b. absurd 
 unmoved (has_resolved c) = (λ a b. refl, tt)
 
 module _ {T W : Type 0} where
-  -- how it ends: with the message, disconnected, or with no message yet
-  pub taken_ends : {s : GroundState T W} (g : Got) (x : T)
-      → StandsWith receiver_of (receiver_next (full g) (Store DISCONNECTED) S.Done) (empty, empty) s
-      → StandsIn (LeavesTried (Ok x)) s
-  taken_ends at_once x is = record { at = disconnected closed_itself; is_one = tried_received x; stands = is }
-  taken_ends waited x is = record { at = disconnected closed_itself; is_one = tried_received x; stands = is }
-  taken_ends (swapped by) x is = record { at = disconnected closed_itself; is_one = tried_received x; stands = is }
-  taken_ends by_future x is = record { at = resolved closed_itself; is_one = tried_resolved x; stands = is }
-  taken_ends by_poll x is = record { at = resolved closed_itself; is_one = tried_resolved x; stands = is }
-
-  pub over_ends : {n : ℕ} {s : GroundState T W} → Came Met n s → n ≡ DISCONNECTED
-      → StandsIn (LeavesTried {T = T} (Err E.Disconnected)) s
-  over_ends {s} found e =
-      let closed = over found.is_so e in
-      record {
-        at = disconnected closed.0;
-        is_one = tried_closed closed.0;
-        stands = subst (λ at. Stands at s) closed.1
-            found.stands;
-      }
-
-  pub unsent_ends : {n : ℕ} {s : GroundState T W} → Came Met n s → ¬ (n ≡ MESSAGE) → ¬ (n ≡ DISCONNECTED)
-      → StandsIn (LeavesTried {T = T} (Err E.Empty)) s
-  unsent_ends found a b = record { at = found.at; is_one = unsent found.is_so a b; stands = found.stands }
-
-  module _ {result : Result T TryRecvError} {s : GroundState T W} (ends : StandsIn (LeavesTried result) s) where
-    pub tried_rests : IsPolled s
-    tried_rests = record { at = ends.at; is_one = tried_polled ends.is_one; stands = ends.stands }
-
-    pub tried_leaves : LeavesTried result (receiver_of s.log)
-    tried_leaves = subst (λ at. LeavesTried result at) (sym ends.stands.phase) ends.is_one
+  pub met_rests : {n : ℕ} {s : GroundState T W} → Came Met n s → ¬ (n ≡ MESSAGE) → IsPolled s
+  met_rests found a = record { at = found.at; is_one = met_polled found.is_so a; stands = found.stands }
 
   pub stays_registered : {b a : GroundState T W} (n : ℕ) → IsPolled b → ReceiverMakes Load n b a
       → Grows b.log a.log (worded Load n ∷ []) → ¬ (n ≡ MESSAGE) → ¬ (n ≡ DISCONNECTED)

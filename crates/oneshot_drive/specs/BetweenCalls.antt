@@ -93,22 +93,12 @@ is_open_at _ = false
 abbrev pub IsOpenAt : ReceiverAt → Type 0
 IsOpenAt at = IsTrue (is_open_at at)
 
--- How `try_recv` leaves a receiver: closed after the message or the disconnected error, open after `Empty`.
-pub data Leaves {T : Type 0} : Result T TryRecvError → ReceiverAt → Type 0 where
-  leaves_received : (x : T) → Leaves (Ok x) (disconnected closed_itself)
-  leaves_open : Leaves (Err E.Empty) (idle after_load)
-  leaves_closed : (c : Closing) → Leaves (Err E.Disconnected) (disconnected c)
-
--- A receive that blocks without a deadline leaves it closed.
-pub data LeavesClosed {T : Type 0} : Result T RecvError → ReceiverAt → Type 0 where
-  left_received : (x : T) → LeavesClosed (Ok x) (disconnected closed_itself)
-  left_closed : (e : RecvError) (c : Closing) → LeavesClosed (Err e) (disconnected c)
-
--- One with a deadline leaves it open after `Timeout`, otherwise closed.
-pub data LeavesTimed {T : Type 0} : Result T RecvTimeoutError → ReceiverAt → Type 0 where
-  timed_received : (x : T) → LeavesTimed (Ok x) (disconnected closed_itself)
-  timed_out : LeavesTimed (Err Timed.Timeout) (idle after_timeout)
-  timed_closed : (c : Closing) → LeavesTimed (Err Timed.Disconnected) (disconnected c)
+-- How a call leaves a receiver, by its reply: closed after the message or the disconnected error, otherwise open.
+pub data Leaves : Reply → ReceiverAt → Type 0 where
+  leaves_received : Leaves Message (disconnected closed_itself)
+  leaves_closed : (c : Closing) → Leaves Disconnected (disconnected c)
+  leaves_empty : Leaves Empty (idle after_load)
+  leaves_late : Leaves Timeout (idle after_timeout)
 
 -- The hand of a receiver that may block: it has a waker, unless the receiver is closed.
 abbrev pub IsReady : {W : Type 0} → Option W → ReceiverAt → Type 0

@@ -41,25 +41,25 @@ pub data Polled : ReceiverAt → Type 0 where
 abbrev pub IsPolled : {T W : Type 0} → GroundState T W → Type 0
 IsPolled = StandsIn Polled
 
--- How a poll leaves the future: closed after the message or the disconnected error, open after `Pending`.
-pub data LeavesPolled {T : Type 0} : Poll (Result T RecvError) → ReceiverAt → Type 0 where
-  leaves_received : (x : T) → LeavesPolled (Ready (Ok x)) (disconnected closed_itself)
-  leaves_resolved : (x : T) → LeavesPolled (Ready (Ok x)) (resolved closed_itself)
-  leaves_over : (e : RecvError) (c : Closing) → LeavesPolled (Ready (Err e)) (disconnected c)
-  leaves_gone : (e : RecvError) (c : Closing) → LeavesPolled (Ready (Err e)) (resolved c)
-  leaves_uncopied : LeavesPolled Pending (idle after_load)
-  leaves_waiting : LeavesPolled Pending (waits polled)
-  leaves_its_copy : LeavesPolled Pending (waits again)
-  leaves_claimed : LeavesPolled Pending claimed
+-- How a poll leaves the future, by its reply: closed after the message or the disconnected error, otherwise open.
+pub data LeavesPolled : Reply → ReceiverAt → Type 0 where
+  leaves_received : LeavesPolled R.Message (disconnected closed_itself)
+  leaves_resolved : LeavesPolled R.Message (resolved closed_itself)
+  leaves_over : (c : Closing) → LeavesPolled R.Disconnected (disconnected c)
+  leaves_gone : (c : Closing) → LeavesPolled R.Disconnected (resolved c)
+  leaves_uncopied : LeavesPolled R.Pending (idle after_load)
+  leaves_waiting : LeavesPolled R.Pending (waits polled)
+  leaves_its_copy : LeavesPolled R.Pending (waits again)
+  leaves_claimed : LeavesPolled R.Pending claimed
 
--- How its `try_recv` leaves it: closed after the message or the disconnected error, open after `Empty`.
-pub data LeavesTried {T : Type 0} : Result T TryRecvError → ReceiverAt → Type 0 where
-  tried_received : (x : T) → LeavesTried (Ok x) (disconnected closed_itself)
-  tried_resolved : (x : T) → LeavesTried (Ok x) (resolved closed_itself)
-  tried_closed : (c : Closing) → LeavesTried (Err E.Disconnected) (disconnected c)
-  tried_uncopied : LeavesTried (Err E.Empty) (idle after_load)
-  tried_its_copy : LeavesTried (Err E.Empty) (waits again)
-  tried_claimed : LeavesTried (Err E.Empty) claimed
+-- How its `try_recv` leaves it: likewise.
+pub data LeavesTried : Reply → ReceiverAt → Type 0 where
+  tried_received : LeavesTried R.Message (disconnected closed_itself)
+  tried_resolved : LeavesTried R.Message (resolved closed_itself)
+  tried_closed : (c : Closing) → LeavesTried R.Disconnected (disconnected c)
+  tried_uncopied : LeavesTried R.Empty (idle after_load)
+  tried_its_copy : LeavesTried R.Empty (waits again)
+  tried_claimed : LeavesTried R.Empty claimed
 
 -- a future whose copy of its task's waker is in the channel, unless the sender took it to wake the task
 abbrev pub is_registered : ReceiverAt → Bool
@@ -96,7 +96,7 @@ abbrev pub EndsPoll : {T W : Type 0} → Found → GroundState T W → Type 0
 EndsPoll F.Message s = (g : Got) × (word_of g ≡ MESSAGE) × Stands (full g) s
 EndsPoll F.Closed s = StandsIn IsClosedAt s
 EndsPoll F.Overwritten s = ⊥
-EndsPoll {T} F.Nothing s = StandsIn (LeavesPolled {T = T} Pending) s
+EndsPoll F.Nothing s = StandsIn (LeavesPolled R.Pending) s
 
 -- the waker's slot is empty, and with a copy in it the receiver may exchange EMPTY for RECEIVING
 pub record MayLeave {T W : Type 0} (s : GroundState T W) : Type 0 where

@@ -1,7 +1,7 @@
 //! The drivers of the receives that block.
 
-ghost use Rattle.std.specs.Prelude.{◌≡◌, Err, IsErr, IfOk, false, []};
-ghost use Rattle.oneshot_errors.specs.declared.recv_timeout.RecvTimeoutError.TheVariants.{Timeout, Disconnected};
+ghost use Rattle.std.specs.Prelude.{◌≡◌, Err, IfOk, false, []};
+ghost use Rattle.oneshot_errors.specs.declared.recv_timeout.RecvTimeoutError.TheVariants.{Timeout};
 ghost use Rattle.oneshot_machine.specs.declared.machine.receiver.ReceiverPos.TheVariants.{Ref};
 ghost use Rattle.oneshot_machine.specs.declared.machine.by_ref.RefPos.TheVariants.{StartLoad};
 ghost use Rattle.oneshot_machine.specs.declared.machine.receiver.ReceiverStart.TheVariants.{Recv, RecvRef, RecvDeadline, RecvTimeout};
@@ -10,7 +10,7 @@ ghost use Rattle.oneshot_machine.specs.Slots.{away};
 ghost use Rattle.oneshot_machine.specs.Receiver.{receiver_step, receiver_row};
 ghost use Rattle.oneshot_machine.specs.Runs.{Ran, ReceiverRan};
 ghost use Rattle.oneshot_machine.specs.Over.{FoundTheEnd};
-ghost use Rattle.oneshot_drive.specs.BetweenCalls.{AtRest, IsClosedAt, LeavesClosed, LeavesTimed, IsReady, recv_reply, timed_reply, received};
+ghost use Rattle.oneshot_drive.specs.BetweenCalls.{AtRest, IsReady, recv_reply, timed_reply, received};
 
 use crate::found::Found;
 use crate::ground::BlockGround;
@@ -37,8 +37,6 @@ pub fn recv_ref<T, W: Drop, G: BlockGround<T, W>>(
     ensures run { ReceiverRan RecvRef (G.state g.old).log (G.state g.new).log
         (recv_reply result) [] (received result) }
     ensures rests { AtRest (G.state g.new) }
-    ensures leaves { LeavesClosed result (receiver_of (G.state g.new).log) }
-    ensures stays { IsClosedAt (receiver_of (G.state g.old).log) → IsErr result }
     ensures has { G.has g.new hand.new }
     ensures given { IfOk result (λ message. G.gives g.old message) }
     ensures had { IfOk result (λ message. G.had g.new message) }
@@ -70,8 +68,6 @@ pub fn recv_deadline<T, W: Drop, G: BlockGround<T, W>>(
     ensures run { ReceiverRan RecvDeadline (G.state g.old).log (G.state g.new).log
         (timed_reply result) [] (received result) }
     ensures rests { AtRest (G.state g.new) }
-    ensures leaves { LeavesTimed result (receiver_of (G.state g.new).log) }
-    ensures stays { IsClosedAt (receiver_of (G.state g.old).log) → result ≡ Err Disconnected }
     ensures ready { IsReady hand.new (receiver_of (G.state g.new).log) }
     ensures has { G.has g.new hand.new }
     ensures given { IfOk result (λ message. G.gives g.old message) }
@@ -100,8 +96,6 @@ pub fn recv_timeout<T, W: Drop, G: BlockGround<T, W>>(
     ensures run { ReceiverRan (RecvTimeout representable) (G.state g.old).log (G.state g.new).log
         (timed_reply result) [] (received result) }
     ensures rests { AtRest (G.state g.new) }
-    ensures leaves { LeavesTimed result (receiver_of (G.state g.new).log) }
-    ensures stays { IsClosedAt (receiver_of (G.state g.old).log) → result ≡ Err Disconnected }
     ensures ready { IsReady hand.new (receiver_of (G.state g.new).log) }
     ensures has { G.has g.new hand.new }
     ensures endless { representable ≡ false → ¬ (result ≡ Err Timeout) }
@@ -127,8 +121,6 @@ fn receive<T, W: Drop, G: BlockGround<T, W>>(
     ensures run { Ran receiver_step receiver_row (Ref (StartLoad timed)) (G.state g.old).log (G.state g.new).log
         (timed_reply result) [] (received result) }
     ensures rests { AtRest (G.state g.new) }
-    ensures leaves { LeavesTimed result (receiver_of (G.state g.new).log) }
-    ensures stays { IsClosedAt (receiver_of (G.state g.old).log) → result ≡ Err Disconnected }
     ensures ready { IsReady hand.new (receiver_of (G.state g.new).log) }
     ensures has { G.has g.new hand.new }
     ensures endless { timed ≡ false → ¬ (result ≡ Err Timeout) }
@@ -168,7 +160,6 @@ pub fn recv<T, W: Drop, G: BlockGround<T, W>>(
         (recv_reply result) [] (received result) }
     ensures found { FoundTheEnd (receiver_of (G.state g.new).log) }
     ensures freed { (G.state g.new).message ≡ away }
-    ensures stays { IsClosedAt (receiver_of (G.state g.old).log) → IsErr result }
     ensures given { IfOk result (λ message. G.gives g.old message) }
     ensures had { IfOk result (λ message. G.had g.new message) }
     ensures keeps { G.keeps g.old g.new }

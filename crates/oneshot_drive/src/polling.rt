@@ -1,8 +1,7 @@
 //! The drivers of a future's calls: a poll, a receive that never blocks, and the drop.
 
-ghost use Rattle.std.specs.Prelude.{◌≡◌, [], Some, None, Err, IfOk};
+ghost use Rattle.std.specs.Prelude.{◌≡◌, [], Some, None, IfOk};
 ghost use Rattle.futures.specs.Poll.{IfReady, OnPending};
-ghost use Rattle.oneshot_errors.specs.declared.try_recv.TryRecvError.TheVariants as Tried;
 ghost use Rattle.oneshot_machine.specs.declared.machine.Reply.TheVariants as R;
 ghost use Rattle.oneshot_machine.specs.declared.machine.receiver.ReceiverPos.TheVariants.{Future, AsyncDrop};
 ghost use Rattle.oneshot_machine.specs.declared.machine.future.FuturePos.TheVariants.{PollLoad, PollCopy, PollWrite, AgainCopy};
@@ -18,9 +17,9 @@ ghost use Rattle.oneshot_machine.specs.TableRows.{Goes};
 ghost use Rattle.oneshot_drive.specs.declared.found.Found.TheVariants as F;
 ghost use Rattle.oneshot_drive.specs.Blocking.{Path};
 ghost use Rattle.oneshot_machine.specs.Over.{HasLeft};
-ghost use Rattle.oneshot_drive.specs.BetweenCalls.{IsClosedAt, try_recv_reply, received};
+ghost use Rattle.oneshot_drive.specs.BetweenCalls.{try_recv_reply, received};
 ghost use Rattle.oneshot_drive.specs.Grounds.{Stands, ReceiverAsks};
-ghost use Rattle.oneshot_drive.specs.Polls.{IsPolled, LeavesPolled, LeavesTried, StaysRegistered, poll_reply, poll_received, poll_end, EndsPoll, MayLeave, IsDisconnected, WroteCopies, WritesItsCopy};
+ghost use Rattle.oneshot_drive.specs.Polls.{IsPolled, StaysRegistered, poll_reply, poll_received, poll_end, EndsPoll, MayLeave, WroteCopies, WritesItsCopy};
 ghost use Rattle.oneshot_drive.specs.Polls.{HandsNoWaker, LeavesTask};
 
 use crate::found::Found;
@@ -40,8 +39,6 @@ pub fn poll<T, W: Drop, G: TaskGround<T, W>>(g: &mut G) -> Poll<Result<T, RecvEr
     ensures run { ReceiverRan C.Poll (G.state g.old).log (G.state g.new).log
         (poll_reply result) [] (poll_received result) }
     ensures rests { IsPolled (G.state g.new) }
-    ensures leaves { LeavesPolled result (receiver_of (G.state g.new).log) }
-    ensures stays { IsClosedAt (receiver_of (G.state g.old).log) → IsDisconnected result }
     ensures bounded { MakesWithin (receiver_bound C.Poll) (G.state g.old).log (G.state g.new).log }
     ensures own_copy { WritesItsCopy (G.state g.old).log (G.state g.new).log }
     ensures heard { OnPending result (G.heard g.new) }
@@ -66,7 +63,6 @@ fn meet<T, W: Drop, G: TaskGround<T, W>>(g: &mut G) -> Found
     requires { IsPolled (G.state g.old) }
     ensures path { Path (Future PollLoad) (poll_end result) (G.state g.old).log (G.state g.new).log }
     ensures ends { EndsPoll result (G.state g.new) }
-    ensures stays { IsClosedAt (receiver_of (G.state g.old).log) → result ≡ F.Closed }
     ensures heard { result ≡ F.Nothing → G.heard g.new }
     ensures task { result ≡ F.Nothing
         → LeavesTask (receiver_of (G.state g.new).log) (G.has g.new None) (G.woke_own g.new) }
@@ -174,8 +170,6 @@ pub fn async_try_recv<T, W, G: ReceiverGround<T, W>>(g: &mut G) -> Result<T, Try
     ensures run { ReceiverRan C.AsyncTryRecv (G.state g.old).log (G.state g.new).log
         (try_recv_reply result) [] (received result) }
     ensures rests { IsPolled (G.state g.new) }
-    ensures leaves { LeavesTried result (receiver_of (G.state g.new).log) }
-    ensures stays { IsClosedAt (receiver_of (G.state g.old).log) → result ≡ Err Tried.Disconnected }
     ensures bounded { MakesWithin (receiver_bound C.AsyncTryRecv) (G.state g.old).log (G.state g.new).log }
     ensures registered { StaysRegistered result (receiver_of (G.state g.old).log)
         (receiver_of (G.state g.new).log) }

@@ -1,14 +1,13 @@
 //! The drivers of the receiver's calls that never block.
 
-ghost use Rattle.std.specs.Prelude.{◌≡◌, Err, [], IfOk};
-ghost use Rattle.oneshot_errors.specs.declared.try_recv.TryRecvError.TheVariants.{Disconnected};
+ghost use Rattle.std.specs.Prelude.{[], IfOk};
 ghost use Rattle.oneshot_machine.specs.declared.machine.Reply.TheVariants as R;
 ghost use Rattle.oneshot_machine.specs.declared.machine.receiver.ReceiverStart.TheVariants.{TryRecv, Drop};
 ghost use Rattle.oneshot_machine.specs.Counts.{receiver_bound, MakesWithin};
 ghost use Rattle.oneshot_machine.specs.Logs.{receiver_of};
 ghost use Rattle.oneshot_machine.specs.Runs.{ReceiverRan};
 ghost use Rattle.oneshot_machine.specs.Over.{HasLeft};
-ghost use Rattle.oneshot_drive.specs.BetweenCalls.{AtRest, IsClosedAt, Leaves, try_recv_reply, received};
+ghost use Rattle.oneshot_drive.specs.BetweenCalls.{AtRest, try_recv_reply, received};
 
 use crate::ground::{DropGround, ReceiverGround};
 use oneshot_errors::TryRecvError;
@@ -24,8 +23,6 @@ pub fn try_recv<T, W, G: ReceiverGround<T, W>>(g: &mut G) -> Result<T, TryRecvEr
     ensures run { ReceiverRan TryRecv (G.state g.old).log (G.state g.new).log
         (try_recv_reply result) [] (received result) }
     ensures rests { AtRest (G.state g.new) }
-    ensures leaves { Leaves result (receiver_of (G.state g.new).log) }
-    ensures stays { IsClosedAt (receiver_of (G.state g.old).log) → result ≡ Err Disconnected }
     ensures bounded { MakesWithin (receiver_bound TryRecv) (G.state g.old).log (G.state g.new).log }
     ensures given { IfOk result (λ message. G.gives g.old message) }
     ensures had { IfOk result (λ message. G.had g.new message) }

@@ -8,7 +8,7 @@ ghost use Rattle.oneshot_machine.specs.Phases.{idle, after_load, waits, blocked,
 ghost use Rattle.oneshot_machine.specs.TableRows.{Goes};
 ghost use Rattle.oneshot_drive.specs.declared.found.Found.TheVariants as F;
 ghost use Rattle.oneshot_drive.specs.Blocking.{Path, ReceiveBy, load_of, write_of, wait_of, asked_of, ref_end, end_of, EndsAt};
-ghost use Rattle.oneshot_drive.specs.BetweenCalls.{AtRest, IsClosedAt, IsReady};
+ghost use Rattle.oneshot_drive.specs.BetweenCalls.{AtRest, IsReady};
 ghost use Rattle.oneshot_drive.specs.Grounds.{Stands};
 
 use crate::found::Found;
@@ -29,7 +29,6 @@ pub(crate) fn find<T, W: Drop, G: BlockGround<T, W>>(
     ensures path { (way : ReceiveBy timed)
         → Path (load_of way) (end_of way result) (G.state g.old).log (G.state g.new).log }
     ensures ends { EndsAt timed result (G.state g.new) }
-    ensures stays { IsClosedAt (receiver_of (G.state g.old).log) → result ≡ F.Closed }
     ensures hand { result ≡ F.Nothing → ¬ (hand.new ≡ None) }
     ensures has { G.has g.new hand.new }
     ensures keeps { G.keeps g.old g.new }

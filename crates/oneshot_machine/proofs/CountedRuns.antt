@@ -59,14 +59,13 @@ module _ {P : Type 0} (step : P → Step) (rows : P → Rows P) (most : P → Op
     Afforded reply made = made ≤ total
 
     after_step : (op : Option Op) (seen : Seen) (made : ℕ)
-        → moved_by step rows one_more Affords Afforded op seen made ≡ made + cost op
+        → moved_by one_more op seen made ≡ made + cost op
     after_step None seen made = omega arith
     after_step (Some op) seen made = refl
 
     paid : (all_pay : (p : P) → pays p ≡ true) (p : P) (made : ℕ) (seen : Seen) (o : Outcome P) → Affords p made
         → row_for seen (rows p) ≡ Some o
-        → Leads step rows one_more Affords Afforded o
-        (moved_by step rows one_more Affords Afforded (op_of (step p)) seen made)
+        → Leads Affords Afforded o (moved_by one_more (op_of (step p)) seen made)
     paid all_pay p made seen (Goes next) affords row =
         let pays =
         row_passes (row_pays p affords.0) (rows p) seen (Goes next)
@@ -85,7 +84,7 @@ module _ {P : Type 0} (step : P → Step) (rows : P → Rows P) (most : P → Op
   pub at_most : ((p : P) → pays p ≡ true) → {T W : Type 0} (p : P) (xs : List (Event T W)) (r : Reply) (limit : ℕ)
       → most p ≡ Some limit → Run step (λ p seen. row_for seen (rows p)) p xs r → length (words xs) ≤ limit
   at_most all_pay p xs r limit is run =
-      let within = by_rows step rows one_more (Affords limit) (Afforded limit) (paid limit all_pay) p 0 xs r
+      let within = by_rows (Affords limit) (Afforded limit) step rows one_more (paid limit all_pay) p 0 xs r
       (limit, is, omega arith) run in
       let count = counted 0 (words xs) in
       omega (arith, within, count)

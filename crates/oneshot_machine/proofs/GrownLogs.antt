@@ -12,10 +12,14 @@ use Rattle.oneshot_machine.specs.Phases.{fresh, sender_next, sender_at, first, r
 use Rattle.oneshot_machine.specs.Standing.{Table, moved, standing_from, standing}
 use Rattle.oneshot_machine.specs.Logs.{Event, worded, noted, words, kept, Log, Grows, sender_of, receiver_of}
 
+pub phase_from-append : {At : Type 0} (next : At → Op → Seen → At) (at : At) (xs ys : List Noted)
+    → phase_from next at (xs ++ ys) ≡ phase_from next (phase_from next at xs) ys
+phase_from-append next at [] ys = refl
+phase_from-append next at (x ∷ xs) ys = phase_from-append next (next at x.0 x.1) xs ys
+
 pub phase_from-snoc : {At : Type 0} (next : At → Op → Seen → At) (at : At) (xs : List Noted) (x : Noted)
     → phase_from next at (xs ++ x ∷ []) ≡ next (phase_from next at xs) x.0 x.1
-phase_from-snoc next at [] x = refl
-phase_from-snoc next at (y ∷ xs) x = phase_from-snoc next (next at y.0 y.1) xs x
+phase_from-snoc next at xs x = phase_from-append next at xs (x ∷ [])
 
 -- where an end may be after one more operation
 standing_from-snoc : {P : Type 0} (t : Table P) (ps : List P) (xs : List Noted) (x : Noted)

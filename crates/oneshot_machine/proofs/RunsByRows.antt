@@ -15,6 +15,7 @@ use Rattle.oneshot_machine.specs.Noted.{Noted, op_of}
 use Rattle.oneshot_machine.specs.Phases.{Row, is_row_for, next_by, phase_from}
 use Rattle.oneshot_machine.specs.Runs.{Run, last, more}
 use Rattle.oneshot_machine.specs.TableRows.{Outcome, Goes, Answers, Rows, row_for, is_same_seen}
+use Rattle.oneshot_machine.proofs.EachPhase.{if_so}
 
 pub seens_are_same : (a b : Seen) → is_same_seen a b ≡ true → a ≡ b
 seens_are_same Done Done e = refl
@@ -44,41 +45,70 @@ module _ {P : Type 0} where
           subst (λ (z : Seen × Outcome P). test z ≡ true) (λ i. (seens_are_same row.0 seen same i, leads i)) passes
       by false same passes found rest = rest found
 
--- `S` is what is kept count of, and `next` its value after an operation. `Stands` holds at a position with it, and
--- `Ends` once the call has replied.
-module _ {P S : Type 0} (step : P → Step) (rows : P → Rows P) (next : S → Op → Seen → S)
-    (Stands : P → S → Type 0) (Ends : Reply → S → Type 0) where
+-- `S` is what is kept count of, and `next` its value after an operation.
+module _ {S : Type 0} (next : S → Op → Seen → S) where
   -- its value after a step
   abbrev pub moved_by : Option Op → Seen → S → S
   moved_by None seen s = s
   moved_by (Some op) seen s = next s op seen
-
-  abbrev pub Leads : Outcome P → S → Type 0
-  Leads (Goes p) s = Stands p s
-  Leads (Answers r) s = Ends r s
 
   by_op : (op : Option Op) (seen : Seen) (s : S) (ns : List Noted)
       → phase_from next s (cons_option (option_map (λ op. (op, seen)) op) ns) ≡ phase_from next (moved_by op seen s) ns
   by_op None seen s ns = refl
   by_op (Some op) seen s ns = refl
 
-  module _ {T W : Type 0} where
-    by_step : (p : P) (s : S) (x : Event T W) (xs : List (Event T W)) → x.step ≡ step p
-        → phase_from next s (words (x ∷ xs)) ≡ phase_from next (moved_by (op_of (step p)) x.seen s) (words xs)
-    by_step p s x xs is =
-        by_op (op_of x.step) x.seen s (words xs)
-        ∙ ap (λ step. phase_from next (moved_by (op_of step) x.seen s) (words xs)) is
+  by_step : {P T W : Type 0} (step : P → Step) (p : P) (s : S) (x : Event T W) (xs : List (Event T W))
+      → x.step ≡ step p
+      → phase_from next s (words (x ∷ xs)) ≡ phase_from next (moved_by (op_of (step p)) x.seen s) (words xs)
+  by_step step p s x xs is =
+      by_op (op_of x.step) x.seen s (words xs)
+      ∙ ap (λ step. phase_from next (moved_by (op_of step) x.seen s) (words xs)) is
 
+-- `Stands` holds at a position with a value, and `Ends` once the call has replied.
+module _ {P S : Type 0} (Stands : P → S → Type 0) (Ends : Reply → S → Type 0) where
+  abbrev pub Leads : Outcome P → S → Type 0
+  Leads (Goes p) s = Stands p s
+  Leads (Answers r) s = Ends r s
+
+  module _ (step : P → Step) (rows : P → Rows P) (next : S → Op → Seen → S) where
     -- if each row carries it on, so does a run
-    pub by_rows : ((p : P) (s : S) (seen : Seen) (o : Outcome P) → Stands p s → row_for seen (rows p) ≡ Some o
-        → Leads o (moved_by (op_of (step p)) seen s))
+    pub by_rows : {T W : Type 0}
+        → ((p : P) (s : S) (seen : Seen) (o : Outcome P) → Stands p s → row_for seen (rows p) ≡ Some o
+        → Leads o (moved_by next (op_of (step p)) seen s))
         → (p : P) (s : S) (xs : List (Event T W)) (r : Reply) → Stands p s
         → Run step (λ p seen. row_for seen (rows p)) p xs r → Ends r (phase_from next s (words xs))
     by_rows each p s _ r stands (last x is leads) =
-        subst (Ends r) (sym (by_step p s x [] is)) (each p s x.seen (Answers r) stands leads)
+        subst (Ends r) (sym (by_step next step p s x [] is)) (each p s x.seen (Answers r) stands leads)
     by_rows each p s _ r stands (more after x xs is leads rest) =
-        subst (Ends r) (sym (by_step p s x xs is))
-        (by_rows each after (moved_by (op_of (step p)) x.seen s) xs r (each p s x.seen (Goes after) stands leads) rest)
+        subst (Ends r) (sym (by_step next step p s x xs is))
+        (by_rows each after (moved_by next (op_of (step p)) x.seen s) xs r
+        (each p s x.seen (Goes after) stands leads) rest)
+
+-- The same of tests, which the checker computes for each position with each value.
+module _ {P S : Type 0} (stands : P → S → Bool) (ends : Reply → S → Bool) (step : P → Step) (rows : P → Rows P)
+    (next : S → Op → Seen → S) where
+  abbrev leads : Outcome P → S → Bool
+  leads (Goes p) s = stands p s
+  leads (Answers r) s = ends r s
+
+  leads_so : (o : Outcome P) (s : S) → leads o s ≡ true → Leads (λ p s. stands p s ≡ true) (λ r s. ends r s ≡ true) o s
+  leads_so (Goes p) s e = e
+  leads_so (Answers r) s e = e
+
+  abbrev row_carries : P → S → Seen × Outcome P → Bool
+  row_carries p s (seen, o) = leads o (moved_by next (op_of (step p)) seen s)
+
+  abbrev pub carries : P → S → Bool
+  carries p s = if stands p s then list_all (row_carries p s) (rows p) else true
+
+  pub by_tests : {T W : Type 0} → ((p : P) (s : S) → carries p s ≡ true) → (p : P) (s : S) (xs : List (Event T W))
+      (r : Reply) → stands p s ≡ true → Run step (λ p seen. row_for seen (rows p)) p xs r
+      → ends r (phase_from next s (words xs)) ≡ true
+  by_tests all =
+      by_rows (λ p s. stands p s ≡ true) (λ r s. ends r s ≡ true) step rows next
+      (λ p s seen o is row. leads_so o (moved_by next (op_of (step p)) seen s)
+      (row_passes (row_carries p s) (rows p) seen o
+      (if_so (stands p s) (list_all (row_carries p s) (rows p)) (all p s) is) row))
 
 -- a test that all rows' next phases pass, and the phase without a row, the phase after an operation passes
 pub next_passes : {At : Type 0} (test : At → Bool) (nowhere : At) (rows : List (Row At)) (op : Op) (seen : Seen)

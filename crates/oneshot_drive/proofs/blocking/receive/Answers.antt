@@ -2,7 +2,7 @@
 use Rattle.oneshot_drive.proofs.Names.{rules, refl, sym, ◌∙◌, Store, receiver_of, disconnected, closed_itself, filled, empty, StandsWith, by_ref, is_in, DISCONNECTED}
 use Rattle.oneshot_drive.proofs.AfterOperations.{asks, took_message}
 use Rattle.oneshot_drive.proofs.RestLoads.{rests_over}
-use Rattle.oneshot_drive.proofs.Receives.{full_asks, ended_full, full_ran, full_leaves, shut, shut_ran, over_leaves, out_rests, out_leaves, closed_ready}
+use Rattle.oneshot_drive.proofs.Receives.{full_asks, ended_full, full_ran, shut, shut_ran, out_rests, closed_ready}
 use Rattle.oneshot_drive.proofs.Stretches.{whole}
 use Rattle.oneshot_drive.proofs.blocking.receive.Given as given
 use Rattle.oneshot_drive.proofs.blocking.receive.Goals as goal
@@ -31,8 +31,6 @@ returns-in-Message g c =
           (rw c.in-Message.is at (c.find.ensures.path (by_ref c.args.timed))) c.store.ensures.log
           c.take_message.ensures.log;
       rests = rests_over over;
-      leaves = full_leaves c.take_message.result over.phase;
-      stays = λ is_closed. let e = sym c.in-Message.is ∙ c.find.ensures.stays is_closed in absurd (cc);
       ready = closed_ready closed_itself over.phase;
       endless = search rules;
       given = gives _ _ _ c.find.ensures.keeps (gives _ _ _ c.store.ensures.keeps c.take_message.ensures.given);
@@ -48,8 +46,6 @@ returns-in-Closed g c =
     record {
       run = whole (rw c.in-Closed.is at (c.find.ensures.path (by_ref c.args.timed)));
       rests = rests_over ends.1;
-      leaves = over_leaves ends.1;
-      stays = λ is_closed. refl;
       ready = closed_ready ends.0 ends.1.phase;
       endless = search rules;
       given = search rules;
@@ -72,8 +68,6 @@ returns-in-Overwritten g c =
           (rw c.in-Overwritten.is at (c.find.ensures.path (by_ref c.args.timed)))
           c.store-in-Overwritten.ensures.log;
       rests = rests_over over;
-      leaves = over_leaves over;
-      stays = λ is_closed. refl;
       ready = closed_ready closed_itself over.phase;
       endless = search rules;
       given = search rules;
@@ -88,8 +82,6 @@ returns-in-Nothing g c =
     record {
       run = whole (rw c.in-Nothing.is at (c.find.ensures.path (by_ref c.args.timed)));
       rests = out_rests ends.1;
-      leaves = out_leaves ends.1.phase;
-      stays = λ is_closed. let e = sym c.in-Nothing.is ∙ c.find.ensures.stays is_closed in absurd (cc);
       ready = λ none. absurd (c.find.ensures.hand c.in-Nothing.is none);
       endless = λ untimed out. let timed = ends.0 in absurd (cc);
       given = search rules;

@@ -20,7 +20,6 @@ returns-in_default g c =
       found = stays_at FoundTheEnd (did Steps.Free ∷ []) refl c.free.ensures.log
           (found c.find.result (g.G.ReceiverGround.state c.find.new.g) c.find.ensures.ends);
       freed = c.free.ensures.message;
-      stays = λ _. refl;
       given = tt;
       had = tt;
       keeps = g.G.ReceiverGround.keeps_on _ _ _ c.find.ensures.keeps c.free.ensures.keeps;

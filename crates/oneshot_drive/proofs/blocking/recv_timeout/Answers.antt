@@ -1,6 +1,6 @@
 -- Proofs of the goals that `recv_timeout` leaves.
 use Rattle.oneshot_drive.proofs.Names.{IfOk-weaker}
-use Rattle.oneshot_drive.proofs.Receives.{clock_rests, clock_ready, clock_closed, sum_ran}
+use Rattle.oneshot_drive.proofs.Receives.{clock_rests, clock_ready, sum_ran}
 use Rattle.oneshot_drive.proofs.blocking.recv_timeout.Goals as goal
 
 pub receive-requires-clause-rests : goal.receive-requires-clause-rests
@@ -12,9 +12,6 @@ receive-requires-clause-ready g c = clock_ready c.requires.ready c.over.result c
 
 pub returns-clause-run : goal.returns-clause-run
 returns-clause-run g c = sum_ran c.over.result c.over.ensures.log c.receive.ensures.run
-
-pub returns-clause-stays : goal.returns-clause-stays
-returns-clause-stays g c is_closed = c.receive.ensures.stays (clock_closed c.over.result c.over.ensures.log is_closed)
 
 pub returns-clause-given : goal.returns-clause-given
 returns-clause-given g c =

@@ -1,10 +1,9 @@
 -- Proofs of the goals that `async_try_recv` leaves.
-use Rattle.oneshot_drive.proofs.Names.{rules, Ok, refl, StandsIn, LeavesTried, is_in, async_try_recv_few, MESSAGE}
+use Rattle.oneshot_drive.proofs.Names.{rules, IsPolled, is_in, async_try_recv_few}
 use Rattle.oneshot_drive.proofs.AfterOperations.{Came, took_message}
-use Rattle.oneshot_drive.proofs.RestLoads.{never, closed_finds}
 use Rattle.oneshot_drive.proofs.Receives.{full_asks, closed_over}
-use Rattle.oneshot_drive.proofs.PollLoads.{Met, meet_asks, met, met_full, met_none}
-use Rattle.oneshot_drive.proofs.TriedFutures.{taken_ends, over_ends, unsent_ends, tried_rests, tried_leaves, stays_registered, taken_ran, over_ran, unsent_ran, load_alone, words_alone}
+use Rattle.oneshot_drive.proofs.PollLoads.{Met, meet_asks, met, met_full, met_none, taken_rests}
+use Rattle.oneshot_drive.proofs.TriedFutures.{met_rests, stays_registered, taken_ran, over_ran, unsent_ran, load_alone, words_alone}
 use Rattle.oneshot_drive.proofs.polling.async_try_recv.Given as given
 use Rattle.oneshot_drive.proofs.polling.async_try_recv.Goals as goal
 use Rattle.oneshot_drive.proofs.polling.async_try_recv.Goals.{After-load, After-take_message}
@@ -25,25 +24,21 @@ take_message-requires g c =
     is_in (closed_over c.store.result full.2 c.store.ensures.finds c.store.ensures.log).message
 
 -- it took the message that its load met
-taken : (g : given.Over) (c : After-take_message g)
-    → StandsIn (LeavesTried (Ok c.take_message.result)) (g.G.ReceiverGround.state c.take_message.new.self)
+taken : (g : given.Over) (c : After-take_message g) → IsPolled (g.G.ReceiverGround.state c.take_message.new.self)
 taken g c =
     let full = met_full (met c.load.result c.requires c.load.ensures.finds c.load.ensures.log) c.in-4.is in
-    taken_ends full.0 c.take_message.result
+    taken_rests full.0
     (took_message (closed_over c.store.result full.2 c.store.ensures.finds c.store.ensures.log)
     c.take_message.ensures.log c.take_message.ensures.message c.take_message.ensures.waker)
 
 pub returns-in-4 : goal.returns-in-4
 returns-in-4 g c =
-    let ends = taken g (goal.at.returns-in-4 g c).After-take_message in
     let run = taken_ran c.load.result c.store.result c.take_message.result c.in-4.is c.load.ensures.log
     c.store.ensures.log c.take_message.ensures.log in
     let kept = g.G.ReceiverGround.keeps_on _ _ _ c.load.ensures.keeps c.store.ensures.keeps in
     record {
       run = run;
-      rests = tried_rests ends;
-      leaves = tried_leaves ends;
-      stays = λ is_closed. never MESSAGE refl c.in-4.is is_closed c.load.ensures.finds;
+      rests = taken g (goal.at.returns-in-4 g c).After-take_message;
       bounded = async_try_recv_few run;
       registered = search rules;
       wakers = words_alone c.load.result c.store.result c.take_message.result c.load.ensures.log c.store.ensures.log
@@ -55,13 +50,10 @@ returns-in-4 g c =
 
 pub returns-in-2 : goal.returns-in-2
 returns-in-2 g c =
-    let ends = over_ends (loaded g (goal.at.returns-in-2 g c).After-load) c.in-2.is in
     let run = over_ran c.load.result c.in-2.is c.load.ensures.log in
     record {
       run = run;
-      rests = tried_rests ends;
-      leaves = tried_leaves ends;
-      stays = λ is_closed. refl;
+      rests = met_rests (loaded g (goal.at.returns-in-2 g c).After-load) (search rules);
       bounded = async_try_recv_few run;
       registered = search rules;
       wakers = load_alone c.load.result c.load.ensures.log;
@@ -73,13 +65,10 @@ returns-in-2 g c =
 pub returns-in-0 : goal.returns-in-0
 returns-in-0 g c =
     let found = loaded g (goal.at.returns-in-0 g c).After-load in
-    let ends = unsent_ends found (search rules) (search rules) in
     let run = unsent_ran c.load.result found (search rules) (search rules) c.load.ensures.log in
     record {
       run = run;
-      rests = tried_rests ends;
-      leaves = tried_leaves ends;
-      stays = λ is_closed. let closed = closed_finds is_closed c.load.ensures.finds in absurd (search rules);
+      rests = met_rests found (search rules);
       bounded = async_try_recv_few run;
       registered = λ unsent. stays_registered c.load.result c.requires c.load.ensures.finds c.load.ensures.log
           (search rules) (search rules);

@@ -1,6 +1,5 @@
 -- Proofs of the goals that `meet` leaves.
 use Rattle.oneshot_drive.proofs.Names.{rules, refl, inr, leaves_claimed, RECEIVING, UNPARKING, DISCONNECTED, EMPTY, MESSAGE}
-use Rattle.oneshot_drive.proofs.RestLoads.{never}
 use Rattle.oneshot_drive.proofs.PollLoads.{meet_asks, met, met_open, met_copied, met_claimed, met_full, met_over, met_none, met_path, met_own, loaded_to}
 use Rattle.oneshot_drive.proofs.LeftCopies.{owned_ends}
 use Rattle.oneshot_drive.proofs.OwnCopies.{wrote_none, on_word, on_own}
@@ -16,9 +15,6 @@ leave_first-requires g c =
 pub returns-in-3-clause-path : goal.returns-in-3-clause-path
 returns-in-3-clause-path g c = met_path c.load.result EMPTY refl c.in-3.is c.load.ensures.log c.leave_first.ensures.path
 
-pub returns-in-3-clause-stays : goal.returns-in-3-clause-stays
-returns-in-3-clause-stays g c is_closed = never EMPTY refl c.in-3.is is_closed c.load.ensures.finds
-
 pub leave_again-requires : goal.leave_again-requires
 leave_again-requires g c =
     met_copied (met c.load.result c.requires c.load.ensures.finds c.load.ensures.log) c.in-0.is
@@ -27,18 +23,12 @@ pub returns-in-0-clause-path : goal.returns-in-0-clause-path
 returns-in-0-clause-path g c =
     met_path c.load.result RECEIVING refl c.in-0.is c.load.ensures.log c.leave_again.ensures.path
 
-pub returns-in-0-clause-stays : goal.returns-in-0-clause-stays
-returns-in-0-clause-stays g c is_closed = never RECEIVING refl c.in-0.is is_closed c.load.ensures.finds
-
 pub returns-in-4-clause-path : goal.returns-in-4-clause-path
 returns-in-4-clause-path g c = loaded_to _ c.load.result MESSAGE refl refl c.in-4.is c.load.ensures.log
 
 pub returns-in-4-clause-ends : goal.returns-in-4-clause-ends
 returns-in-4-clause-ends g c =
     met_full (met c.load.result c.requires c.load.ensures.finds c.load.ensures.log) c.in-4.is
-
-pub returns-in-4-clause-stays : goal.returns-in-4-clause-stays
-returns-in-4-clause-stays g c is_closed = never MESSAGE refl c.in-4.is is_closed c.load.ensures.finds
 
 pub returns-in-1-clause-path : goal.returns-in-1-clause-path
 returns-in-1-clause-path g c = met_own c.load.result c.in-1.is c.load.ensures.log c.wake_own.ensures.log
@@ -47,9 +37,6 @@ pub returns-in-1-clause-ends : goal.returns-in-1-clause-ends
 returns-in-1-clause-ends g c =
     owned_ends leaves_claimed (met_claimed (met c.load.result c.requires c.load.ensures.finds c.load.ensures.log)
     c.in-1.is) c.wake_own.ensures.log c.wake_own.ensures.message c.wake_own.ensures.waker
-
-pub returns-in-1-clause-stays : goal.returns-in-1-clause-stays
-returns-in-1-clause-stays g c is_closed = never UNPARKING refl c.in-1.is is_closed c.load.ensures.finds
 
 pub returns-in-2-clause-path : goal.returns-in-2-clause-path
 returns-in-2-clause-path g c = loaded_to _ c.load.result DISCONNECTED refl refl c.in-2.is c.load.ensures.log

@@ -1,9 +1,9 @@
 -- Proofs of the goals that `poll` leaves.
-use Rattle.oneshot_drive.proofs.Names.{rules, sym, ◌∙◌, is_disconnected, is_in, poll_few}
+use Rattle.oneshot_drive.proofs.Names.{rules, is_in, poll_few}
 use Rattle.oneshot_drive.proofs.AfterOperations.{took_message}
 use Rattle.oneshot_drive.proofs.Stretches.{whole}
 use Rattle.oneshot_drive.proofs.Receives.{full_asks, closed_over}
-use Rattle.oneshot_drive.proofs.PollLoads.{taken_rests, taken_leaves, poll_ran, pending_rests, pending_leaves, poll_gone, gone_rests, gone_leaves}
+use Rattle.oneshot_drive.proofs.PollLoads.{taken_rests, poll_ran, pending_rests, poll_gone, gone_rests}
 use Rattle.oneshot_drive.proofs.OwnCopies.{then_word, then_took}
 use Rattle.oneshot_drive.proofs.polling.poll.Goals as goal
 
@@ -26,8 +26,6 @@ returns-in-Message g c =
     record {
       run = run;
       rests = taken_rests ends.0 over;
-      leaves = taken_leaves ends.0 c.take_message.result over.phase;
-      stays = λ is_closed. let e = sym c.in-Message.is ∙ c.meet.ensures.stays is_closed in absurd (cc);
       bounded = poll_few run;
       own_copy = then_took c.take_message.result
           (then_word _ c.store.result c.meet.ensures.own c.store.ensures.log) c.take_message.ensures.log;
@@ -45,8 +43,6 @@ returns-in-Nothing g c =
     record {
       run = run;
       rests = pending_rests ends;
-      leaves = pending_leaves ends;
-      stays = λ is_closed. let e = sym c.in-Nothing.is ∙ c.meet.ensures.stays is_closed in absurd (cc);
       bounded = poll_few run;
       own_copy = c.meet.ensures.own;
       heard = c.meet.ensures.heard c.in-Nothing.is;
@@ -64,8 +60,6 @@ returns-in-Closed g c =
     record {
       run = run;
       rests = gone_rests over.1;
-      leaves = gone_leaves _ over.1;
-      stays = λ is_closed. is_disconnected _;
       bounded = poll_few run;
       own_copy = c.meet.ensures.own;
       heard = search rules;

@@ -1,8 +1,8 @@
 -- Proofs of the goals that `try_recv` leaves.
-use Rattle.oneshot_drive.proofs.Names.{rules, refl, Store, is_in, try_recv_few, DISCONNECTED, EMPTY, MESSAGE}
+use Rattle.oneshot_drive.proofs.Names.{rules, refl, Store, is_in, try_recv_few, DISCONNECTED}
 use Rattle.oneshot_drive.proofs.AfterOperations.{Came, asks, took_message}
-use Rattle.oneshot_drive.proofs.RestLoads.{Looked, load_asks, loaded, loaded_full, loaded_open, loaded_closed, loaded_none, closed, rests_over, rests_here, took_leaves, open_leaves, closed_leaves}
-use Rattle.oneshot_drive.proofs.RestLoads.{took_ran, empty_ran, gone_ran, never}
+use Rattle.oneshot_drive.proofs.RestLoads.{Looked, load_asks, loaded, loaded_full, loaded_open, loaded_closed, loaded_none, closed, rests_over, rests_here}
+use Rattle.oneshot_drive.proofs.RestLoads.{took_ran, empty_ran, gone_ran}
 use Rattle.oneshot_drive.proofs.receiver.try_recv.Given as given
 use Rattle.oneshot_drive.proofs.receiver.try_recv.Goals as goal
 use Rattle.oneshot_drive.proofs.receiver.try_recv.Goals.{After-load}
@@ -34,8 +34,6 @@ returns-in-4 g c =
     record {
       run = run;
       rests = rests_over over;
-      leaves = took_leaves c.take_message.result over;
-      stays = λ is_closed. never MESSAGE refl c.in-4.is is_closed c.load.ensures.finds;
       bounded = try_recv_few run;
       given = g.G.ReceiverGround.gives_on _ _ _ kept c.take_message.ensures.given;
       had = c.take_message.ensures.had;
@@ -49,8 +47,6 @@ returns-in-3 g c =
     record {
       run = run;
       rests = rests_here here;
-      leaves = open_leaves here;
-      stays = λ is_closed. never EMPTY refl c.in-3.is is_closed c.load.ensures.finds;
       bounded = try_recv_few run;
       given = search rules;
       had = search rules;
@@ -64,8 +60,6 @@ returns-in-2 g c =
     record {
       run = run;
       rests = rests_over over.1;
-      leaves = closed_leaves over.1;
-      stays = λ is_closed. refl;
       bounded = try_recv_few run;
       given = search rules;
       had = search rules;

@@ -1,6 +1,6 @@
 -- Proofs of the goals that `find` leaves.
-use Rattle.oneshot_drive.proofs.Names.{rules, refl, at_once, EMPTY, MESSAGE}
-use Rattle.oneshot_drive.proofs.RestLoads.{load_asks, loaded, loaded_full, loaded_open, loaded_closed, loaded_none, never}
+use Rattle.oneshot_drive.proofs.Names.{rules, refl, at_once}
+use Rattle.oneshot_drive.proofs.RestLoads.{load_asks, loaded, loaded_full, loaded_open, loaded_closed, loaded_none}
 use Rattle.oneshot_drive.proofs.StoredWaker.{full_at_once, found_none, over_at_once, ready_waker}
 use Rattle.oneshot_drive.proofs.waiting.find.Goals as goal
 
@@ -13,7 +13,6 @@ returns-in-4 g c =
     record {
       path = λ way. full_at_once way c.load.result c.in-4.is c.load.ensures.log;
       ends = (at_once, refl, full);
-      stays = λ is_closed. never MESSAGE refl c.in-4.is is_closed c.load.ensures.finds;
       hand = search rules;
       has = g.met.G.BlockGround.has_on _ _ _ c.load.ensures.keeps c.requires.has;
       keeps = c.load.ensures.keeps;
@@ -31,9 +30,6 @@ pub returns-in-3-clause-path : goal.returns-in-3-clause-path
 returns-in-3-clause-path g c way =
     found_none way c.load.result c.in-3.is c.load.ensures.log (c.store_and_wait.ensures.path way)
 
-pub returns-in-3-clause-stays : goal.returns-in-3-clause-stays
-returns-in-3-clause-stays g c is_closed = never EMPTY refl c.in-3.is is_closed c.load.ensures.finds
-
 pub returns-in-3-clause-keeps : goal.returns-in-3-clause-keeps
 returns-in-3-clause-keeps g c =
     g.G.ReceiverGround.keeps_on _ _ _ c.load.ensures.keeps c.store_and_wait.ensures.keeps
@@ -43,7 +39,6 @@ returns-in-2 g c =
     record {
       path = λ way. over_at_once way c.load.result c.in-2.is c.load.ensures.log;
       ends = loaded_closed (loaded c.load.result c.requires.rests c.load.ensures.finds c.load.ensures.log) c.in-2.is;
-      stays = λ is_closed. refl;
       hand = search rules;
       has = g.met.G.BlockGround.has_on _ _ _ c.load.ensures.keeps c.requires.has;
       keeps = c.load.ensures.keeps;

@@ -1,0 +1,212 @@
+-- The law that leads from the positions of a run to the phase after it: the reply of a call shows how it leaves its
+-- receiver or its future. Each operation of the run moves the phase by the phases' table.
+use Rattle.std.proofs.Common.{◌≡◌, Bool, true, false, List, ◌++◌, Result, Ok, Err, refl, sym, ap, ◌∙◌, subst}
+use Rattle.std.proofs.lemmas.Bool.{and_parts}
+use Rattle.std.specs.Prelude.{◌&&◌, ◌||◌}
+use Rattle.std.specs.List.{list_all}
+use Rattle.futures.specs.declared.task.Poll.{Poll}
+use Rattle.futures.specs.declared.task.Poll.TheVariants.{Ready, Pending}
+use Rattle.oneshot_errors.specs.declared.recv.RecvError.{RecvError}
+use Rattle.oneshot_errors.specs.declared.recv_timeout.RecvTimeoutError.{RecvTimeoutError}
+use Rattle.oneshot_errors.specs.declared.recv_timeout.RecvTimeoutError.TheVariants as Timed
+use Rattle.oneshot_errors.specs.declared.try_recv.TryRecvError.{TryRecvError}
+use Rattle.oneshot_errors.specs.declared.try_recv.TryRecvError.TheVariants as Tried
+use Rattle.oneshot_machine.specs.declared.machine.Reply.{Reply}
+use Rattle.oneshot_machine.specs.declared.machine.Reply.TheVariants as R
+use Rattle.oneshot_machine.specs.declared.machine.receiver.ReceiverStart.{ReceiverStart}
+use Rattle.oneshot_machine.specs.declared.machine.receiver.ReceiverPos.{ReceiverPos}
+use Rattle.oneshot_machine.specs.declared.machine.receiver.ReceiverPos.TheVariants as P
+use Rattle.oneshot_machine.specs.declared.machine.try_recv.TryPos.TheVariants.{TryLoad, Take, CloseOnly}
+use Rattle.oneshot_machine.specs.declared.machine.by_ref.RefPos.TheVariants.{StartLoad, StartSwap, BackClosed}
+use Rattle.oneshot_machine.specs.declared.machine.timed.TimedPos.TheVariants.{SumClock, Clock, EndBack}
+use Rattle.oneshot_machine.specs.declared.machine.value.ValuePos.TheVariants.{RecvLoad, RecvFreeGone}
+use Rattle.oneshot_machine.specs.declared.machine.future.FuturePos.TheVariants.{IntoFuture, PollLoad, PollCopy, PollBackClosed, AgainCopy, PollOwn, AsyncTryLoad}
+use Rattle.oneshot_machine.specs.Logs.{Event, words}
+use Rattle.oneshot_machine.specs.Noted.{Noted}
+use Rattle.oneshot_machine.specs.Phases.{ReceiverAt, first, idle, after_load, after_timeout, waits, polled, claimed, overdue, unclosed, disconnected, closed_itself, resolved, no_receiver}
+use Rattle.oneshot_machine.specs.Phases.{receiver_at, receiver_next}
+use Rattle.oneshot_machine.specs.Receiver.{receiver_start, receiver_step, receiver_rows, receiver_row}
+use Rattle.oneshot_machine.specs.Runs.{Run}
+use Rattle.oneshot_machine.proofs.EachPhase.{receivers, at_each_receiver}
+use Rattle.oneshot_machine.proofs.GrownLogs.{phase_from-append}
+use Rattle.oneshot_machine.proofs.RunsByRows.{carries, by_tests}
+use Rattle.oneshot_drive.specs.BetweenCalls.{Rests, rests_new, rests_open, rests_closed, is_closed_at, IsClosedAt, Leaves, leaves_received, leaves_closed, leaves_empty, leaves_late, try_recv_reply}
+use Rattle.oneshot_drive.specs.Polls.{Polled, unpolled, left_copy, kept_copy, found_sender, has_resolved, LeavesPolled, leaves_resolved, leaves_over, leaves_gone, leaves_uncopied, leaves_waiting}
+use Rattle.oneshot_drive.specs.Polls.{leaves_its_copy, leaves_claimed, LeavesTried, tried_received, tried_resolved, tried_closed, tried_uncopied, tried_its_copy, tried_claimed, poll_reply}
+use Rattle.oneshot_drive.specs.Polls.{leaves_received as polled_received}
+
+-- the cases that the law tells apart
+pub data Case : Type 0 where
+  -- a call of a receiver that stays in place, or `try_recv` of a future
+  trying : Case
+  -- a poll
+  polling : Case
+  -- any call of a receiver or a future that is closed
+  closed : Case
+
+abbrev is_nowhere : ReceiverAt → Bool
+is_nowhere no_receiver = true
+is_nowhere _ = false
+
+abbrev is_unclosed : ReceiverAt → Bool
+is_unclosed (unclosed by) = true
+is_unclosed _ = false
+
+-- its last operation found that the sender has not acted
+abbrev is_unsent : ReceiverAt → Bool
+is_unsent (idle after_load) = true
+is_unsent (waits w) = true
+is_unsent claimed = true
+is_unsent overdue = true
+is_unsent _ = false
+
+-- the phases after each reply, whatever the phase before the call
+abbrev pub is_left : Case → Reply → ReceiverAt → Bool
+is_left closed R.Disconnected at = true
+is_left closed reply at = false
+is_left case R.Message (disconnected closed_itself) = true
+is_left case R.Message (resolved closed_itself) = true
+is_left case R.Disconnected (disconnected c) = true
+is_left polling R.Disconnected (resolved c) = true
+is_left case R.Timeout (idle after_timeout) = true
+is_left case R.Empty (waits polled) = false
+is_left case R.Empty at = is_unsent at
+is_left polling R.Pending at = is_unsent at
+is_left _ _ _ = false
+
+-- where a call begins that loads first
+abbrev is_first : ReceiverPos → Bool
+is_first (P.Try TryLoad) = true
+is_first (P.Ref (StartLoad timed)) = true
+is_first (P.Timed (SumClock representable)) = true
+is_first (P.Value RecvLoad) = true
+is_first (P.Future PollLoad) = true
+is_first (P.Future AsyncTryLoad) = true
+is_first _ = false
+
+-- the phases at each position of such a call
+abbrev is_at : Case → ReceiverPos → ReceiverAt → Bool
+is_at closed (P.Value RecvFreeGone) at = true
+is_at closed p at = is_first p && is_closed_at at
+is_at case (P.Try Take) at = is_left case R.Message at
+is_at case (P.Try CloseOnly) at = is_unclosed at
+is_at case (P.Ref BackClosed) at = is_unclosed at
+is_at case (P.Timed EndBack) at = is_left case R.Timeout at
+is_at trying (P.Future AsyncTryLoad) at = true
+is_at trying (P.Future p) at = false
+is_at polling (P.Future IntoFuture) at = false
+is_at polling (P.Future PollCopy) at = is_unsent at
+is_at polling (P.Future AgainCopy) at = is_unsent at
+is_at polling (P.Future PollOwn) at = is_unsent at
+is_at polling (P.Future PollBackClosed) at = is_left polling R.Disconnected at
+is_at case (P.Value p) at = false
+is_at _ _ _ = true
+
+abbrev pub stands : Case → ReceiverPos → ReceiverAt → Bool
+stands case (P.Look p) at = false
+stands case (P.AsyncDrop p) at = false
+stands case (P.Drop p) at = false
+stands case p at = is_at case p at || is_nowhere at
+
+abbrev ends : Case → Reply → ReceiverAt → Bool
+ends case reply at = is_left case reply at || is_nowhere at
+
+abbrev all_carry : Case → ReceiverPos → Bool
+all_carry case p =
+    list_all (carries (stands case) (ends case) receiver_step receiver_rows receiver_next p) receivers
+
+each_carries : (p : ReceiverPos) → (all_carry trying p && (all_carry polling p && all_carry closed p)) ≡ true
+each_carries (P.Try TryLoad) = refl
+each_carries (P.Ref (StartSwap false)) = refl
+each_carries (P.Timed Clock) = refl
+each_carries (P.Value RecvLoad) = refl
+each_carries (P.Future PollLoad) = refl
+each_carries _ = refl
+
+case_carries : (case : Case) (p : ReceiverPos) → all_carry case p ≡ true
+case_carries trying p = (and_parts (all_carry trying p) _ (each_carries p)).0
+case_carries polling p =
+    (and_parts (all_carry polling p) _ (and_parts (all_carry trying p) _ (each_carries p)).1).0
+case_carries closed p =
+    (and_parts (all_carry polling p) _ (and_parts (all_carry trying p) _ (each_carries p)).1).1
+
+-- between two calls a receiver or a future is at some phase
+somewhere : (b : Bool) {at : ReceiverAt} → Polled at → (b || is_nowhere at) ≡ true → b ≡ true
+somewhere true is e = refl
+somewhere false (unpolled rests_new) e = e
+somewhere false _ e = e
+
+leaves_so : (reply : Reply) {at : ReceiverAt} → Rests at → is_left trying reply at ≡ true → Leaves reply at
+leaves_so R.Message (rests_closed closed_itself) e = leaves_received
+leaves_so R.Disconnected (rests_closed c) e = leaves_closed c
+leaves_so R.Empty (rests_open after_load) e = leaves_empty
+leaves_so R.Timeout (rests_open after_timeout) e = leaves_late
+leaves_so _ _ e = absurd (cc e)
+
+polled_so : {T : Type 0} (result : Poll (Result T RecvError)) {at : ReceiverAt} → Polled at
+    → is_left polling (poll_reply result) at ≡ true → LeavesPolled (poll_reply result) at
+polled_so (Ready (Ok x)) (unpolled (rests_closed closed_itself)) e = polled_received
+polled_so (Ready (Ok x)) (has_resolved closed_itself) e = leaves_resolved
+polled_so (Ready (Err d)) (unpolled (rests_closed c)) e = leaves_over c
+polled_so (Ready (Err d)) (has_resolved c) e = leaves_gone c
+polled_so Pending (unpolled (rests_open after_load)) e = leaves_uncopied
+polled_so Pending left_copy e = leaves_waiting
+polled_so Pending kept_copy e = leaves_its_copy
+polled_so Pending found_sender e = leaves_claimed
+polled_so _ _ e = absurd (cc e)
+
+tried_so : {T : Type 0} (result : Result T TryRecvError) {at : ReceiverAt} → Polled at
+    → is_left trying (try_recv_reply result) at ≡ true → LeavesTried (try_recv_reply result) at
+tried_so (Ok x) (unpolled (rests_closed closed_itself)) e = tried_received
+tried_so (Ok x) (has_resolved closed_itself) e = tried_resolved
+tried_so (Err Tried.Disconnected) (unpolled (rests_closed c)) e = tried_closed c
+tried_so (Err Tried.Empty) (unpolled (rests_open after_load)) e = tried_uncopied
+tried_so (Err Tried.Empty) kept_copy e = tried_its_copy
+tried_so (Err Tried.Empty) found_sender e = tried_claimed
+tried_so _ _ e = absurd (cc e)
+
+pub begins_closed : (at : ReceiverAt) → IsClosedAt at → (is_closed_at at || is_nowhere at) ≡ true
+begins_closed at is_closed = ap (λ b. b || is_nowhere at) is_closed
+
+disconnected_so : (reply : Reply) (at : ReceiverAt) → is_left closed reply at ≡ true → reply ≡ R.Disconnected
+disconnected_so R.Disconnected at e = refl
+disconnected_so _ at e = absurd (cc e)
+
+-- the operations of a run of a call, and the phases before and after it
+module _ {T W : Type 0} (call : ReceiverStart) (before : List Noted) {after : List Noted} (run : List (Event T W))
+    (list : after ≡ before ++ words run) where
+  abbrev Replies : Reply → Type 0
+  Replies = Run receiver_step receiver_row (receiver_start call) run
+
+  abbrev Begins : Case → Type 0
+  Begins case = stands case (receiver_start call) (receiver_at before) ≡ true
+
+  left : (case : Case) (reply : Reply) → Replies reply → Begins case → Polled (receiver_at after)
+      → is_left case reply (receiver_at after) ≡ true
+  left case reply replies begins rests =
+      somewhere (is_left case reply (receiver_at after)) rests
+      (subst (λ at. ends case reply at ≡ true)
+      (sym (ap receiver_at list ∙ phase_from-append receiver_next first before (words run)))
+      (by_tests (stands case) (ends case) receiver_step receiver_rows receiver_next
+      (λ p. at_each_receiver (carries (stands case) (ends case) receiver_step receiver_rows receiver_next p)
+      (case_carries case p))
+      (receiver_start call) (receiver_at before) run reply begins replies))
+
+  pub leaves : (reply : Reply) → Replies reply → Begins trying → Rests (receiver_at after)
+      → Leaves reply (receiver_at after)
+  leaves reply replies begins rests = leaves_so reply rests (left trying reply replies begins (unpolled rests))
+
+  pub leaves_tried : (result : Result T TryRecvError) → Replies (try_recv_reply result) → Begins trying
+      → Polled (receiver_at after) → LeavesTried (try_recv_reply result) (receiver_at after)
+  leaves_tried result replies begins rests =
+      tried_so result rests (left trying (try_recv_reply result) replies begins rests)
+
+  pub leaves_polled : (result : Poll (Result T RecvError)) → Replies (poll_reply result) → Begins polling
+      → Polled (receiver_at after) → LeavesPolled (poll_reply result) (receiver_at after)
+  leaves_polled result replies begins rests =
+      polled_so result rests (left polling (poll_reply result) replies begins rests)
+
+  pub stays_closed : (reply : Reply) → Replies reply → Begins closed → Polled (receiver_at after)
+      → reply ≡ R.Disconnected
+  stays_closed reply replies begins rests =
+      disconnected_so reply (receiver_at after) (left closed reply replies begins rests)
