@@ -1,5 +1,5 @@
 -- What a poll does to leave a copy of its waker: the copy in the slot, its exchange, and that of an earlier copy.
-use Rattle.oneshot_drive.proofs.Names.{◌≡◌, ℕ, true, false, [], ◌∷◌, Option, Some, None, refl, sym, ap, ◌∙◌, subst, Pending, Found, ReceiverPos, Future, PollCopy, PollWrite, PollExchange}
+use Rattle.oneshot_drive.proofs.Names.{◌≡◌, ℕ, true, false, [], ◌∷◌, Option, Some, None, refl, sym, ap, ◌∙◌, subst, Found, ReceiverPos, Future, PollCopy, PollWrite, PollExchange}
 use Rattle.oneshot_drive.proofs.Names.{PollBackFull, PollBackClosed, AgainCopy, AgainExchange, AgainBack, PollOwn, Exchange, Log, Grows, receiver_of, did, handed, copied, worded, ReceiverAt, idle}
 use Rattle.oneshot_drive.proofs.Names.{after_load, waits, polled, again, claimed, withdrew, full, by_future, by_poll, found_closed, disconnected, resolved, receiver_moves, Share, none, empty, filled}
 use Rattle.oneshot_drive.proofs.Names.{Slots, receiver_step, receiver_row, Outcome, Goes, Answers, Held, vacant, held, IsSlot, is_held, ReceiverMay, ReceiverFinds, GroundState, StandsWith, Stands}

@@ -1,8 +1,8 @@
 -- The law that leads from the positions of a run to the phase after it: the reply of a call shows how it leaves its
 -- receiver or its future. Each operation of the run moves the phase by the phases' table.
-use Rattle.std.proofs.Common.{◌≡◌, Bool, true, false, List, ◌++◌, Result, Ok, Err, refl, sym, ap, ◌∙◌, subst}
+use Rattle.std.proofs.Common.{◌≡◌, Bool, true, false, List, Option, Result, Ok, Err, refl, sym, ap, ◌∙◌, subst}
 use Rattle.std.proofs.lemmas.Bool.{and_parts}
-use Rattle.std.specs.Prelude.{◌&&◌, ◌||◌}
+use Rattle.std.specs.Prelude.{◌&&◌, ◌||◌, IsErr}
 use Rattle.std.specs.List.{list_all}
 use Rattle.futures.specs.declared.task.Poll.{Poll}
 use Rattle.futures.specs.declared.task.Poll.TheVariants.{Ready, Pending}
@@ -14,6 +14,7 @@ use Rattle.oneshot_errors.specs.declared.try_recv.TryRecvError.TheVariants as Tr
 use Rattle.oneshot_machine.specs.declared.machine.Reply.{Reply}
 use Rattle.oneshot_machine.specs.declared.machine.Reply.TheVariants as R
 use Rattle.oneshot_machine.specs.declared.machine.receiver.ReceiverStart.{ReceiverStart}
+use Rattle.oneshot_machine.specs.declared.machine.receiver.ReceiverStart.TheVariants.{TryRecv}
 use Rattle.oneshot_machine.specs.declared.machine.receiver.ReceiverPos.{ReceiverPos}
 use Rattle.oneshot_machine.specs.declared.machine.receiver.ReceiverPos.TheVariants as P
 use Rattle.oneshot_machine.specs.declared.machine.try_recv.TryPos.TheVariants.{TryLoad, Take, CloseOnly}
@@ -21,18 +22,19 @@ use Rattle.oneshot_machine.specs.declared.machine.by_ref.RefPos.TheVariants.{Sta
 use Rattle.oneshot_machine.specs.declared.machine.timed.TimedPos.TheVariants.{SumClock, Clock, EndBack}
 use Rattle.oneshot_machine.specs.declared.machine.value.ValuePos.TheVariants.{RecvLoad, RecvFreeGone}
 use Rattle.oneshot_machine.specs.declared.machine.future.FuturePos.TheVariants.{IntoFuture, PollLoad, PollCopy, PollBackClosed, AgainCopy, PollOwn, AsyncTryLoad}
-use Rattle.oneshot_machine.specs.Logs.{Event, words}
-use Rattle.oneshot_machine.specs.Noted.{Noted}
+use Rattle.oneshot_machine.specs.Logs.{Log, words, receiver_of}
+use Rattle.oneshot_machine.specs.Over.{FoundTheEnd, found_message}
 use Rattle.oneshot_machine.specs.Phases.{ReceiverAt, first, idle, after_load, after_timeout, waits, polled, claimed, overdue, unclosed, disconnected, closed_itself, resolved, no_receiver}
 use Rattle.oneshot_machine.specs.Phases.{receiver_at, receiver_next}
-use Rattle.oneshot_machine.specs.Receiver.{receiver_start, receiver_step, receiver_rows, receiver_row}
-use Rattle.oneshot_machine.specs.Runs.{Run}
+use Rattle.oneshot_machine.specs.Receiver.{receiver_start, receiver_step, receiver_rows}
+use Rattle.oneshot_machine.specs.Runs.{ReceiverRan}
 use Rattle.oneshot_machine.proofs.EachPhase.{receivers, at_each_receiver}
-use Rattle.oneshot_machine.proofs.GrownLogs.{phase_from-append}
+use Rattle.oneshot_machine.proofs.GrownLogs.{phase_from-append, words_after}
 use Rattle.oneshot_machine.proofs.RunsByRows.{carries, by_tests}
-use Rattle.oneshot_drive.specs.BetweenCalls.{Rests, rests_new, rests_open, rests_closed, is_closed_at, IsClosedAt, Leaves, leaves_received, leaves_closed, leaves_empty, leaves_late, try_recv_reply}
+use Rattle.oneshot_drive.specs.BetweenCalls.{Rests, rests_new, rests_open, rests_closed, is_closed_at, IsClosedAt, Leaves, leaves_received, leaves_closed, leaves_empty, leaves_late, try_recv_reply, recv_reply, timed_reply, IsReady}
+use Rattle.oneshot_drive.specs.Grounds.{GroundState, StandsIn}
 use Rattle.oneshot_drive.specs.Polls.{Polled, unpolled, left_copy, kept_copy, found_sender, has_resolved, LeavesPolled, leaves_resolved, leaves_over, leaves_gone, leaves_uncopied, leaves_waiting}
-use Rattle.oneshot_drive.specs.Polls.{leaves_its_copy, leaves_claimed, LeavesTried, tried_received, tried_resolved, tried_closed, tried_uncopied, tried_its_copy, tried_claimed, poll_reply}
+use Rattle.oneshot_drive.specs.Polls.{leaves_its_copy, leaves_claimed, LeavesTried, tried_received, tried_resolved, tried_closed, tried_uncopied, tried_its_copy, tried_claimed, poll_reply, IsDisconnected, is_disconnected}
 use Rattle.oneshot_drive.specs.Polls.{leaves_received as polled_received}
 
 -- the cases that the law tells apart
@@ -44,7 +46,7 @@ pub data Case : Type 0 where
   -- any call of a receiver or a future that is closed
   closed : Case
 
-abbrev is_nowhere : ReceiverAt → Bool
+abbrev pub is_nowhere : ReceiverAt → Bool
 is_nowhere no_receiver = true
 is_nowhere _ = false
 
@@ -130,11 +132,18 @@ case_carries polling p =
 case_carries closed p =
     (and_parts (all_carry polling p) _ (and_parts (all_carry trying p) _ (each_carries p)).1).1
 
--- between two calls a receiver or a future is at some phase
-somewhere : (b : Bool) {at : ReceiverAt} → Polled at → (b || is_nowhere at) ≡ true → b ≡ true
-somewhere true is e = refl
-somewhere false (unpolled rests_new) e = e
-somewhere false _ e = e
+-- between two calls a receiver or a future is at some phase, and so is one that found the end
+pub polled_somewhere : {at : ReceiverAt} → Polled at → is_nowhere at ≡ false
+polled_somewhere (unpolled rests_new) = refl
+polled_somewhere _ = refl
+
+pub ended_somewhere : {at : ReceiverAt} → FoundTheEnd at → is_nowhere at ≡ false
+ended_somewhere (found_message got) = refl
+ended_somewhere _ = refl
+
+somewhere : (b nowhere : Bool) → nowhere ≡ false → (b || nowhere) ≡ true → b ≡ true
+somewhere true nowhere e is = refl
+somewhere false nowhere e is = absurd (cc (e, is))
 
 leaves_so : (reply : Reply) {at : ReceiverAt} → Rests at → is_left trying reply at ≡ true → Leaves reply at
 leaves_so R.Message (rests_closed closed_itself) e = leaves_received
@@ -168,45 +177,82 @@ tried_so _ _ e = absurd (cc e)
 pub begins_closed : (at : ReceiverAt) → IsClosedAt at → (is_closed_at at || is_nowhere at) ≡ true
 begins_closed at is_closed = ap (λ b. b || is_nowhere at) is_closed
 
+-- the results of the calls that reply so
+pub tried_over : {T : Type 0} (result : Result T TryRecvError) → try_recv_reply result ≡ R.Disconnected
+    → result ≡ Err Tried.Disconnected
+tried_over (Err Tried.Disconnected) e = refl
+tried_over _ e = absurd (cc e)
+
+pub recv_over : {T : Type 0} (result : Result T RecvError) → recv_reply result ≡ R.Disconnected → IsErr result
+recv_over (Err d) e = refl
+recv_over _ e = absurd (cc e)
+
+pub timed_over : {T : Type 0} (result : Result T RecvTimeoutError) → timed_reply result ≡ R.Disconnected
+    → result ≡ Err Timed.Disconnected
+timed_over (Err Timed.Disconnected) e = refl
+timed_over _ e = absurd (cc e)
+
+pub polled_over : {T : Type 0} (result : Poll (Result T RecvError)) → poll_reply result ≡ R.Disconnected
+    → IsDisconnected result
+polled_over (Ready (Err d)) e = is_disconnected d
+polled_over _ e = absurd (cc e)
+
+over_closed : {at : ReceiverAt} → Leaves R.Disconnected at → IsClosedAt at
+over_closed (leaves_closed c) = refl
+
 disconnected_so : (reply : Reply) (at : ReceiverAt) → is_left closed reply at ≡ true → reply ≡ R.Disconnected
 disconnected_so R.Disconnected at e = refl
 disconnected_so _ at e = absurd (cc e)
 
--- the operations of a run of a call, and the phases before and after it
-module _ {T W : Type 0} (call : ReceiverStart) (before : List Noted) {after : List Noted} (run : List (Event T W))
-    (list : after ≡ before ++ words run) where
-  abbrev Replies : Reply → Type 0
-  Replies = Run receiver_step receiver_row (receiver_start call) run
+-- what holds of the phase of a ground between two calls
+pub resting : {Phases : ReceiverAt → Type 0} {T W : Type 0} {s : GroundState T W} → StandsIn Phases s
+    → Phases (receiver_of s.log)
+resting {Phases} is = subst Phases (sym is.stands.phase) is.is_one
 
-  abbrev Begins : Case → Type 0
-  Begins case = stands case (receiver_start call) (receiver_at before) ≡ true
+abbrev Begins : Case → ReceiverStart → ReceiverAt → Type 0
+Begins case call at = stands case (receiver_start call) at ≡ true
 
-  left : (case : Case) (reply : Reply) → Replies reply → Begins case → Polled (receiver_at after)
-      → is_left case reply (receiver_at after) ≡ true
-  left case reply replies begins rests =
-      somewhere (is_left case reply (receiver_at after)) rests
+-- a run of a call between these logs
+module _ {T W : Type 0} (call : ReceiverStart) {before after : Log T W} {given got : List T} where
+  left : (case : Case) (reply : Reply) → ReceiverRan call before after reply given got
+      → Begins case call (receiver_of before)
+      → is_nowhere (receiver_of after) ≡ false → is_left case reply (receiver_of after) ≡ true
+  left case reply ran begins is =
+      somewhere (is_left case reply (receiver_of after)) (is_nowhere (receiver_of after)) is
       (subst (λ at. ends case reply at ≡ true)
-      (sym (ap receiver_at list ∙ phase_from-append receiver_next first before (words run)))
+      (sym (ap receiver_at (words_after ran.run ran.grows)
+      ∙ phase_from-append receiver_next first (words before.list) (words ran.run)))
       (by_tests (stands case) (ends case) receiver_step receiver_rows receiver_next
       (λ p. at_each_receiver (carries (stands case) (ends case) receiver_step receiver_rows receiver_next p)
       (case_carries case p))
-      (receiver_start call) (receiver_at before) run reply begins replies))
+      (receiver_start call) (receiver_of before) ran.run reply begins ran.is_run))
 
-  pub leaves : (reply : Reply) → Replies reply → Begins trying → Rests (receiver_at after)
-      → Leaves reply (receiver_at after)
-  leaves reply replies begins rests = leaves_so reply rests (left trying reply replies begins (unpolled rests))
+  pub leaves : {reply : Reply} → ReceiverRan call before after reply given got
+      → Begins trying call (receiver_of before) → Rests (receiver_of after) → Leaves reply (receiver_of after)
+  leaves {reply} ran begins rests =
+      leaves_so reply rests (left trying reply ran begins (polled_somewhere (unpolled rests)))
 
-  pub leaves_tried : (result : Result T TryRecvError) → Replies (try_recv_reply result) → Begins trying
-      → Polled (receiver_at after) → LeavesTried (try_recv_reply result) (receiver_at after)
-  leaves_tried result replies begins rests =
-      tried_so result rests (left trying (try_recv_reply result) replies begins rests)
+  pub leaves_tried : (result : Result T TryRecvError)
+      → ReceiverRan call before after (try_recv_reply result) given got
+      → Begins trying call (receiver_of before) → Polled (receiver_of after)
+      → LeavesTried (try_recv_reply result) (receiver_of after)
+  leaves_tried result ran begins rests =
+      tried_so result rests (left trying (try_recv_reply result) ran begins (polled_somewhere rests))
 
-  pub leaves_polled : (result : Poll (Result T RecvError)) → Replies (poll_reply result) → Begins polling
-      → Polled (receiver_at after) → LeavesPolled (poll_reply result) (receiver_at after)
-  leaves_polled result replies begins rests =
-      polled_so result rests (left polling (poll_reply result) replies begins rests)
+  pub leaves_polled : (result : Poll (Result T RecvError))
+      → ReceiverRan call before after (poll_reply result) given got
+      → Begins polling call (receiver_of before) → Polled (receiver_of after)
+      → LeavesPolled (poll_reply result) (receiver_of after)
+  leaves_polled result ran begins rests =
+      polled_so result rests (left polling (poll_reply result) ran begins (polled_somewhere rests))
 
-  pub stays_closed : (reply : Reply) → Replies reply → Begins closed → Polled (receiver_at after)
-      → reply ≡ R.Disconnected
-  stays_closed reply replies begins rests =
-      disconnected_so reply (receiver_at after) (left closed reply replies begins rests)
+  pub stays_closed : {reply : Reply} → ReceiverRan call before after reply given got
+      → Begins closed call (receiver_of before) → is_nowhere (receiver_of after) ≡ false → reply ≡ R.Disconnected
+  stays_closed {reply} ran begins is = disconnected_so reply (receiver_of after) (left closed reply ran begins is)
+
+-- After a `try_recv`, which leaves the hand as it is, the hand is ready if it was before.
+pub ready_still : {T W V : Type 0} {hand : Option V} {reply : Reply} {before after : Log T W} {given got : List T}
+    → ReceiverRan TryRecv before after reply given got → Rests (receiver_of after) → IsReady hand (receiver_of before) → IsReady hand (receiver_of after)
+ready_still {after = after} ran rests ready none =
+    let over = stays_closed TryRecv ran (begins_closed _ (ready none)) (polled_somewhere (unpolled rests)) in
+    over_closed (subst (λ reply. Leaves reply (receiver_of after)) over (leaves TryRecv ran refl rests))

@@ -1,5 +1,5 @@
 -- What a future between two calls finds by its load, and the run of a poll.
-use Rattle.oneshot_drive.proofs.Names.{◌≡◌, ℕ, true, [], ◌∷◌, Some, refl, sym, ap, ◌∙◌, subst, Found, ReceiverPos, Try, Future, AsyncDrop, Close, Take, PollLoad}
+use Rattle.oneshot_drive.proofs.Names.{◌≡◌, ℕ, true, [], ◌∷◌, Some, refl, ap, ◌∙◌, subst, Found, ReceiverPos, Try, Future, AsyncDrop, Close, Take, PollLoad}
 use Rattle.oneshot_drive.proofs.Names.{AsyncLoad, AsyncSwap, Load, Store, Swap, Log, Grows, receiver_of, did, took, worded, ReceiverAt, idle, after_load, after_timeout, waits}
 use Rattle.oneshot_drive.proofs.Names.{again, claimed, full, Got}
 use Rattle.oneshot_drive.proofs.Names.{at_once, waited, swapped, by_future, by_poll, Closing, found_closed, closed_itself, disconnected, resolved, receiver_next, receiver_moves, empty, word_of}

@@ -1,5 +1,5 @@
 -- After a call that does not end the receiver its hand is ready: it has a waker, or the receiver is closed.
-use Rattle.oneshot_drive.proofs.Names.{◌≡◌, ◌≢◌, Option, Result, Ok, Err, refl, IsClosedAt, IsOpenAt, IsReady, RecvError, RecvTimeoutError, TryRecvError, ReceiverAt}
+use Rattle.oneshot_drive.proofs.Names.{◌≡◌, ◌≢◌, Result, Ok, Err, refl, IsClosedAt, IsOpenAt, RecvError, RecvTimeoutError, TryRecvError, ReceiverAt}
 use Rattle.oneshot_drive.specs.BetweenCalls.{Leaves, leaves_received, leaves_closed, leaves_empty, leaves_late, try_recv_reply, recv_reply, timed_reply}
 use Rattle.oneshot_errors.specs.declared.recv_timeout.RecvTimeoutError.TheVariants as Timed
 use Rattle.oneshot_errors.specs.declared.try_recv.TryRecvError.TheVariants as Tried

@@ -1,5 +1,5 @@
 -- What a receiver between two calls finds by its load, and the runs of `try_recv`.
-use Rattle.oneshot_drive.proofs.Names.{◌≡◌, ℕ, true, false, [], ◌∷◌, Ok, Err, refl, sym, ◌∙◌, subst, ◌==◌, eq-eqb, Try, Close, Take, TryRecv, Load, Store, Swap, Log, Grows, receiver_of, took, worded}
+use Rattle.oneshot_drive.proofs.Names.{◌≡◌, ℕ, true, false, [], ◌∷◌, refl, sym, ◌∙◌, subst, ◌==◌, eq-eqb, Try, Close, Take, TryRecv, Load, Store, Swap, Log, Grows, receiver_of, took, worded}
 use Rattle.oneshot_drive.proofs.Names.{ReceiverAt, idle, after_load, after_timeout, full, at_once, Closing, found_closed, closed_itself, disconnected, resolved, receiver_moves}
 use Rattle.oneshot_drive.proofs.Names.{empty, filled, last, more}
 use Rattle.oneshot_drive.proofs.Names.{ReceiverRan, Held, ReceiverFinds, is_same_op, and_then, GroundState, StandsWith, Stands, receiver_slots, ReceiverAsks, ReceiverMakes, Rests, rests_new}

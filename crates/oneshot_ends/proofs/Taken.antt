@@ -29,8 +29,7 @@ use Rattle.oneshot_machine.specs.Receiver.{receiver_start, receiver_step, receiv
 use Rattle.oneshot_machine.specs.Phases.{ReceiverAt, receiver_at, phase_from}
 use Rattle.oneshot_machine.specs.Runs.{Run}
 use Rattle.oneshot_machine.specs.TableRows.{Outcome, Goes, Answers, row_for, is_same_seen}
-use Rattle.oneshot_machine.proofs.EachPhase.{if_so}
-use Rattle.oneshot_machine.proofs.RunsByRows.{row_passes, moved_by, Leads, by_rows}
+use Rattle.oneshot_machine.proofs.RunsByRows.{carries, by_tests}
 use Rattle.oneshot_errors.specs.declared.recv.RecvError.{RecvError}
 use Rattle.oneshot_errors.specs.declared.recv_timeout.RecvTimeoutError.{RecvTimeoutError}
 use Rattle.oneshot_errors.specs.declared.recv_timeout.RecvTimeoutError.TheVariants as Timeouts
@@ -38,6 +37,7 @@ use Rattle.oneshot_errors.specs.declared.try_recv.TryRecvError.{TryRecvError}
 use Rattle.oneshot_errors.specs.declared.try_recv.TryRecvError.TheVariants as E
 use Rattle.oneshot_drive.specs.BetweenCalls.{Rests, rests_new, rests_open, rests_closed, AtRest, IsClosedAt, is_open_at, try_recv_reply, recv_reply, timed_reply}
 use Rattle.oneshot_drive.specs.Polls.{Polled, unpolled, left_copy, kept_copy, found_sender, has_resolved, IsPolled, IsDisconnected, poll_reply}
+use Rattle.oneshot_drive.proofs.LeftPhases.{resting}
 use Rattle.oneshot_word.specs.Received.{both_views}
 use Rattle.oneshot_word.specs.Rule.{Tied}
 use Rattle.oneshot_word.specs.Seats.{gave}
@@ -48,7 +48,7 @@ use Rattle.oneshot_word.proofs.RuleReceives.{received_is_sent}
 use Rattle.oneshot_ends.specs.declared.token.WakingHalf.{WakingHalf}
 use Rattle.oneshot_ends.specs.Ends.{ReceiverGrew}
 use Rattle.oneshot_ends.specs.Grounds.{state_of, left_of, unless_freed}
-use Rattle.oneshot_ends.proofs.GrewByRuns.{words_of}
+use Rattle.oneshot_ends.proofs.GrewByRuns.{at_end}
 use Rattle.oneshot_ends.proofs.OpenTaken.{open_took_none}
 use Rattle.oneshot_ends.specs.Moments.{AtOneMoment, TookWhatWasGiven}
 use Rattle.oneshot_ends.specs.OwnWakers.{RealWaker}
@@ -77,45 +77,24 @@ in_place _ = false
 abbrev finds_it : Bool → Op → Seen → Bool
 finds_it found op seen = found || is_same_seen seen (Word MESSAGE)
 
-abbrev Stands : ReceiverPos → Bool → Type 0
-Stands p found = (in_place p ≡ true) × (has_it p ≡ found)
+abbrev stands : ReceiverPos → Bool → Bool
+stands p found = in_place p && is_bool (has_it p) found
 
-abbrev Replies : Reply → Bool → Type 0
-Replies reply found = found ≡ is_message reply
+abbrev replies : Reply → Bool → Bool
+replies reply found = is_bool found (is_message reply)
 
-abbrev found_by : ReceiverPos → Seen → Bool
-found_by p seen = moved_by receiver_step receiver_rows finds_it Stands Replies (op_of (receiver_step p)) seen (has_it p)
+each_carries : (p : ReceiverPos) → (carries stands replies receiver_step receiver_rows finds_it p true
+    && carries stands replies receiver_step receiver_rows finds_it p false) ≡ true
+each_carries (Try TryLoad) = refl
+each_carries (Ref (StartSwap false)) = refl
+each_carries (Timed Clock) = refl
+each_carries (Future IntoFuture) = refl
+each_carries _ = refl
 
-abbrev row_told : ReceiverPos → Seen × Outcome ReceiverPos → Bool
-row_told p (seen, Goes next) = in_place next && is_bool (has_it next) (found_by p seen)
-row_told p (seen, Answers reply) = is_bool (found_by p seen) (is_message reply)
-
-told_at : (p : ReceiverPos) → (if in_place p then list_all (row_told p) (receiver_rows p) else true) ≡ true
-told_at (Try TryLoad) = refl
-told_at (Ref (StartSwap false)) = refl
-told_at (Timed Clock) = refl
-told_at (Future IntoFuture) = refl
-told_at _ = refl
-
-told_rows : (p : ReceiverPos) → in_place p ≡ true → list_all (row_told p) (receiver_rows p) ≡ true
-told_rows p = if_so (in_place p) (list_all (row_told p) (receiver_rows p)) (told_at p)
-
-each_row : (p : ReceiverPos) (found : Bool) (seen : Seen) (o : Outcome ReceiverPos) → Stands p found
-    → row_for seen (receiver_rows p) ≡ Some o
-    → Leads receiver_step receiver_rows finds_it Stands Replies o
-    (moved_by receiver_step receiver_rows finds_it Stands Replies (op_of (receiver_step p)) seen found)
-each_row p found seen (Goes next) stands leads =
-    let passes =
-    and_parts (in_place next) (is_bool (has_it next) (found_by p seen))
-    (row_passes (row_told p) (receiver_rows p) seen (Goes next) (told_rows p stands.0) leads) in (
-      passes.0,
-      bools_are (has_it next) (found_by p seen) passes.1
-          ∙ ap (moved_by receiver_step receiver_rows finds_it Stands Replies (op_of (receiver_step p)) seen) stands.1,
-    )
-each_row p found seen (Answers r) stands leads =
-    ap (moved_by receiver_step receiver_rows finds_it Stands Replies (op_of (receiver_step p)) seen) (sym stands.1)
-    ∙ bools_are (found_by p seen) (is_message r)
-    (row_passes (row_told p) (receiver_rows p) seen (Answers r) (told_rows p stands.0) leads)
+case_carries : (p : ReceiverPos) (found : Bool) → carries stands replies receiver_step receiver_rows finds_it p found
+    ≡ true
+case_carries p true = (and_parts (carries stands replies receiver_step receiver_rows finds_it p true) _ (each_carries p)).0
+case_carries p false = (and_parts (carries stands replies receiver_step receiver_rows finds_it p true) _ (each_carries p)).1
 
 found_from : (found : Bool) (xs : List Noted) → phase_from finds_it found xs ≡ (found || has_found xs)
 found_from found [] = sym (or_comm found false)
@@ -136,9 +115,9 @@ stays_begins as_future RC.Poll e = refl
 stays_begins as_future RC.AsyncTryRecv e = refl
 stays_begins _ _ e = absurd (cc)
 
-no_start : (call : ReceiverStart) → has_it (receiver_start call) ≡ false
-no_start RC.TryRecv = refl
-no_start _ = refl
+begins_so : (call : ReceiverStart) → begins call ≡ true → stands (receiver_start call) false ≡ true
+begins_so RC.TryRecv e = refl
+begins_so _ e = e
 
 -- a call's own operations found the message exactly if it returned it
 pub found_in_call : {T W : Type 0} (call : ReceiverStart) (run : List (Event T W)) (reply : Reply)
@@ -146,8 +125,9 @@ pub found_in_call : {T W : Type 0} (call : ReceiverStart) (run : List (Event T W
     → has_found (words run) ≡ is_message reply
 found_in_call call run reply e is_run =
     sym (found_from false (words run))
-    ∙ by_rows receiver_step receiver_rows finds_it Stands Replies each_row (receiver_start call) false run reply
-    (e, no_start call) is_run
+    ∙ bools_are (phase_from finds_it false (words run)) (is_message reply)
+    (by_tests stands replies receiver_step receiver_rows finds_it case_carries (receiver_start call) false run reply
+    (begins_so call e) is_run)
 
 -- so does its log
 module _ {T : Type 0} where
@@ -199,15 +179,11 @@ polled_either found_sender = inl refl
 polled_either (has_resolved c) = inr refl
 
 module _ {T W P : Type 0} (s : Side T W P) where
-  at_phase : {at : ReceiverAt} → receiver_of (state_of s).log ≡ at → IsEither at → IsEither (receiver_at s.log)
-  at_phase phase either =
-      subst IsEither (sym (sym (ap receiver_at (words_of T W s.log)) ∙ phase)) either
-
   pub rests_so : AtRest (state_of s) → IsEither (receiver_at s.log)
-  rests_so rests = at_phase rests.stands.phase (rests_either rests.is_one)
+  rests_so rests = rests_either (at_end W Rests s (resting rests))
 
   pub polled_so : IsPolled (state_of s) → IsEither (receiver_at s.log)
-  polled_so rests = at_phase rests.stands.phase (polled_either rests.is_one)
+  polled_so rests = polled_either (at_end W Polled s (resting rests))
 
 -- a closed receiver receives nothing
 is_error : {T E : Type 0} {result : Result T E} {e : E} → result ≡ Err e → IsErr result

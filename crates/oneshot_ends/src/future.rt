@@ -112,7 +112,7 @@ impl<T: Drop, Rt: Drop, P: Promise<T>> AsyncReceiver<T, Rt, P> {
         ensures channel { self.new.channel ≡ self.old.channel }
         ensures source { self.new.source ≡ self.old.source }
         ensures run { ReceiverGrew T C.AsyncTryRecv self.old.log self.new.log (try_recv_reply result) }
-        ensures leaves { LeavesTried result (receiver_at self.new.log) }
+        ensures leaves { LeavesTried (try_recv_reply result) (receiver_at self.new.log) }
         ensures closes { result ≢ Err Tried.Empty → IsClosed self.new.log }
         ensures stays_open { result ≡ Err Tried.Empty → IsOpen self.new.log }
         ensures stays_closed { IsClosed self.old.log → result ≡ Err Tried.Disconnected }
@@ -156,7 +156,7 @@ impl<T: Drop, Rt: Drop, P: Promise<T>> Future for AsyncReceiver<T, Rt, P> {
         ensures channel { self.new.channel ≡ self.old.channel }
         ensures source { self.new.source ≡ self.old.source }
         ensures run { ReceiverGrew T C.Poll self.old.log self.new.log (poll_reply result) }
-        ensures leaves { LeavesPolled result (receiver_at self.new.log) }
+        ensures leaves { LeavesPolled (poll_reply result) (receiver_at self.new.log) }
         ensures closes { result ≢ Pending → IsClosed self.new.log }
         ensures stays_open { result ≡ Pending → IsOpen self.new.log }
         ensures stays_closed { IsClosed self.old.log → IsDisconnected result }

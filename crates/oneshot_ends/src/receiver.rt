@@ -7,7 +7,7 @@ ghost use Rattle.oneshot_errors.specs.declared.try_recv.TryRecvError.TheVariants
 ghost use Rattle.oneshot_machine.specs.declared.machine.receiver.ReceiverStart.TheVariants.{TryRecv, RecvRef, RecvDeadline, RecvTimeout};
 ghost use Rattle.oneshot_machine.specs.Counts.{receiver_bound, GrewWithin};
 ghost use Rattle.oneshot_machine.specs.Phases.{receiver_at};
-ghost use Rattle.oneshot_drive.specs.BetweenCalls.{Leaves, LeavesClosed, LeavesTimed, try_recv_reply, recv_reply, timed_reply};
+ghost use Rattle.oneshot_drive.specs.BetweenCalls.{Leaves, try_recv_reply, recv_reply, timed_reply};
 ghost use Rattle.oneshot_ends.specs.Ends.{ReceiverGrew, TimeoutRan, IsClosed, IsOpen, channel_at};
 ghost use Rattle.oneshot_ends.specs.Grounds.{IsNewReceiver};
 ghost use Rattle.oneshot_ends.specs.OwnWakers.{IsHalfOf};
@@ -105,7 +105,7 @@ impl<T: Drop, Rt: Drop, P: Promise<T>> Receiver<T, Rt, P> {
     pub fn try_recv(&mut self) -> Result<T, TryRecvError>
         ensures channel { self.new.channel ≡ self.old.channel }
         ensures run { ReceiverGrew T TryRecv self.old.log self.new.log (try_recv_reply result) }
-        ensures leaves { Leaves result (receiver_at self.new.log) }
+        ensures leaves { Leaves (try_recv_reply result) (receiver_at self.new.log) }
         ensures closes { result ≢ Err Tried.Empty → IsClosed self.new.log }
         ensures stays_open { result ≡ Err Tried.Empty → IsOpen self.new.log }
         ensures stays_closed { IsClosed self.old.log → result ≡ Err Tried.Disconnected }
@@ -148,7 +148,7 @@ impl<T: Drop, Rt: Wait + Clock + Drop, P: Promise<T>> Receiver<T, Rt, P> {
     pub fn recv_ref(&mut self) -> Result<T, RecvError>
         ensures channel { self.new.channel ≡ self.old.channel }
         ensures run { ReceiverGrew T RecvRef self.old.log self.new.log (recv_reply result) }
-        ensures leaves { LeavesClosed result (receiver_at self.new.log) }
+        ensures leaves { Leaves (recv_reply result) (receiver_at self.new.log) }
         ensures closes { IsClosed self.new.log }
         ensures stays_closed { IsClosed self.old.log → IsErr result }
         ensures promise { IfOk result (λ message. P.keeps self.old.channel.about message) }
@@ -174,7 +174,7 @@ impl<T: Drop, Rt: Wait + Clock + Drop, P: Promise<T>> Receiver<T, Rt, P> {
     pub fn recv_deadline(&mut self, deadline: Instant) -> Result<T, RecvTimeoutError>
         ensures channel { self.new.channel ≡ self.old.channel }
         ensures run { ReceiverGrew T RecvDeadline self.old.log self.new.log (timed_reply result) }
-        ensures leaves { LeavesTimed result (receiver_at self.new.log) }
+        ensures leaves { Leaves (timed_reply result) (receiver_at self.new.log) }
         ensures closes { result ≢ Err Timed.Timeout → IsClosed self.new.log }
         ensures stays_open { result ≡ Err Timed.Timeout → IsOpen self.new.log }
         ensures stays_closed { IsClosed self.old.log → result ≡ Err Timed.Disconnected }
@@ -195,7 +195,7 @@ impl<T: Drop, Rt: Wait + Clock + Drop, P: Promise<T>> Receiver<T, Rt, P> {
     pub fn recv_timeout(&mut self, timeout: Duration) -> Result<T, RecvTimeoutError>
         ensures channel { self.new.channel ≡ self.old.channel }
         ensures run { ReceiverGrew T (RecvTimeout true) self.old.log self.new.log (timed_reply result) }
-        ensures leaves { LeavesTimed result (receiver_at self.new.log) }
+        ensures leaves { Leaves (timed_reply result) (receiver_at self.new.log) }
         ensures closes { result ≢ Err Timed.Timeout → IsClosed self.new.log }
         ensures stays_open { result ≡ Err Timed.Timeout → IsOpen self.new.log }
         ensures stays_closed { IsClosed self.old.log → result ≡ Err Timed.Disconnected }
@@ -211,7 +211,7 @@ impl<T: Drop, Rt: Wait + Clock + Drop, P: Promise<T>> Receiver<T, Rt, P> {
         requires { IfSome reading.instant (λ now. FitsClock (instant_nanos now)) }
         ensures channel { self.new.channel ≡ self.old.channel }
         ensures run { TimeoutRan T timeout reading.instant self.old.log self.new.log (timed_reply result) }
-        ensures leaves { LeavesTimed result (receiver_at self.new.log) }
+        ensures leaves { Leaves (timed_reply result) (receiver_at self.new.log) }
         ensures stays_closed { IsClosed self.old.log → result ≡ Err Timed.Disconnected }
         ensures promise { IfOk result (λ message. P.keeps self.old.channel.about message) }
         ensures took { Takes result self.old.took self.new.took }

@@ -6,7 +6,7 @@ ghost use Rattle.oneshot_errors.specs.declared.try_recv.TryRecvError.TheVariants
 ghost use Rattle.oneshot_ends.specs.ReceiverStart.TheVariants.{RecvTimeout, TryRecv};
 ghost use Rattle.oneshot_ends.specs.Counts.{receiver_bound, GrewWithin};
 ghost use Rattle.oneshot_ends.specs.Phases.{receiver_at};
-ghost use Rattle.oneshot_ends.specs.BetweenCalls.{Leaves, LeavesTimed, try_recv_reply, timed_reply};
+ghost use Rattle.oneshot_ends.specs.BetweenCalls.{Leaves, try_recv_reply, timed_reply};
 ghost use Rattle.oneshot_ends.specs.Ends.{IsClosed, IsOpen, ReceiverGrew};
 ghost use Rattle.oneshot_ends.specs.Taken.{Takes};
 
@@ -70,7 +70,7 @@ impl<Q: Eq, A: Answer<Q> + Drop, Rt: Drop> Ticket<Q, A, Rt> {
         ensures took { Takes result self.old.took self.new.took }
         ensures channel { self.new.channel ≡ self.old.channel }
         ensures run { ReceiverGrew A TryRecv self.old.log self.new.log (try_recv_reply result) }
-        ensures leaves { Leaves result (receiver_at self.new.log) }
+        ensures leaves { Leaves (try_recv_reply result) (receiver_at self.new.log) }
         ensures closes { result ≢ Err Tried.Empty → IsClosed self.new.log }
         ensures stays_open { result ≡ Err Tried.Empty → IsOpen self.new.log }
         ensures stays_closed { IsClosed self.old.log → result ≡ Err Tried.Disconnected }
@@ -130,7 +130,7 @@ impl<Q: Eq, A: Answer<Q> + Drop, Rt: Wait + Clock + Drop> Ticket<Q, A, Rt> {
         ensures took { Takes result self.old.took self.new.took }
         ensures channel { self.new.channel ≡ self.old.channel }
         ensures run { ReceiverGrew A (RecvTimeout true) self.old.log self.new.log (timed_reply result) }
-        ensures leaves { LeavesTimed result (receiver_at self.new.log) }
+        ensures leaves { Leaves (timed_reply result) (receiver_at self.new.log) }
         ensures closes { result ≢ Err Timed.Timeout → IsClosed self.new.log }
         ensures stays_open { result ≡ Err Timed.Timeout → IsOpen self.new.log }
         ensures stays_closed { IsClosed self.old.log → result ≡ Err Timed.Disconnected }

@@ -1,7 +1,7 @@
 //! A ticket whose drop tells the server that nobody waits for the reply.
 
 ghost use Rattle.std.specs.Prelude.{◌≡◌, ◌≢◌, true, Err, IsErr, IfOk};
-ghost use Rattle.oneshot_channel.specs.BetweenCalls.{Leaves, LeavesTimed, try_recv_reply, timed_reply};
+ghost use Rattle.oneshot_channel.specs.BetweenCalls.{Leaves, try_recv_reply, timed_reply};
 ghost use Rattle.oneshot_channel.specs.Counts.{receiver_bound, GrewWithin};
 ghost use Rattle.oneshot_channel.specs.Ends.{IsClosed, IsOpen, ReceiverGrew};
 ghost use Rattle.oneshot_channel.specs.Phases.{receiver_at};
@@ -71,7 +71,7 @@ impl<Q: Eq, A: Answer<Q> + Drop, Rt: Drop> CancellableTicket<Q, A, Rt> {
         ensures took { Takes result self.old.took self.new.took }
         ensures channel { self.new.channel ≡ self.old.channel }
         ensures run { ReceiverGrew A TryRecv self.old.log self.new.log (try_recv_reply result) }
-        ensures leaves { Leaves result (receiver_at self.new.log) }
+        ensures leaves { Leaves (try_recv_reply result) (receiver_at self.new.log) }
         ensures closes { result ≢ Err Tried.Empty → IsClosed self.new.log }
         ensures stays_open { result ≡ Err Tried.Empty → IsOpen self.new.log }
         ensures stays_closed { IsClosed self.old.log → result ≡ Err Tried.Disconnected }
@@ -135,7 +135,7 @@ impl<Q: Eq, A: Answer<Q> + Drop, Rt: Wait + Clock + Drop> CancellableTicket<Q, A
         ensures took { Takes result self.old.took self.new.took }
         ensures channel { self.new.channel ≡ self.old.channel }
         ensures run { ReceiverGrew A (RecvTimeout true) self.old.log self.new.log (timed_reply result) }
-        ensures leaves { LeavesTimed result (receiver_at self.new.log) }
+        ensures leaves { Leaves (timed_reply result) (receiver_at self.new.log) }
         ensures closes { result ≢ Err Timed.Timeout → IsClosed self.new.log }
         ensures stays_open { result ≡ Err Timed.Timeout → IsOpen self.new.log }
         ensures stays_closed { IsClosed self.old.log → result ≡ Err Timed.Disconnected }

@@ -1,5 +1,5 @@
 -- Proofs of the goals that `receive` leaves.
-use Rattle.oneshot_drive.proofs.Names.{rules, refl, sym, ◌∙◌, Store, receiver_of, disconnected, closed_itself, filled, empty, StandsWith, by_ref, is_in, DISCONNECTED}
+use Rattle.oneshot_drive.proofs.Names.{rules, refl, Store, receiver_of, disconnected, closed_itself, filled, empty, StandsWith, by_ref, is_in, DISCONNECTED}
 use Rattle.oneshot_drive.proofs.AfterOperations.{asks, took_message}
 use Rattle.oneshot_drive.proofs.RestLoads.{rests_over}
 use Rattle.oneshot_drive.proofs.Receives.{full_asks, ended_full, full_ran, shut, shut_ran, out_rests, closed_ready}

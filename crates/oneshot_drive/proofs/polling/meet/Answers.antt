@@ -1,5 +1,5 @@
 -- Proofs of the goals that `meet` leaves.
-use Rattle.oneshot_drive.proofs.Names.{rules, refl, inr, leaves_claimed, RECEIVING, UNPARKING, DISCONNECTED, EMPTY, MESSAGE}
+use Rattle.oneshot_drive.proofs.Names.{rules, refl, inr, leaves_claimed, RECEIVING, DISCONNECTED, EMPTY, MESSAGE}
 use Rattle.oneshot_drive.proofs.PollLoads.{meet_asks, met, met_open, met_copied, met_claimed, met_full, met_over, met_none, met_path, met_own, loaded_to}
 use Rattle.oneshot_drive.proofs.LeftCopies.{owned_ends}
 use Rattle.oneshot_drive.proofs.OwnCopies.{wrote_none, on_word, on_own}

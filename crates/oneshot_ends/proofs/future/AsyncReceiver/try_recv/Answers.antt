@@ -1,7 +1,9 @@
 -- Proofs of the goals that `try_recv` of `AsyncReceiver` leaves.
 use Rattle.std.proofs.Common.{refl, ◌∙◌}
 use Rattle.oneshot_machine.specs.declared.machine.receiver.ReceiverStart.TheVariants.{AsyncTryRecv}
+use Rattle.oneshot_drive.specs.BetweenCalls.{try_recv_reply}
 use Rattle.oneshot_drive.specs.Polls.{LeavesTried}
+use Rattle.oneshot_drive.proofs.LeftPhases.{begins_closed, polled_somewhere, resting, leaves_tried, stays_closed, tried_over}
 use Rattle.oneshot_ends.proofs.CallsAnswered.{one_answered}
 use Rattle.oneshot_ends.proofs.EndViews.{future_steps, future_about, future_took, future_registered, kept_about}
 use Rattle.oneshot_ends.proofs.GrewByRuns.{words_of, grew_by, closed_before, at_end, async_try_recv_few}
@@ -28,12 +30,14 @@ returns-clause-run g c =
 
 pub returns-clause-leaves : goal.returns-clause-leaves
 returns-clause-leaves g c =
-    at_end _ (LeavesTried c.async_try_recv.result) c.async_try_recv.new.g c.async_try_recv.ensures.leaves
+    at_end _ (LeavesTried (try_recv_reply c.async_try_recv.result)) c.async_try_recv.new.g
+    (leaves_tried AsyncTryRecv c.async_try_recv.result c.async_try_recv.ensures.run refl (resting c.async_try_recv.ensures.rests))
 
 pub returns-clause-stays_closed : goal.returns-clause-stays_closed
 returns-clause-stays_closed g c closed =
-    c.async_try_recv.ensures.stays
-    (closed_before {own = c.self.inside.ground} _ refl (future_steps c.self.view_is) closed)
+    tried_over c.async_try_recv.result (stays_closed AsyncTryRecv c.async_try_recv.ensures.run (begins_closed _
+    (closed_before {own = c.self.inside.ground} _ refl (future_steps c.self.view_is) closed))
+    (polled_somewhere (resting c.async_try_recv.ensures.rests)))
 
 pub returns-clause-registered : goal.returns-clause-registered
 returns-clause-registered g c =
@@ -49,10 +53,10 @@ returns-clause-same_waker g c nothing =
     ∙ future_registered c.self.view_is
 
 pub returns-clause-closes : goal.returns-clause-closes
-returns-clause-closes g c = closed_tried (returns-clause-leaves g c)
+returns-clause-closes g c = closed_tried c.async_try_recv.result (returns-clause-leaves g c)
 
 pub returns-clause-stays_open : goal.returns-clause-stays_open
-returns-clause-stays_open g c = open_tried (returns-clause-leaves g c)
+returns-clause-stays_open g c = open_tried c.async_try_recv.result (returns-clause-leaves g c)
 
 pub returns-clause-bounded : goal.returns-clause-bounded
 returns-clause-bounded g c = async_try_recv_few (returns-clause-run g c)

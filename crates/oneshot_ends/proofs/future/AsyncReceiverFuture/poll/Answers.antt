@@ -1,7 +1,8 @@
 -- Proofs of the goals that `poll` of `AsyncReceiver` as a `Future` leaves.
 use Rattle.std.proofs.Common.{[], ◌∷◌, refl, ◌∙◌, rules}
 use Rattle.oneshot_machine.specs.declared.machine.receiver.ReceiverStart.TheVariants as C
-use Rattle.oneshot_drive.specs.Polls.{LeavesPolled}
+use Rattle.oneshot_drive.specs.Polls.{LeavesPolled, poll_reply}
+use Rattle.oneshot_drive.proofs.LeftPhases.{begins_closed, polled_somewhere, resting, leaves_polled, stays_closed, polled_over}
 use Rattle.oneshot_ends.proofs.CallsAnswered.{one_answered}
 use Rattle.oneshot_ends.proofs.EndViews.{future_steps, future_about, future_took, polled_about, pending_about}
 use Rattle.oneshot_ends.proofs.GrewByRuns.{grew_by, closed_before, at_end, poll_few}
@@ -31,17 +32,20 @@ returns-clause-run g c =
 
 pub returns-clause-leaves : goal.returns-clause-leaves
 returns-clause-leaves g c =
-    at_end _ (LeavesPolled c.poll.result) c.poll.new.g.ground.now c.poll.ensures.leaves
+    at_end _ (LeavesPolled (poll_reply c.poll.result)) c.poll.new.g.ground.now
+    (leaves_polled C.Poll c.poll.result c.poll.ensures.run refl (resting c.poll.ensures.rests))
 
 pub returns-clause-stays_closed : goal.returns-clause-stays_closed
 returns-clause-stays_closed g c closed =
-    c.poll.ensures.stays (closed_before {own = c.self.inside.ground} _ refl (future_steps c.self.view_is) closed)
+    polled_over c.poll.result (stays_closed C.Poll c.poll.ensures.run (begins_closed _
+    (closed_before {own = c.self.inside.ground} _ refl (future_steps c.self.view_is) closed))
+    (polled_somewhere (resting c.poll.ensures.rests)))
 
 pub returns-clause-closes : goal.returns-clause-closes
 returns-clause-closes g c = closed_polled c.poll.result (returns-clause-leaves g c)
 
 pub returns-clause-stays_open : goal.returns-clause-stays_open
-returns-clause-stays_open g c = open_polled (returns-clause-leaves g c)
+returns-clause-stays_open g c = open_polled c.poll.result (returns-clause-leaves g c)
 
 pub returns-clause-woken : goal.returns-clause-woken
 returns-clause-woken g c =

@@ -2,7 +2,9 @@
 use Rattle.std.proofs.Common.{[], ◌∷◌, refl, sym, ap, subst}
 use Rattle.std.specs.Prelude.{◌↔◌, IsTrue}
 use Rattle.oneshot_machine.specs.declared.machine.receiver.ReceiverStart.TheVariants.{RecvTimeout}
-use Rattle.oneshot_drive.specs.BetweenCalls.{LeavesTimed}
+use Rattle.oneshot_drive.specs.BetweenCalls.{Leaves, timed_reply}
+use Rattle.oneshot_drive.specs.Polls.{unpolled}
+use Rattle.oneshot_drive.proofs.LeftPhases.{begins_closed, polled_somewhere, resting, leaves, stays_closed, timed_over}
 use Rattle.oneshot_ends.specs.Deadlines.{HasEnd}
 use Rattle.oneshot_ends.proofs.CallsAnswered.{one_answered}
 use Rattle.oneshot_ends.proofs.EndViews.{same_steps, same_about, same_took, lent_about, kept_about}
@@ -44,12 +46,14 @@ returns-clause-run g c =
 
 pub returns-clause-leaves : goal.returns-clause-leaves
 returns-clause-leaves g c =
-    at_end _ (LeavesTimed c.recv_timeout.result) c.recv_timeout.new.g.ground.now c.recv_timeout.ensures.leaves
+    at_end _ (Leaves (timed_reply c.recv_timeout.result)) c.recv_timeout.new.g.ground.now
+    (leaves (RecvTimeout c.has_end-has_end.result) c.recv_timeout.ensures.run refl (resting c.recv_timeout.ensures.rests))
 
 pub returns-clause-stays_closed : goal.returns-clause-stays_closed
 returns-clause-stays_closed g c closed =
-    c.recv_timeout.ensures.stays
-    (closed_before _ (ap (λ r. r.now) c.lend-lent.ensures.ground) (same_steps c.self.view_is) closed)
+    timed_over c.recv_timeout.result (stays_closed (RecvTimeout c.has_end-has_end.result) c.recv_timeout.ensures.run (begins_closed _
+    (closed_before _ (ap (λ r. r.now) c.lend-lent.ensures.ground) (same_steps c.self.view_is) closed))
+    (polled_somewhere (unpolled (resting c.recv_timeout.ensures.rests))))
 
 pub returns-clause-promise : goal.returns-clause-promise
 returns-clause-promise g c =

@@ -1,7 +1,9 @@
 -- Proofs of the goals that `recv_deadline` of `Receiver` leaves.
 use Rattle.std.proofs.Common.{[], ◌∷◌, refl, ap}
 use Rattle.oneshot_machine.specs.declared.machine.receiver.ReceiverStart.TheVariants.{RecvDeadline}
-use Rattle.oneshot_drive.specs.BetweenCalls.{LeavesTimed}
+use Rattle.oneshot_drive.specs.BetweenCalls.{Leaves, timed_reply}
+use Rattle.oneshot_drive.specs.Polls.{unpolled}
+use Rattle.oneshot_drive.proofs.LeftPhases.{begins_closed, polled_somewhere, resting, leaves, stays_closed, timed_over}
 use Rattle.oneshot_drive.proofs.ReadyHands.{closed_in_time, open_too_late}
 use Rattle.oneshot_ends.proofs.CallsAnswered.{one_answered}
 use Rattle.oneshot_ends.proofs.EndViews.{same_steps, same_about, same_took, lent_about, kept_about}
@@ -36,18 +38,20 @@ returns-clause-run g c =
 
 pub returns-clause-leaves : goal.returns-clause-leaves
 returns-clause-leaves g c =
-    at_end _ (LeavesTimed c.recv_deadline.result) c.recv_deadline.new.g.ground.now c.recv_deadline.ensures.leaves
+    at_end _ (Leaves (timed_reply c.recv_deadline.result)) c.recv_deadline.new.g.ground.now
+    (leaves RecvDeadline c.recv_deadline.ensures.run refl (resting c.recv_deadline.ensures.rests))
 
 pub returns-clause-stays_closed : goal.returns-clause-stays_closed
 returns-clause-stays_closed g c closed =
-    c.recv_deadline.ensures.stays
-    (closed_before _ (ap (λ r. r.now) c.lend-lent.ensures.ground) (same_steps c.self.view_is) closed)
+    timed_over c.recv_deadline.result (stays_closed RecvDeadline c.recv_deadline.ensures.run (begins_closed _
+    (closed_before _ (ap (λ r. r.now) c.lend-lent.ensures.ground) (same_steps c.self.view_is) closed))
+    (polled_somewhere (unpolled (resting c.recv_deadline.ensures.rests))))
 
 pub returns-clause-closes : goal.returns-clause-closes
-returns-clause-closes g c = closed_in_time (returns-clause-leaves g c)
+returns-clause-closes g c = closed_in_time c.recv_deadline.result (returns-clause-leaves g c)
 
 pub returns-clause-stays_open : goal.returns-clause-stays_open
-returns-clause-stays_open g c = open_too_late (returns-clause-leaves g c)
+returns-clause-stays_open g c = open_too_late c.recv_deadline.result (returns-clause-leaves g c)
 
 pub returns-clause-promise : goal.returns-clause-promise
 returns-clause-promise g c =

@@ -1,8 +1,10 @@
 -- Proofs of the goals that `recv_ref` of `Receiver` leaves.
 use Rattle.std.proofs.Common.{[], ◌∷◌, refl, ap}
 use Rattle.oneshot_machine.specs.declared.machine.receiver.ReceiverStart.TheVariants.{RecvRef}
-use Rattle.oneshot_drive.specs.BetweenCalls.{LeavesClosed}
-use Rattle.oneshot_drive.proofs.ReadyHands.{closed_by, ready_closed}
+use Rattle.oneshot_drive.specs.BetweenCalls.{Leaves, recv_reply}
+use Rattle.oneshot_drive.specs.Polls.{unpolled}
+use Rattle.oneshot_drive.proofs.LeftPhases.{begins_closed, polled_somewhere, resting, leaves, stays_closed, recv_over}
+use Rattle.oneshot_drive.proofs.ReadyHands.{closed_by}
 use Rattle.oneshot_ends.proofs.CallsAnswered.{one_answered}
 use Rattle.oneshot_ends.proofs.EndViews.{same_steps, same_about, same_took, lent_about, kept_about}
 use Rattle.oneshot_ends.proofs.GrewByRuns.{grew_by, closed_before, at_end}
@@ -19,7 +21,7 @@ pub invariant_of-self : goal.invariant_of-self
 invariant_of-self g c =
     record {
       rests = given_back (_ ∷ _ ∷ []) c.recv_ref.new.g.ground.now c.recv_ref.ensures.rests;
-      ready = ready_closed c.recv_ref.new.hand c.recv_ref.result _ c.recv_ref.ensures.leaves;
+      ready = λ none. closed_by c.recv_ref.result (leaves RecvRef c.recv_ref.ensures.run refl (resting c.recv_ref.ensures.rests));
       calls = one_answered RecvRef refl c.self.invariant.calls
           (grew_by (ap (λ r. r.now) c.lend-lent.ensures.ground) refl c.recv_ref.new.g.ground.now
           RecvRef c.recv_ref.ensures.run);
@@ -36,15 +38,17 @@ returns-clause-run g c =
 
 pub returns-clause-leaves : goal.returns-clause-leaves
 returns-clause-leaves g c =
-    at_end _ (LeavesClosed c.recv_ref.result) c.recv_ref.new.g.ground.now c.recv_ref.ensures.leaves
+    at_end _ (Leaves (recv_reply c.recv_ref.result)) c.recv_ref.new.g.ground.now
+    (leaves RecvRef c.recv_ref.ensures.run refl (resting c.recv_ref.ensures.rests))
 
 pub returns-clause-stays_closed : goal.returns-clause-stays_closed
 returns-clause-stays_closed g c closed =
-    c.recv_ref.ensures.stays
-    (closed_before _ (ap (λ r. r.now) c.lend-lent.ensures.ground) (same_steps c.self.view_is) closed)
+    recv_over c.recv_ref.result (stays_closed RecvRef c.recv_ref.ensures.run (begins_closed _
+    (closed_before _ (ap (λ r. r.now) c.lend-lent.ensures.ground) (same_steps c.self.view_is) closed))
+    (polled_somewhere (unpolled (resting c.recv_ref.ensures.rests))))
 
 pub returns-clause-closes : goal.returns-clause-closes
-returns-clause-closes g c = closed_by _ _ (returns-clause-leaves g c)
+returns-clause-closes g c = closed_by c.recv_ref.result (returns-clause-leaves g c)
 
 pub returns-clause-promise : goal.returns-clause-promise
 returns-clause-promise g c =

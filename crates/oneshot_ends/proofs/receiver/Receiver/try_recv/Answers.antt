@@ -1,8 +1,10 @@
 -- Proofs of the goals that `try_recv` of `Receiver` leaves.
 use Rattle.std.proofs.Common.{refl}
 use Rattle.oneshot_machine.specs.declared.machine.receiver.ReceiverStart.TheVariants.{TryRecv}
-use Rattle.oneshot_drive.specs.BetweenCalls.{Leaves}
-use Rattle.oneshot_drive.proofs.ReadyHands.{closed_tried, open_tried, ready_still}
+use Rattle.oneshot_drive.specs.BetweenCalls.{Leaves, try_recv_reply}
+use Rattle.oneshot_drive.specs.Polls.{unpolled}
+use Rattle.oneshot_drive.proofs.LeftPhases.{begins_closed, polled_somewhere, resting, leaves, stays_closed, tried_over, ready_still}
+use Rattle.oneshot_drive.proofs.ReadyHands.{closed_tried, open_tried}
 use Rattle.oneshot_ends.proofs.CallsAnswered.{one_answered}
 use Rattle.oneshot_ends.proofs.EndViews.{same_steps, same_about, same_took, kept_about}
 use Rattle.oneshot_ends.proofs.GrewByRuns.{grew_by, closed_before, at_end, try_recv_few}
@@ -13,8 +15,7 @@ pub invariant_of-self : goal.invariant_of-self
 invariant_of-self g c =
     record {
       rests = c.try_recv.ensures.rests;
-      ready = ready_still c.self.inside.hand c.try_recv.result _ _ c.self.invariant.ready c.try_recv.ensures.stays
-          c.try_recv.ensures.leaves;
+      ready = ready_still c.try_recv.ensures.run (resting c.try_recv.ensures.rests) c.self.invariant.ready;
       calls = one_answered TryRecv refl c.self.invariant.calls
           (grew_by {own = c.self.inside.ground} refl refl c.try_recv.new.g TryRecv c.try_recv.ensures.run);
       halves = c.try_recv.ensures.keeps.halves _ c.self.invariant.halves;
@@ -28,17 +29,20 @@ returns-clause-run g c =
     c.try_recv.ensures.run
 
 pub returns-clause-leaves : goal.returns-clause-leaves
-returns-clause-leaves g c = at_end _ (Leaves c.try_recv.result) c.try_recv.new.g c.try_recv.ensures.leaves
+returns-clause-leaves g c = at_end _ (Leaves (try_recv_reply c.try_recv.result)) c.try_recv.new.g
+    (leaves TryRecv c.try_recv.ensures.run refl (resting c.try_recv.ensures.rests))
 
 pub returns-clause-stays_closed : goal.returns-clause-stays_closed
 returns-clause-stays_closed g c closed =
-    c.try_recv.ensures.stays (closed_before {own = c.self.inside.ground} _ refl (same_steps c.self.view_is) closed)
+    tried_over c.try_recv.result (stays_closed TryRecv c.try_recv.ensures.run (begins_closed _
+    (closed_before {own = c.self.inside.ground} _ refl (same_steps c.self.view_is) closed))
+    (polled_somewhere (unpolled (resting c.try_recv.ensures.rests))))
 
 pub returns-clause-closes : goal.returns-clause-closes
-returns-clause-closes g c = closed_tried (returns-clause-leaves g c)
+returns-clause-closes g c = closed_tried c.try_recv.result (returns-clause-leaves g c)
 
 pub returns-clause-stays_open : goal.returns-clause-stays_open
-returns-clause-stays_open g c = open_tried (returns-clause-leaves g c)
+returns-clause-stays_open g c = open_tried c.try_recv.result (returns-clause-leaves g c)
 
 pub returns-clause-bounded : goal.returns-clause-bounded
 returns-clause-bounded g c = try_recv_few (returns-clause-run g c)
