@@ -1,5 +1,5 @@
 -- Whether a poll or a `try_recv` leaves its future closed or open, by its result, and registered or not.
-use Rattle.std.proofs.Common.{◌≡◌, ◌≢◌, List, Result, Ok, Err, refl, sym, ap, ◌∙◌, subst}
+use Rattle.std.proofs.Common.{◌≡◌, ◌≢◌, List, Result, Ok, Err, refl, sym, ap, ◌∙◌}
 use Rattle.futures.specs.declared.task.Poll.{Poll}
 use Rattle.futures.specs.declared.task.Poll.TheVariants.{Ready, Pending}
 use Rattle.oneshot_errors.specs.declared.recv.RecvError.{RecvError}

@@ -3,8 +3,7 @@ use Rattle.std.proofs.Common.{◌≡◌, ◌⊎◌, inl, inr, Bool, true, false,
 use Rattle.std.proofs.lemmas.Bool.{and_parts}
 use Rattle.std.proofs.lemmas.List.Folds.{list_any-append}
 use mathlib.Core.Bool.{or_assoc, or_comm}
-use Rattle.std.specs.Prelude.{ℕ, ◌&&◌, ◌||◌, if◌then◌else◌, is_some, is_err, IfOk, IsErr}
-use Rattle.std.specs.List.{list_all}
+use Rattle.std.specs.Prelude.{ℕ, ◌&&◌, ◌||◌, is_some, is_err, IfOk, IsErr}
 use Rattle.futures.specs.declared.task.Poll.{Poll}
 use Rattle.futures.specs.declared.task.waker.Waker.{Waker}
 use Rattle.futures.specs.declared.task.Poll.TheVariants.{Ready, Pending}
@@ -23,12 +22,12 @@ use Rattle.oneshot_machine.specs.declared.machine.future.FuturePos.TheVariants.{
 use Rattle.oneshot_machine.specs.declared.states.Op.{Op}
 use Rattle.oneshot_machine.specs.declared.states.TheConstants.{MESSAGE}
 use Rattle.oneshot_machine.specs.Called.{Form, as_receiver, as_future, stays}
-use Rattle.oneshot_machine.specs.Noted.{Noted, op_of, saw}
-use Rattle.oneshot_machine.specs.Logs.{Event, words, receiver_of}
+use Rattle.oneshot_machine.specs.Noted.{Noted, saw}
+use Rattle.oneshot_machine.specs.Logs.{Event, words}
 use Rattle.oneshot_machine.specs.Receiver.{receiver_start, receiver_step, receiver_rows, receiver_row}
 use Rattle.oneshot_machine.specs.Phases.{ReceiverAt, receiver_at, phase_from}
 use Rattle.oneshot_machine.specs.Runs.{Run}
-use Rattle.oneshot_machine.specs.TableRows.{Outcome, Goes, Answers, row_for, is_same_seen}
+use Rattle.oneshot_machine.specs.TableRows.{is_same_seen}
 use Rattle.oneshot_machine.proofs.RunsByRows.{carries, by_tests}
 use Rattle.oneshot_errors.specs.declared.recv.RecvError.{RecvError}
 use Rattle.oneshot_errors.specs.declared.recv_timeout.RecvTimeoutError.{RecvTimeoutError}
