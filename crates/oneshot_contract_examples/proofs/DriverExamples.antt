@@ -1,11 +1,11 @@
 -- Proofs of the examples of ends, of what a call leaves, of replies and of hands.
 use Rattle.oneshot_drive.proofs.Names.{inl, inr, refl, closed_itself, found_closed, after_load, after_timeout, blocked, waits, withdrew, rests_new, rests_open, rests_closed}
-use Rattle.oneshot_drive.proofs.Names.{leaves_open, leaves_closed, left_received, left_closed, timed_received, timed_out, timed_closed}
 use Rattle.oneshot_contract_examples.specs.DriverExamples.{message}
 use Rattle.oneshot_drive.proofs.Names.{Polled, unpolled, left_copy, kept_copy, found_sender}
 use Rattle.oneshot_contract_examples.specs.DriverExamples.{PhasesThatAre, PhasesThatAreNot, CallsThatLeave, CallsThatDoNot, RepliesThatAre, HandsThatAre, HandsThatAreNot}
-use Rattle.oneshot_drive.proofs.Names.{has_resolved, leaves_resolved, leaves_gone, leaves_waiting, tried_resolved, tried_its_copy, is_disconnected}
-use Rattle.oneshot_drive.specs.BetweenCalls.{leaves_received, last_finished, last_overtaken}
+use Rattle.oneshot_drive.proofs.Names.{has_resolved, leaves_waiting, is_disconnected}
+use Rattle.oneshot_drive.specs.Polls.{leaves_resolved, leaves_gone, tried_resolved, tried_its_copy}
+use Rattle.oneshot_drive.specs.BetweenCalls.{leaves_received, leaves_closed, leaves_empty, leaves_late, last_finished, last_overtaken}
 
 pub phases_that_are : PhasesThatAre
 phases_that_are =
@@ -62,18 +62,14 @@ phases_that_are_not =
 pub calls_that_leave : CallsThatLeave
 calls_that_leave =
     record {
-      takes = leaves_received message;
-      finds_nothing = leaves_open;
+      takes = leaves_received;
+      finds_nothing = leaves_empty;
       finds_no_sender = leaves_closed;
-      blocks_for_it = left_received message;
-      blocks_in_vain = left_closed;
-      comes_in_time = timed_received message;
-      runs_out = timed_out;
-      ends_in_time = timed_closed;
-      polls_it = leaves_resolved message;
-      polls_over_nobody = λ e. leaves_gone e found_closed;
+      runs_out = leaves_late;
+      polls_it = leaves_resolved;
+      polls_over_nobody = leaves_gone found_closed;
       polls_too_early = leaves_waiting;
-      tries_it = tried_resolved message;
+      tries_it = tried_resolved;
       tries_too_early = tried_its_copy;
       leaves_its_copy = inl (refl, tt);
       woke_its_task = inr tt;
@@ -85,18 +81,14 @@ calls_that_leave =
 pub calls_that_do_not : CallsThatDoNot
 calls_that_do_not =
     record {
-      takes_and_is_open = λ h. elim h [ ];
+      takes_and_is_open = λ _ h. elim h [ ];
       takes_what_another_closed = λ h. elim h [ ];
       finds_nothing_and_closes = λ _ h. elim h [ ];
       finds_no_sender_and_is_open = λ _ h. elim h [ ];
-      blocks_and_is_open = λ _ h. elim h [ ];
-      fails_and_is_open = λ _ _ h. elim h [ ];
       runs_out_and_closes = λ _ h. elim h [ ];
       runs_out_while_it_waits = λ _ h. elim h [ ];
-      comes_in_time_and_is_open = λ _ h. elim h [ ];
-      ends_in_time_and_is_open = λ _ h. elim h [ ];
       polls_it_and_waits = λ _ h. elim h [ ];
-      polls_over_nobody_and_waits = λ _ _ h. elim h [ ];
+      polls_over_nobody_and_waits = λ _ h. elim h [ ];
       pends_and_never_loaded = λ h. elim h [ ];
       pends_and_is_closed = λ _ h. elim h [ ];
       pends_with_the_message = λ _ h. elim h [ ];

@@ -12,7 +12,7 @@ use Rattle.oneshot_machine.specs.Logs.{Event, Log, did, handed, copied, worded}
 use Rattle.oneshot_machine.specs.Phases.{By, sending, dropping, finished, overtaken, Closing, closed_itself, found_closed, Got, Open, after_load, after_timeout, Swapping, polled, again}
 use Rattle.oneshot_machine.specs.Phases.{blocked, Waiting, first, idle, waits, claimed, withdrew, overdue, full, unclosed, disconnected, resolved, gone, ended}
 use Rattle.oneshot_machine.specs.Slots.{Held, away, vacant, held}
-use Rattle.oneshot_drive.specs.BetweenCalls.{IsFresh, IsError, LastLeaves, Rests, AtRest, IsClosedAt, IsOpenAt, Leaves, LeavesClosed, LeavesTimed, IsReady}
+use Rattle.oneshot_drive.specs.BetweenCalls.{IsFresh, IsError, LastLeaves, Rests, AtRest, IsClosedAt, IsOpenAt, Leaves, IsReady}
 use Rattle.oneshot_drive.specs.BetweenCalls.{send_reply, try_recv_reply, recv_reply, timed_reply, received}
 use Rattle.oneshot_drive.specs.Blocking.{Parks}
 use Rattle.oneshot_drive.specs.Grounds.{GroundState, SenderAsks, SenderMakes, ReceiverAsks, ReceiverMakes}
@@ -69,19 +69,15 @@ pub record PhasesThatAreNot : Type 0 where
 
 -- WHAT A CALL LEAVES
 pub record CallsThatLeave : Type 0 where
-  pub takes : Leaves (Ok message) (disconnected closed_itself)
-  pub finds_nothing : Leaves {T = ℕ} (Err E.Empty) (idle after_load)
-  pub finds_no_sender : (c : Closing) → Leaves {T = ℕ} (Err E.Disconnected) (disconnected c)
-  pub blocks_for_it : LeavesClosed (Ok message) (disconnected closed_itself)
-  pub blocks_in_vain : (e : RecvError) (c : Closing) → LeavesClosed {T = ℕ} (Err e) (disconnected c)
-  pub comes_in_time : LeavesTimed (Ok message) (disconnected closed_itself)
-  pub runs_out : LeavesTimed {T = ℕ} (Err Timed.Timeout) (idle after_timeout)
-  pub ends_in_time : (c : Closing) → LeavesTimed {T = ℕ} (Err Timed.Disconnected) (disconnected c)
-  pub polls_it : LeavesPolled (Ready (Ok message)) (resolved closed_itself)
-  pub polls_over_nobody : (e : RecvError) → LeavesPolled {T = ℕ} (Ready (Err e)) (resolved found_closed)
-  pub polls_too_early : LeavesPolled {T = ℕ} Pending (waits polled)
-  pub tries_it : LeavesTried (Ok message) (resolved closed_itself)
-  pub tries_too_early : LeavesTried {T = ℕ} (Err E.Empty) (waits again)
+  pub takes : Leaves R.Message (disconnected closed_itself)
+  pub finds_nothing : Leaves R.Empty (idle after_load)
+  pub finds_no_sender : (c : Closing) → Leaves R.Disconnected (disconnected c)
+  pub runs_out : Leaves R.Timeout (idle after_timeout)
+  pub polls_it : LeavesPolled R.Message (resolved closed_itself)
+  pub polls_over_nobody : LeavesPolled R.Disconnected (resolved found_closed)
+  pub polls_too_early : LeavesPolled R.Pending (waits polled)
+  pub tries_it : LeavesTried R.Message (resolved closed_itself)
+  pub tries_too_early : LeavesTried R.Empty (waits again)
   pub leaves_its_copy : LeavesTask (waits polled) ⊤ ⊥
   pub woke_its_task : LeavesTask claimed ⊥ ⊤
   pub stays_registered : StaysRegistered {T = ℕ} (Err E.Empty) (waits polled) (waits again)
@@ -89,24 +85,20 @@ pub record CallsThatLeave : Type 0 where
   pub stays_unregistered : StaysRegistered {T = ℕ} (Err E.Empty) first (idle after_load)
 
 pub record CallsThatDoNot : Type 0 where
-  pub takes_and_is_open : Leaves (Ok message) (idle after_load) → ⊥
-  pub takes_what_another_closed : Leaves (Ok message) (disconnected found_closed) → ⊥
-  pub finds_nothing_and_closes : (c : Closing) → Leaves {T = ℕ} (Err E.Empty) (disconnected c) → ⊥
-  pub finds_no_sender_and_is_open : (o : Open) → Leaves {T = ℕ} (Err E.Disconnected) (idle o) → ⊥
-  pub blocks_and_is_open : (o : Open) → LeavesClosed (Ok message) (idle o) → ⊥
-  pub fails_and_is_open : (e : RecvError) (o : Open) → LeavesClosed {T = ℕ} (Err e) (idle o) → ⊥
-  pub runs_out_and_closes : (c : Closing) → LeavesTimed {T = ℕ} (Err Timed.Timeout) (disconnected c) → ⊥
-  pub runs_out_while_it_waits : (w : Waiting) → LeavesTimed {T = ℕ} (Err Timed.Timeout) (waits w) → ⊥
-  pub comes_in_time_and_is_open : (o : Open) → LeavesTimed (Ok message) (idle o) → ⊥
-  pub ends_in_time_and_is_open : (o : Open) → LeavesTimed {T = ℕ} (Err Timed.Disconnected) (idle o) → ⊥
-  pub polls_it_and_waits : (w : Waiting) → LeavesPolled (Ready (Ok message)) (waits w) → ⊥
-  pub polls_over_nobody_and_waits : (e : RecvError) (w : Waiting) → LeavesPolled {T = ℕ} (Ready (Err e)) (waits w) → ⊥
-  pub pends_and_never_loaded : LeavesPolled {T = ℕ} Pending first → ⊥
-  pub pends_and_is_closed : (c : Closing) → LeavesPolled {T = ℕ} Pending (resolved c) → ⊥
-  pub pends_with_the_message : (g : Got) → LeavesPolled {T = ℕ} Pending (full g) → ⊥
-  pub tries_it_and_waits : (w : Waiting) → LeavesTried (Ok message) (waits w) → ⊥
-  pub finds_nothing_and_resolves : (c : Closing) → LeavesTried {T = ℕ} (Err E.Empty) (resolved c) → ⊥
-  pub tries_and_has_polled : LeavesTried {T = ℕ} (Err E.Empty) (waits polled) → ⊥
+  pub takes_and_is_open : (o : Open) → Leaves R.Message (idle o) → ⊥
+  pub takes_what_another_closed : Leaves R.Message (disconnected found_closed) → ⊥
+  pub finds_nothing_and_closes : (c : Closing) → Leaves R.Empty (disconnected c) → ⊥
+  pub finds_no_sender_and_is_open : (o : Open) → Leaves R.Disconnected (idle o) → ⊥
+  pub runs_out_and_closes : (c : Closing) → Leaves R.Timeout (disconnected c) → ⊥
+  pub runs_out_while_it_waits : (w : Waiting) → Leaves R.Timeout (waits w) → ⊥
+  pub polls_it_and_waits : (w : Waiting) → LeavesPolled R.Message (waits w) → ⊥
+  pub polls_over_nobody_and_waits : (w : Waiting) → LeavesPolled R.Disconnected (waits w) → ⊥
+  pub pends_and_never_loaded : LeavesPolled R.Pending first → ⊥
+  pub pends_and_is_closed : (c : Closing) → LeavesPolled R.Pending (resolved c) → ⊥
+  pub pends_with_the_message : (g : Got) → LeavesPolled R.Pending (full g) → ⊥
+  pub tries_it_and_waits : (w : Waiting) → LeavesTried R.Message (waits w) → ⊥
+  pub finds_nothing_and_resolves : (c : Closing) → LeavesTried R.Empty (resolved c) → ⊥
+  pub tries_and_has_polled : LeavesTried R.Empty (waits polled) → ⊥
   pub leaves_no_copy : LeavesTask (idle after_load) ⊤ ⊥ → ⊥
   pub leaves_an_older_copy : LeavesTask (waits again) ⊤ ⊥ → ⊥
   pub leaves_anothers_copy : LeavesTask (waits polled) ⊥ ⊥ → ⊥

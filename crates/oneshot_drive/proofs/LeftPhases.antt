@@ -1,41 +1,32 @@
 -- The law that leads from the positions of a run to the phase after it: the reply of a call shows how it leaves its
 -- receiver or its future. Each operation of the run moves the phase by the phases' table.
-use Rattle.std.proofs.Common.{◌≡◌, Bool, true, false, List, Option, Result, Ok, Err, refl, sym, ap, ◌∙◌, subst}
+use Rattle.oneshot_drive.proofs.Names.{◌≡◌, Bool, true, false, List, Option, Result, Ok, Err, refl, sym, ap, ◌∙◌, subst, Ready, Pending, RecvError, RecvTimeoutError, TryRecvError, Reply, TryRecv}
+use Rattle.oneshot_drive.proofs.Names.{ReceiverPos, Take, CloseOnly, StartLoad, StartSwap, SumClock, Clock, EndBack, RecvLoad, RecvFreeGone, PollLoad, PollCopy, PollBackClosed, AgainCopy, PollOwn}
+use Rattle.oneshot_drive.proofs.Names.{AsyncTryLoad, Log, words, receiver_of, ReceiverAt, first, idle, after_load, after_timeout, waits, polled, claimed, overdue, unclosed, disconnected}
+use Rattle.oneshot_drive.proofs.Names.{closed_itself, resolved, no_receiver, receiver_at, receiver_next, receiver_step, receiver_rows, ReceiverRan, Rests, rests_new, rests_open, rests_closed}
+use Rattle.oneshot_drive.proofs.Names.{IsClosedAt, IsReady, GroundState, StandsIn, Polled, unpolled, left_copy, kept_copy, found_sender, has_resolved, LeavesPolled, leaves_resolved, leaves_over}
+use Rattle.oneshot_drive.proofs.Names.{leaves_gone, leaves_uncopied, leaves_waiting, leaves_its_copy, leaves_claimed, LeavesTried, tried_received, tried_resolved, tried_closed, tried_uncopied}
+use Rattle.oneshot_drive.proofs.Names.{tried_its_copy, tried_claimed, is_disconnected, Try, Ref, Timed, Value, Future, AsyncDrop}
 use Rattle.std.proofs.lemmas.Bool.{and_parts}
 use Rattle.std.specs.Prelude.{◌&&◌, ◌||◌, IsErr}
 use Rattle.std.specs.List.{list_all}
 use Rattle.futures.specs.declared.task.Poll.{Poll}
-use Rattle.futures.specs.declared.task.Poll.TheVariants.{Ready, Pending}
-use Rattle.oneshot_errors.specs.declared.recv.RecvError.{RecvError}
-use Rattle.oneshot_errors.specs.declared.recv_timeout.RecvTimeoutError.{RecvTimeoutError}
-use Rattle.oneshot_errors.specs.declared.recv_timeout.RecvTimeoutError.TheVariants as Timed
-use Rattle.oneshot_errors.specs.declared.try_recv.TryRecvError.{TryRecvError}
+use Rattle.oneshot_errors.specs.declared.recv_timeout.RecvTimeoutError.TheVariants as Timeouts
 use Rattle.oneshot_errors.specs.declared.try_recv.TryRecvError.TheVariants as Tried
-use Rattle.oneshot_machine.specs.declared.machine.Reply.{Reply}
 use Rattle.oneshot_machine.specs.declared.machine.Reply.TheVariants as R
 use Rattle.oneshot_machine.specs.declared.machine.receiver.ReceiverStart.{ReceiverStart}
-use Rattle.oneshot_machine.specs.declared.machine.receiver.ReceiverStart.TheVariants.{TryRecv}
-use Rattle.oneshot_machine.specs.declared.machine.receiver.ReceiverPos.{ReceiverPos}
-use Rattle.oneshot_machine.specs.declared.machine.receiver.ReceiverPos.TheVariants as P
-use Rattle.oneshot_machine.specs.declared.machine.try_recv.TryPos.TheVariants.{TryLoad, Take, CloseOnly}
-use Rattle.oneshot_machine.specs.declared.machine.by_ref.RefPos.TheVariants.{StartLoad, StartSwap, BackClosed}
-use Rattle.oneshot_machine.specs.declared.machine.timed.TimedPos.TheVariants.{SumClock, Clock, EndBack}
-use Rattle.oneshot_machine.specs.declared.machine.value.ValuePos.TheVariants.{RecvLoad, RecvFreeGone}
-use Rattle.oneshot_machine.specs.declared.machine.future.FuturePos.TheVariants.{IntoFuture, PollLoad, PollCopy, PollBackClosed, AgainCopy, PollOwn, AsyncTryLoad}
-use Rattle.oneshot_machine.specs.Logs.{Log, words, receiver_of}
+use Rattle.oneshot_machine.specs.declared.machine.try_recv.TryPos.TheVariants.{TryLoad}
+use Rattle.oneshot_machine.specs.declared.machine.by_ref.RefPos.TheVariants.{BackClosed}
+use Rattle.oneshot_machine.specs.declared.machine.future.FuturePos.TheVariants.{IntoFuture}
 use Rattle.oneshot_machine.specs.Over.{FoundTheEnd, found_message}
-use Rattle.oneshot_machine.specs.Phases.{ReceiverAt, first, idle, after_load, after_timeout, waits, polled, claimed, overdue, unclosed, disconnected, closed_itself, resolved, no_receiver}
-use Rattle.oneshot_machine.specs.Phases.{receiver_at, receiver_next}
-use Rattle.oneshot_machine.specs.Receiver.{receiver_start, receiver_step, receiver_rows}
-use Rattle.oneshot_machine.specs.Runs.{ReceiverRan}
+use Rattle.oneshot_machine.specs.Receiver.{receiver_start}
 use Rattle.oneshot_machine.proofs.EachPhase.{receivers, at_each_receiver}
 use Rattle.oneshot_machine.proofs.GrownLogs.{phase_from-append, words_after}
 use Rattle.oneshot_machine.proofs.RunsByRows.{carries, by_tests}
-use Rattle.oneshot_drive.specs.BetweenCalls.{Rests, rests_new, rests_open, rests_closed, is_closed_at, IsClosedAt, Leaves, leaves_received, leaves_closed, leaves_empty, leaves_late, try_recv_reply, recv_reply, timed_reply, IsReady}
-use Rattle.oneshot_drive.specs.Grounds.{GroundState, StandsIn}
-use Rattle.oneshot_drive.specs.Polls.{Polled, unpolled, left_copy, kept_copy, found_sender, has_resolved, LeavesPolled, leaves_resolved, leaves_over, leaves_gone, leaves_uncopied, leaves_waiting}
-use Rattle.oneshot_drive.specs.Polls.{leaves_its_copy, leaves_claimed, LeavesTried, tried_received, tried_resolved, tried_closed, tried_uncopied, tried_its_copy, tried_claimed, poll_reply, IsDisconnected, is_disconnected}
+use Rattle.oneshot_drive.specs.BetweenCalls.{is_closed_at, Leaves, leaves_received, leaves_closed, leaves_empty, leaves_late, try_recv_reply, recv_reply, timed_reply}
+use Rattle.oneshot_drive.specs.Polls.{poll_reply, IsDisconnected}
 use Rattle.oneshot_drive.specs.Polls.{leaves_received as polled_received}
+use Rattle.oneshot_machine.specs.declared.machine.receiver.ReceiverPos.TheVariants.{Look, Drop}
 
 -- the cases that the law tells apart
 pub data Case : Type 0 where
@@ -78,36 +69,36 @@ is_left _ _ _ = false
 
 -- where a call begins that loads first
 abbrev is_first : ReceiverPos → Bool
-is_first (P.Try TryLoad) = true
-is_first (P.Ref (StartLoad timed)) = true
-is_first (P.Timed (SumClock representable)) = true
-is_first (P.Value RecvLoad) = true
-is_first (P.Future PollLoad) = true
-is_first (P.Future AsyncTryLoad) = true
+is_first (Try TryLoad) = true
+is_first (Ref (StartLoad timed)) = true
+is_first (Timed (SumClock representable)) = true
+is_first (Value RecvLoad) = true
+is_first (Future PollLoad) = true
+is_first (Future AsyncTryLoad) = true
 is_first _ = false
 
 -- the phases at each position of such a call
 abbrev is_at : Case → ReceiverPos → ReceiverAt → Bool
-is_at closed (P.Value RecvFreeGone) at = true
+is_at closed (Value RecvFreeGone) at = true
 is_at closed p at = is_first p && is_closed_at at
-is_at case (P.Try Take) at = is_left case R.Message at
-is_at case (P.Try CloseOnly) at = is_unclosed at
-is_at case (P.Ref BackClosed) at = is_unclosed at
-is_at case (P.Timed EndBack) at = is_left case R.Timeout at
-is_at trying (P.Future AsyncTryLoad) at = true
-is_at trying (P.Future p) at = false
-is_at polling (P.Future IntoFuture) at = false
-is_at polling (P.Future PollCopy) at = is_unsent at
-is_at polling (P.Future AgainCopy) at = is_unsent at
-is_at polling (P.Future PollOwn) at = is_unsent at
-is_at polling (P.Future PollBackClosed) at = is_left polling R.Disconnected at
-is_at case (P.Value p) at = false
+is_at case (Try Take) at = is_left case R.Message at
+is_at case (Try CloseOnly) at = is_unclosed at
+is_at case (Ref BackClosed) at = is_unclosed at
+is_at case (Timed EndBack) at = is_left case R.Timeout at
+is_at trying (Future AsyncTryLoad) at = true
+is_at trying (Future p) at = false
+is_at polling (Future IntoFuture) at = false
+is_at polling (Future PollCopy) at = is_unsent at
+is_at polling (Future AgainCopy) at = is_unsent at
+is_at polling (Future PollOwn) at = is_unsent at
+is_at polling (Future PollBackClosed) at = is_left polling R.Disconnected at
+is_at case (Value p) at = false
 is_at _ _ _ = true
 
 abbrev pub stands : Case → ReceiverPos → ReceiverAt → Bool
-stands case (P.Look p) at = false
-stands case (P.AsyncDrop p) at = false
-stands case (P.Drop p) at = false
+stands case (Look p) at = false
+stands case (AsyncDrop p) at = false
+stands case (Drop p) at = false
 stands case p at = is_at case p at || is_nowhere at
 
 abbrev ends : Case → Reply → ReceiverAt → Bool
@@ -118,11 +109,11 @@ all_carry case p =
     list_all (carries (stands case) (ends case) receiver_step receiver_rows receiver_next p) receivers
 
 each_carries : (p : ReceiverPos) → (all_carry trying p && (all_carry polling p && all_carry closed p)) ≡ true
-each_carries (P.Try TryLoad) = refl
-each_carries (P.Ref (StartSwap false)) = refl
-each_carries (P.Timed Clock) = refl
-each_carries (P.Value RecvLoad) = refl
-each_carries (P.Future PollLoad) = refl
+each_carries (Try TryLoad) = refl
+each_carries (Ref (StartSwap false)) = refl
+each_carries (Timed Clock) = refl
+each_carries (Value RecvLoad) = refl
+each_carries (Future PollLoad) = refl
 each_carries _ = refl
 
 case_carries : (case : Case) (p : ReceiverPos) → all_carry case p ≡ true
@@ -188,8 +179,8 @@ recv_over (Err d) e = refl
 recv_over _ e = absurd (cc e)
 
 pub timed_over : {T : Type 0} (result : Result T RecvTimeoutError) → timed_reply result ≡ R.Disconnected
-    → result ≡ Err Timed.Disconnected
-timed_over (Err Timed.Disconnected) e = refl
+    → result ≡ Err Timeouts.Disconnected
+timed_over (Err Timeouts.Disconnected) e = refl
 timed_over _ e = absurd (cc e)
 
 pub polled_over : {T : Type 0} (result : Poll (Result T RecvError)) → poll_reply result ≡ R.Disconnected
