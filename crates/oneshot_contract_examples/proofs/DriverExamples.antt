@@ -1,6 +1,5 @@
 -- Proofs of the examples of ends, of what a call leaves, of replies and of hands.
 use Rattle.oneshot_drive.proofs.Names.{inl, inr, refl, closed_itself, found_closed, after_load, after_timeout, blocked, waits, withdrew, rests_new, rests_open, rests_closed}
-use Rattle.oneshot_contract_examples.specs.DriverExamples.{message}
 use Rattle.oneshot_drive.proofs.Names.{Polled, unpolled, left_copy, kept_copy, found_sender}
 use Rattle.oneshot_contract_examples.specs.DriverExamples.{PhasesThatAre, PhasesThatAreNot, CallsThatLeave, CallsThatDoNot, RepliesThatAre, HandsThatAre, HandsThatAreNot}
 use Rattle.oneshot_drive.proofs.Names.{has_resolved, leaves_waiting, is_disconnected}

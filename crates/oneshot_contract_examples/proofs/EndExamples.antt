@@ -1,5 +1,5 @@
 -- The examples of open and closed ends, logs of calls, orders, copies and grounds, computed.
-use Rattle.std.proofs.Common.{◌≡◌, ℕ, Bool, true, false, List, [], ◌∷◌, Option, Some, None, get_or, drop, refl, sym, ap, ◌∙◌, subst, arith, inl, inr}
+use Rattle.std.proofs.Common.{◌≡◌, ℕ, Bool, true, false, List, [], ◌∷◌, Option, Some, None, get_or, drop, refl, sym, ap, ◌∙◌, subst, inl, inr}
 use Rattle.std.specs.declared.time.Duration.{Duration}
 use Rattle.atomic_table.specs.Seated.{TableId}
 use Rattle.futures.specs.declared.task.context.Context.{Context}

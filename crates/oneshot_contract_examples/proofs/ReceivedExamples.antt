@@ -1,6 +1,6 @@
 -- The examples of messages and wakers that pass, each from the rule, and why the others do not.
-use Rattle.std.proofs.Common.{◌≡◌, [], ◌∷◌, refl}
-use Rattle.oneshot_word.proofs.Names.{◌∙◌, Load, Add, nothing_made, sender_makes, receiver_makes, has_row, head, tail}
+use Rattle.std.proofs.Common.{[], ◌∷◌, refl}
+use Rattle.oneshot_word.proofs.Names.{Load, Add, nothing_made, sender_makes, receiver_makes, has_row, head, tail}
 use Rattle.oneshot_word.proofs.Names.{lies_out, lies_bare, lies_filled, took_none, took_it, runs}
 use Rattle.oneshot_word.proofs.Names.{Swap, Exchange}
 use Rattle.oneshot_word.proofs.Names.{Word, Reaches, claimed_none, claimed_it}

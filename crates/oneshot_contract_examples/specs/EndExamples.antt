@@ -14,7 +14,7 @@ use Rattle.oneshot_machine.specs.declared.machine.Reply.TheVariants.{Sent, Refus
 use Rattle.oneshot_machine.specs.declared.machine.Seen.TheVariants.{Done, Word}
 use Rattle.oneshot_machine.specs.declared.machine.receiver.ReceiverStart.TheVariants.{TryRecv, RecvTimeout}
 use Rattle.oneshot_machine.specs.declared.machine.sender.SenderCall.TheVariants.{Send}
-use Rattle.oneshot_machine.specs.declared.states.Op.TheVariants.{Load, Store, Swap, Exchange, Add}
+use Rattle.oneshot_machine.specs.declared.states.Op.TheVariants.{Load, Store, Swap, Add}
 use Rattle.oneshot_machine.specs.declared.states.TheConstants.{RECEIVING, DISCONNECTED, EMPTY, MESSAGE}
 use Rattle.oneshot_machine.specs.Called.{as_receiver, as_future}
 use Rattle.oneshot_machine.specs.Logs.{worded}

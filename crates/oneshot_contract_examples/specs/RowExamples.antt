@@ -1,5 +1,5 @@
 -- Examples of what the rows of the phases' table state of an end's slots, and do not.
-use Rattle.std.specs.Prelude.{◌≡◌, ℕ, Some, None}
+use Rattle.std.specs.Prelude.{ℕ}
 use Rattle.oneshot_machine.specs.declared.states.Op.TheVariants.{Load, Store, Swap, Exchange, Add, Xor}
 use Rattle.oneshot_machine.specs.declared.states.TheConstants.{RECEIVING, DISCONNECTED, EMPTY, MESSAGE}
 use Rattle.oneshot_machine.specs.Phases.{sending, dropping, fresh, owes, finished, found_gone, no_sender, first, idle, after_load, waits, blocked, again, claimed, full, at_once}
