@@ -81,7 +81,7 @@ impl<Q: Eq, A: Answer<Q> + Drop, Rt: Drop> CancellableReply<Q, A, Rt> {
         ensures channel { self.new.channel ≡ self.old.channel }
         ensures source { self.new.source ≡ self.old.source }
         ensures run { ReceiverGrew A C.AsyncTryRecv self.old.log self.new.log (try_recv_reply result) }
-        ensures leaves { LeavesTried result (receiver_at self.new.log) }
+        ensures leaves { LeavesTried (try_recv_reply result) (receiver_at self.new.log) }
         ensures closes { result ≢ Err Tried.Empty → IsClosed self.new.log }
         ensures stays_open { result ≡ Err Tried.Empty → IsOpen self.new.log }
         ensures stays_closed { IsClosed self.old.log → result ≡ Err Tried.Disconnected }
@@ -117,7 +117,7 @@ impl<Q: Eq, A: Answer<Q> + Drop, Rt: Drop> Future for CancellableReply<Q, A, Rt>
         ensures channel { self.new.channel ≡ self.old.channel }
         ensures source { self.new.source ≡ self.old.source }
         ensures run { ReceiverGrew A C.Poll self.old.log self.new.log (poll_reply result) }
-        ensures leaves { LeavesPolled result (receiver_at self.new.log) }
+        ensures leaves { LeavesPolled (poll_reply result) (receiver_at self.new.log) }
         ensures closes { result ≢ Pending → IsClosed self.new.log }
         ensures stays_open { result ≡ Pending → IsOpen self.new.log }
         ensures stays_closed { IsClosed self.old.log → IsDisconnected result }

@@ -1,5 +1,5 @@
 -- Proofs of the goals that `recv_timeout` of `Receiver` leaves.
-use Rattle.oneshot_drive.proofs.ReadyHands.{closed_in_time, open_too_late}
+use Rattle.oneshot_drive.proofs.LeftReceivers.{closed_in_time, open_too_late}
 use Rattle.oneshot_ends.proofs.TimeoutEnds.{with_an_end}
 use Rattle.oneshot_ends.proofs.receiver.Receiver.recv_timeout.Goals as goal
 

@@ -4,7 +4,7 @@ use Rattle.oneshot_machine.specs.declared.machine.receiver.ReceiverStart.TheVari
 use Rattle.oneshot_drive.specs.BetweenCalls.{Leaves, try_recv_reply}
 use Rattle.oneshot_drive.specs.Polls.{unpolled}
 use Rattle.oneshot_drive.proofs.LeftPhases.{begins_closed, polled_somewhere, resting, leaves, stays_closed, tried_over, ready_still}
-use Rattle.oneshot_drive.proofs.ReadyHands.{closed_tried, open_tried}
+use Rattle.oneshot_drive.proofs.LeftReceivers.{closed_tried, open_tried}
 use Rattle.oneshot_ends.proofs.CallsAnswered.{one_answered}
 use Rattle.oneshot_ends.proofs.EndViews.{same_steps, same_about, same_took, kept_about}
 use Rattle.oneshot_ends.proofs.GrewByRuns.{grew_by, closed_before, at_end, try_recv_few}

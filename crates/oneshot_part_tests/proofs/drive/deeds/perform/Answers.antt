@@ -1,5 +1,5 @@
 -- Proofs of the goals that `perform` leaves.
-use Rattle.oneshot_drive.proofs.ReadyHands.{ready_still, ready_closed}
+use Rattle.oneshot_drive.proofs.LeftReceivers.{ready_still, ready_closed}
 use Rattle.oneshot_part_tests.proofs.drive.deeds.perform.Goals as goal
 
 pub returns-in-Try-clause-ready : goal.returns-in-Try-clause-ready

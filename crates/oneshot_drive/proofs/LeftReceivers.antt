@@ -1,4 +1,4 @@
--- After a call that does not end the receiver its hand is ready: it has a waker, or the receiver is closed.
+-- Whether a call leaves its receiver open or closed, by its result.
 use Rattle.oneshot_drive.proofs.Names.{◌≡◌, ◌≢◌, Result, Ok, Err, refl, IsClosedAt, IsOpenAt, RecvError, RecvTimeoutError, TryRecvError, ReceiverAt}
 use Rattle.oneshot_drive.specs.BetweenCalls.{Leaves, leaves_received, leaves_closed, leaves_empty, leaves_late, try_recv_reply, recv_reply, timed_reply}
 use Rattle.oneshot_errors.specs.declared.recv_timeout.RecvTimeoutError.TheVariants as Timed
