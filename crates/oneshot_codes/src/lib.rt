@@ -1,5 +1,5 @@
 //! What a program under the scheduler reports by the length of a sleep in nanoseconds. The C compiler gets the codes
-//! below 100, which the scheduler reads. The others are for the program that holds the runs against the model: replies,
+//! below 100, which the scheduler reads. The others are for the program that compares the runs with the model: replies,
 //! and from `TASKS` on whether a task was woken.
 #![tactic(auto)]
 

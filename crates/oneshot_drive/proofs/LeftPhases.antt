@@ -34,7 +34,7 @@ pub data Case : Type 0 where
   trying : Case
   -- a poll
   polling : Case
-  -- any call of a receiver or a future that is closed
+  -- a receive or a poll that begins closed
   closed : Case
 
 abbrev pub is_nowhere : ReceiverAt → Bool
@@ -45,7 +45,7 @@ abbrev is_unclosed : ReceiverAt → Bool
 is_unclosed (unclosed by) = true
 is_unclosed _ = false
 
--- its last operation found that the sender has not acted
+-- the phases with which a call may reply that nothing came yet
 abbrev is_unsent : ReceiverAt → Bool
 is_unsent (idle after_load) = true
 is_unsent (waits w) = true
@@ -53,7 +53,7 @@ is_unsent claimed = true
 is_unsent overdue = true
 is_unsent _ = false
 
--- the phases after each reply, whatever the phase before the call
+-- whether a call of this case may end at this phase with this reply
 abbrev pub is_left : Case → Reply → ReceiverAt → Bool
 is_left closed R.Disconnected at = true
 is_left closed reply at = false
@@ -67,7 +67,7 @@ is_left case R.Empty at = is_unsent at
 is_left polling R.Pending at = is_unsent at
 is_left _ _ _ = false
 
--- where a call begins that loads first
+-- the first positions of the calls whose first operation on the word is a load
 abbrev is_first : ReceiverPos → Bool
 is_first (Try TryLoad) = true
 is_first (Ref (StartLoad timed)) = true
@@ -77,7 +77,7 @@ is_first (Future PollLoad) = true
 is_first (Future AsyncTryLoad) = true
 is_first _ = false
 
--- the phases at each position of such a call
+-- whether a call of this case may be at this position in this phase
 abbrev is_at : Case → ReceiverPos → ReceiverAt → Bool
 is_at closed (Value RecvFreeGone) at = true
 is_at closed p at = is_first p && is_closed_at at
@@ -95,6 +95,7 @@ is_at polling (Future PollBackClosed) at = is_left polling R.Disconnected at
 is_at case (Value p) at = false
 is_at _ _ _ = true
 
+-- the same, or the log has led to no phase
 abbrev pub stands : Case → ReceiverPos → ReceiverAt → Bool
 stands case (Look p) at = false
 stands case (AsyncDrop p) at = false
@@ -123,7 +124,7 @@ case_carries polling p =
 case_carries closed p =
     (and_parts (all_carry polling p) _ (and_parts (all_carry trying p) _ (each_carries p)).1).1
 
--- between two calls a receiver or a future is at some phase, and so is one that found the end
+-- between two calls, and once it found the end, an end is at a phase other than `no_receiver`
 pub polled_somewhere : {at : ReceiverAt} → Polled at → is_nowhere at ≡ false
 polled_somewhere (unpolled rests_new) = refl
 polled_somewhere _ = refl
@@ -168,7 +169,7 @@ tried_so _ _ e = absurd (cc e)
 pub begins_closed : (at : ReceiverAt) → IsClosedAt at → (is_closed_at at || is_nowhere at) ≡ true
 begins_closed at is_closed = ap (λ b. b || is_nowhere at) is_closed
 
--- the results of the calls that reply so
+-- a result whose reply is `Disconnected` is the disconnected error
 pub tried_over : {T : Type 0} (result : Result T TryRecvError) → try_recv_reply result ≡ R.Disconnected
     → result ≡ Err Tried.Disconnected
 tried_over (Err Tried.Disconnected) e = refl
@@ -243,7 +244,8 @@ module _ {T W : Type 0} (call : ReceiverStart) {before after : Log T W} {given g
 
 -- After a `try_recv`, which leaves the hand as it is, the hand is ready if it was before.
 pub ready_still : {T W V : Type 0} {hand : Option V} {reply : Reply} {before after : Log T W} {given got : List T}
-    → ReceiverRan TryRecv before after reply given got → Rests (receiver_of after) → IsReady hand (receiver_of before) → IsReady hand (receiver_of after)
+    → ReceiverRan TryRecv before after reply given got → Rests (receiver_of after)
+    → IsReady hand (receiver_of before) → IsReady hand (receiver_of after)
 ready_still {after = after} ran rests ready none =
     let over = stays_closed TryRecv ran (begins_closed _ (ready none)) (polled_somewhere (unpolled rests)) in
     over_closed (subst (λ reply. Leaves reply (receiver_of after)) over (leaves TryRecv ran refl rests))

@@ -6,14 +6,14 @@ use Rattle.oneshot_errors.specs.declared.try_recv.TryRecvError.TheVariants as Tr
 
 module _ {T : Type 0} where
   -- `try_recv` leaves the receiver open after `Empty`, otherwise closed
-  pub closed_tried : {at : ReceiverAt} (result : Result T TryRecvError) → Leaves (try_recv_reply result) at → result ≢ Err Tried.Empty
-      → IsClosedAt at
+  pub closed_tried : {at : ReceiverAt} (result : Result T TryRecvError) → Leaves (try_recv_reply result) at
+      → result ≢ Err Tried.Empty → IsClosedAt at
   closed_tried (Ok x) leaves_received found = refl
   closed_tried (Err Tried.Empty) leaves found = absurd (found refl)
   closed_tried (Err Tried.Disconnected) (leaves_closed c) found = refl
 
-  pub open_tried : {at : ReceiverAt} (result : Result T TryRecvError) → Leaves (try_recv_reply result) at → result ≡ Err Tried.Empty
-      → IsOpenAt at
+  pub open_tried : {at : ReceiverAt} (result : Result T TryRecvError) → Leaves (try_recv_reply result) at
+      → result ≡ Err Tried.Empty → IsOpenAt at
   open_tried (Err Tried.Empty) leaves_empty nothing = refl
   open_tried _ leaves nothing = absurd (cc nothing)
 

@@ -8,8 +8,8 @@
 -- Receives that never block: `RestLoads` for `try_recv`, `LastSwap` for both drops.
 -- Receives that block: `StoredWaker` proves their steps up to the wait, `Waits` the wait, and `Receives` the steps
 -- after it.
--- `LeftPhases` leads from the run of a receiver's or a future's call to the phase after it, and `LeftReceivers` from there
--- to whether it is open or closed. No driver states these. The proofs of the ends cite both.
+-- `LeftPhases` leads from the run of a receiver's or a future's call to the phase after it, and `LeftReceivers` from
+-- there to whether it is open or closed. No driver states these. The proofs of the ends cite both.
 -- Futures: `PollLoads` proves the load of a poll, `LeftCopies` how it leaves a copy of its waker, and `OwnCopies` that
 -- it writes no other. `TriedFutures` and `DroppedFutures` prove the other two calls.
 -- `Names` re-exports what the proofs use. The folders follow the files and functions of `src/`: `sender/send` proves

@@ -2,7 +2,8 @@
 use Rattle.oneshot_drive.proofs.Names.{◌≡◌, ℕ, [], ◌∷◌, Some, refl, sym, ap, ◌∙◌, Try, Future, Close, AsyncTryLoad, AsyncTryRecv, Load, Store, Log, Grows}
 use Rattle.oneshot_drive.proofs.Names.{receiver_of, took, worded, ReceiverAt, after_load, after_timeout}
 use Rattle.oneshot_drive.proofs.Names.{receiver_moves, receiver_row, Goes, Answers, ReceiverRan, and_then, GroundState, ReceiverMakes, rests_new}
-use Rattle.oneshot_drive.proofs.Names.{rests_open, rests_closed, Polled, unpolled, left_copy, kept_copy, found_sender, has_resolved, IsPolled, is_registered, HandsNoWaker, Each, landings, DISCONNECTED, MESSAGE}
+use Rattle.oneshot_drive.proofs.Names.{rests_open, rests_closed, Polled, unpolled, left_copy, kept_copy, found_sender, has_resolved, IsPolled, is_registered, HandsNoWaker, Each, landings}
+use Rattle.oneshot_drive.proofs.Names.{DISCONNECTED, MESSAGE}
 use Rattle.oneshot_machine.specs.declared.machine.Reply.TheVariants as R
 use Rattle.oneshot_machine.specs.declared.machine.Seen.TheVariants as S
 use Rattle.oneshot_drive.proofs.AfterOperations.{Came, lands, one_of}

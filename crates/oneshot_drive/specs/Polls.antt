@@ -52,7 +52,7 @@ pub data LeavesPolled : Reply → ReceiverAt → Type 0 where
   leaves_its_copy : LeavesPolled R.Pending (waits again)
   leaves_claimed : LeavesPolled R.Pending claimed
 
--- How its `try_recv` leaves it: likewise.
+-- How `try_recv` leaves the future, by its reply: closed after the message or the disconnected error, otherwise open.
 pub data LeavesTried : Reply → ReceiverAt → Type 0 where
   tried_received : LeavesTried R.Message (disconnected closed_itself)
   tried_resolved : LeavesTried R.Message (resolved closed_itself)

@@ -79,9 +79,8 @@ pub fn recv_deadline<T, W: Drop, G: BlockGround<T, W>>(
 
 /// Reads the clock once, to add a timeout to it, then blocks as `recv_deadline` does.
 ///
-/// `representable`: whether the call has a deadline. It is `false` only if the reading succeeded and no instant can
-/// hold the sum: then the call blocks without a deadline and never returns `Timeout`. After a reading that failed it
-/// is `true`, and the deadline is over at once.
+/// `representable`: whether the call has a deadline. If not, it blocks without one and never returns `Timeout`. The
+/// receives of `oneshot_ends` pass `false` only if the clock was read and no instant can hold the sum.
 ///
 /// The other arguments and the results are as for `recv_deadline`.
 pub fn recv_timeout<T, W: Drop, G: BlockGround<T, W>>(

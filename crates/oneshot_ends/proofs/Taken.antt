@@ -76,24 +76,26 @@ in_place _ = false
 abbrev finds_it : Bool → Op → Seen → Bool
 finds_it found op seen = found || is_same_seen seen (Word MESSAGE)
 
+-- whether what was found is right at this position, or for this reply
 abbrev stands : ReceiverPos → Bool → Bool
 stands p found = in_place p && is_bool (has_it p) found
 
 abbrev replies : Reply → Bool → Bool
 replies reply found = is_bool found (is_message reply)
 
-each_carries : (p : ReceiverPos) → (carries stands replies receiver_step receiver_rows finds_it p true
-    && carries stands replies receiver_step receiver_rows finds_it p false) ≡ true
+abbrev carries_at : ReceiverPos → Bool → Bool
+carries_at = carries stands replies receiver_step receiver_rows finds_it
+
+each_carries : (p : ReceiverPos) → (carries_at p true && carries_at p false) ≡ true
 each_carries (Try TryLoad) = refl
 each_carries (Ref (StartSwap false)) = refl
 each_carries (Timed Clock) = refl
 each_carries (Future IntoFuture) = refl
 each_carries _ = refl
 
-case_carries : (p : ReceiverPos) (found : Bool) → carries stands replies receiver_step receiver_rows finds_it p found
-    ≡ true
-case_carries p true = (and_parts (carries stands replies receiver_step receiver_rows finds_it p true) _ (each_carries p)).0
-case_carries p false = (and_parts (carries stands replies receiver_step receiver_rows finds_it p true) _ (each_carries p)).1
+case_carries : (p : ReceiverPos) (found : Bool) → carries_at p found ≡ true
+case_carries p true = (and_parts (carries_at p true) (carries_at p false) (each_carries p)).0
+case_carries p false = (and_parts (carries_at p true) (carries_at p false) (each_carries p)).1
 
 found_from : (found : Bool) (xs : List Noted) → phase_from finds_it found xs ≡ (found || has_found xs)
 found_from found [] = sym (or_comm found false)
@@ -101,7 +103,7 @@ found_from found (x ∷ xs) =
     found_from (found || is_same_seen x.1 (Word MESSAGE)) xs
     ∙ or_assoc found (is_same_seen x.1 (Word MESSAGE)) (has_found xs)
 
--- a call that leaves the receiver in place, and does not begin with the message
+-- a call that leaves the receiver in place
 abbrev pub begins : ReceiverStart → Bool
 begins call = in_place (receiver_start call)
 
@@ -114,6 +116,7 @@ stays_begins as_future RC.Poll e = refl
 stays_begins as_future RC.AsyncTryRecv e = refl
 stays_begins _ _ e = absurd (cc)
 
+-- it begins without the message
 begins_so : (call : ReceiverStart) → begins call ≡ true → stands (receiver_start call) false ≡ true
 begins_so RC.TryRecv e = refl
 begins_so _ e = e

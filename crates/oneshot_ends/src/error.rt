@@ -1,4 +1,4 @@
-//! The error of a refused `send`, which owns the message, and the sender's share of the channel's memory.
+//! The error of a refused `send`, which owns the message and the sender's share of the channel's memory.
 
 ghost use Rattle.std.specs.Prelude.{◌≡◌};
 ghost use Rattle.oneshot_machine.specs.Phases.{sending, sender_at};

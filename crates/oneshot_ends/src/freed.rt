@@ -4,8 +4,8 @@ ghost use Rattle.std.specs.Prelude.{◌≡◌, Bool};
 
 use std::marker::Model;
 
-/// Whether an end has made its step `free`, which frees nothing itself: the block is freed with the last of both
-/// shares. It has no bytes, and only proofs read it.
+/// Whether an end has made its step `free`, which frees nothing itself: the block is freed when the last of its two
+/// shares is dropped. It has no bytes, and only proofs read it.
 // In place of a `Snapshot<bool>`: callers' proofs find no lemma that a `Snapshot` may go to another thread.
 #[derive(Drop)]
 pub(crate) struct Freed {

@@ -102,7 +102,7 @@ place_for (Of_sender SC.AsInner) = InError
 place_for (Of_sender SC.IntoInner) = FromError
 place_for _ = Delivered
 
--- a reply of this call for the message in this place: a refused send's error has the message
+-- whether this reply of this call fits this place of the message: after a refused `send` it is in the error
 abbrev pub is_reply_placed : Call → Option Reply → Place → Bool
 is_reply_placed call reply place =
     only_if (is_reply R.Refused reply) (is_same_place place InError)

@@ -1,5 +1,5 @@
--- Each waker, by its name, is always in one place: the moves that the trace shows are a path. No move shows that the
--- parker's half goes with its receiver, or at `into_future`: it then stays in the hand.
+-- Each waker, by its name, is always in one place: the moves that the trace shows are a path. When a receiver ends or
+-- becomes a future, its parker's half goes with it. No move shows this: by the trace the half stays in the hand.
 use Rattle.std.specs.Prelude.{◌≡◌, ℕ, Bool, true, false, not, ◌&&◌, ◌==◌, List, [], ◌∷◌, Option, Some, None, if◌then◌else◌}
 use Rattle.std.specs.List.{filter_map}
 use Rattle.oneshot_world.specs.Wakers.{WakerMove, is_same_waker}

@@ -84,7 +84,7 @@ module _ {P S : Type 0} (Stands : P → S → Type 0) (Ends : Reply → S → Ty
         (by_rows each after (moved_by next (op_of (step p)) x.seen s) xs r
         (each p s x.seen (Goes after) stands leads) rest)
 
--- The same of tests, which the checker computes for each position with each value.
+-- The same where `stands` and `ends` are tests, which the checker computes at each position for each value.
 module _ {P S : Type 0} (stands : P → S → Bool) (ends : Reply → S → Bool) (step : P → Step) (rows : P → Rows P)
     (next : S → Op → Seen → S) where
   abbrev leads : Outcome P → S → Bool
@@ -98,6 +98,7 @@ module _ {P S : Type 0} (stands : P → S → Bool) (ends : Reply → S → Bool
   abbrev row_carries : P → S → Seen × Outcome P → Bool
   row_carries p s (seen, o) = leads o (moved_by next (op_of (step p)) seen s)
 
+  -- every row of this position keeps the test, if the position passes it
   abbrev pub carries : P → S → Bool
   carries p s = if stands p s then list_all (row_carries p s) (rows p) else true
 

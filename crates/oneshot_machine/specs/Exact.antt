@@ -1,5 +1,5 @@
--- The law that after each log the definitions allow exactly the operations of the table, and let them find only words
--- with rows there.
+-- The law that after each log the definitions allow exactly the operations of the table, each of which finds only words
+-- for which the table has a row.
 use Rattle.std.specs.Prelude.{◌≡◌, ℕ, List, [], ◌∷◌, ◌++◌, All, Contains, IsSome}
 use Rattle.oneshot_machine.specs.declared.machine.Step.TheVariants.{Word}
 use Rattle.oneshot_machine.specs.declared.states.Op.{Op}
@@ -24,7 +24,7 @@ IsAllowed {At} {T} {W} May at op = (m : Held T) × (w : Held W) × May at op m w
 abbrev pub Accepts : {P : Type 0} → Table P → Op → ℕ → P → Type 0
 Accepts t op word p = t.step p ≡ Word op → IsSome (t.row p (saw op word))
 
--- The definitions allow an end exactly the operations of its table, and let them find only words with rows there.
+-- The definitions allow an end exactly the operations of its table. Each finds only words for which there is a row.
 pub record IsExact {P At T W : Type 0} (t : Table P) (at : List Noted → At)
     (May : At → Op → Held T → Held W → Type 0)
     (Finds : At → Op → ℕ → Held T → Held W → Held T → Held W → Type 0) : Type 0 where

@@ -24,6 +24,6 @@ pub data HasLeft : ReceiverAt → Type 0 where
   left_first : HasLeft gone
   left_last : HasLeft ended
 
--- a receiver that has found the message, or that none will come, or that has left
+-- a receiver that has found the message, has found that none will come, or has left
 abbrev pub ReceiverIsOver : ReceiverAt → Type 0
 ReceiverIsOver at = FoundTheEnd at ⊎ HasLeft at

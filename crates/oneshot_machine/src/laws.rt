@@ -5,8 +5,8 @@ ghost use Rattle.oneshot_machine.specs.LeadExamples.{RowsThatLead};
 ghost use Rattle.oneshot_machine.specs.Orders.{ReachedInOrder};
 
 /// After each log whose operations find words that the definitions let them find, the definitions allow an end exactly
-/// its table's operations, except those of looks, and let them find only words with rows there. That they allow no less
-/// is stated for types `T` and `W` that have a value.
+/// its table's operations, except those of looks. Each finds only words for which the table has a row. That the
+/// definitions allow no less is stated for types `T` and `W` that have a value.
 pub fn tables_are_exact<T, W>()
     ensures sender { SenderIsExact T W }
     ensures receiver { ReceiverIsExact T W }

@@ -60,10 +60,10 @@ impl Pace {
     }
 }
 
-// More loads than a thread makes while another starts: some ten seconds of them, of which most yield first.
+// More loads than a thread makes while another starts. They take some ten seconds, since most come after a yield.
 const SPINS: u64 = 20_000_000;
 
-// How many loads a running thread makes while the other starts.
+// After so many loads a thread yields between two.
 const QUICK: u64 = 20_000;
 
 // Returns once both threads are here. Fails after `SPINS` loads.

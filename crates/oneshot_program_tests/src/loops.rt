@@ -359,7 +359,7 @@ fn no_round_is_made_before_the_time_or_after_it(rt: HostRuntime) -> Result<(), F
     Ok(())
 }
 
-/// How often the allocator is asked for where so many rounds await. Fails unless each does.
+/// How often so many rounds ask for the allocator. Fails unless each round awaits.
 fn asked_in<R>(rt: &R, channel: Channel, count: u64) -> Result<u64, Fail>
 where
     R: Abort + AllocGlobal + RandomSource + Threads + Wait + Sync,

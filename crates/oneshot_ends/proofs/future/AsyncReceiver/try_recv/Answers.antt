@@ -31,7 +31,8 @@ returns-clause-run g c =
 pub returns-clause-leaves : goal.returns-clause-leaves
 returns-clause-leaves g c =
     at_end _ (LeavesTried (try_recv_reply c.async_try_recv.result)) c.async_try_recv.new.g
-    (leaves_tried AsyncTryRecv c.async_try_recv.result c.async_try_recv.ensures.run refl (resting c.async_try_recv.ensures.rests))
+    (leaves_tried AsyncTryRecv c.async_try_recv.result c.async_try_recv.ensures.run refl
+    (resting c.async_try_recv.ensures.rests))
 
 pub returns-clause-stays_closed : goal.returns-clause-stays_closed
 returns-clause-stays_closed g c closed =

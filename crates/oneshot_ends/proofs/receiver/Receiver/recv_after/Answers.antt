@@ -47,11 +47,13 @@ returns-clause-run g c =
 pub returns-clause-leaves : goal.returns-clause-leaves
 returns-clause-leaves g c =
     at_end _ (Leaves (timed_reply c.recv_timeout.result)) c.recv_timeout.new.g.ground.now
-    (leaves (RecvTimeout c.has_end-has_end.result) c.recv_timeout.ensures.run refl (resting c.recv_timeout.ensures.rests))
+    (leaves (RecvTimeout c.has_end-has_end.result) c.recv_timeout.ensures.run refl
+    (resting c.recv_timeout.ensures.rests))
 
 pub returns-clause-stays_closed : goal.returns-clause-stays_closed
 returns-clause-stays_closed g c closed =
-    timed_over c.recv_timeout.result (stays_closed (RecvTimeout c.has_end-has_end.result) c.recv_timeout.ensures.run (begins_closed _
+    timed_over c.recv_timeout.result
+    (stays_closed (RecvTimeout c.has_end-has_end.result) c.recv_timeout.ensures.run (begins_closed _
     (closed_before _ (ap (λ r. r.now) c.lend-lent.ensures.ground) (same_steps c.self.view_is) closed))
     (polled_somewhere (unpolled (resting c.recv_timeout.ensures.rests))))
 

@@ -21,7 +21,8 @@ pub invariant_of-self : goal.invariant_of-self
 invariant_of-self g c =
     record {
       rests = given_back (_ ∷ _ ∷ []) c.recv_ref.new.g.ground.now c.recv_ref.ensures.rests;
-      ready = λ none. closed_by c.recv_ref.result (leaves RecvRef c.recv_ref.ensures.run refl (resting c.recv_ref.ensures.rests));
+      ready = λ none. closed_by c.recv_ref.result
+          (leaves RecvRef c.recv_ref.ensures.run refl (resting c.recv_ref.ensures.rests));
       calls = one_answered RecvRef refl c.self.invariant.calls
           (grew_by (ap (λ r. r.now) c.lend-lent.ensures.ground) refl c.recv_ref.new.g.ground.now
           RecvRef c.recv_ref.ensures.run);
