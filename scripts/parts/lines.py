@@ -8,8 +8,8 @@ from parts.sources import CRATES, place, text_of
 DEFINITIONS = ("crates/*/specs/**/*.antt", "crates/*/proofs/**/*.antt")
 TEXTS = (*DEFINITIONS, "crates/*/src/**/*.rt", "crates/*/must-fail/*.edit",
          ".ci/run", "scripts/*", "scripts/parts/**/*.py", "scripts/parts/**/*.[ch]")
-# 120 columns; 200 of what is one line whatever its length: an import, a clause, and a text of a must-fail edit.
-LONG = r"^(?! *(?:(?:pub |ghost )?use|requires|ensures) |old: |new: ).{121}|^.{201}"
+# 120 columns; 200 of what is one line whatever its length: an import, and a text of a must-fail edit.
+LONG = r"^(?! *(?:pub |ghost )?use |old: |new: ).{121}|^.{201}"
 
 # What takes a code of the word, by an example that has a number in place of the name. Operations compute with numbers
 # (States.antt), and a written trace has those that its lines print (oneshot_law_examples).

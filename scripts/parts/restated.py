@@ -11,7 +11,7 @@ from parts.sources import CRATES, code_of, sources
 RESTATED = [
     ("CancellableRequest", "Request", ["oneshot_reply/src/requests.rt"]),
     ("CancellableTicket", "Ticket", ["oneshot_reply/src/ticket.rt"]),
-    ("CancellableReply", "AsyncReceiver", ["oneshot_ends/src/future.rt", "oneshot_ends/src/ground/looks.rt"]),
+    ("CancellableReply", "AsyncReceiver", ["oneshot_ends/src/future.rt"]),
 ]
 # How the clauses of a future read where its messages are replies and its promise is that of a request.
 OF_REPLIES = [

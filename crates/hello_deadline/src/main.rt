@@ -72,6 +72,7 @@ fn main(rt: HostRuntime) -> io::Result<()> {
     let (rt, taken) = (&rt, &taken);
     thread::scope(thread::scope_env(), rt, |scope| -> io::Result<()> {
         for _ in 0..2 {
+            // A thread that cannot be started is one worker fewer.
             let _ = scope.spawn(move || work(rt, taken));
         }
         print_squares(rt, jobs)

@@ -35,6 +35,7 @@ impl Answer<u32> for Square {
 fn serve(request: Request<u32, Square>) {
     let root = *request.question();
     let value = u64::from(root) * u64::from(root);
+    // If the ticket is gone, nobody needs the answer.
     let _ = request.answer(Square { root, value });
 }
 

@@ -65,6 +65,7 @@ fn work(
         serve(job);
         served = served.saturating_add(1);
     }
+    // If its receiver is gone, nobody asks for the report.
     let _ = report.send(served);
 }
 
@@ -79,6 +80,7 @@ impl<Rt: Wait + Clock + Drop> Worker<Rt> {
     /// Tells the worker to stop, and waits for its report. `Disconnected`: it could not be started.
     fn shut_down(self) -> Result<u64, RecvTimeoutError> {
         let Worker { stop, mut report } = self;
+        // If the worker is gone, there is nothing to stop.
         let _ = stop.send(());
         report.recv_timeout(Duration::from_secs(LIMIT))
     }
@@ -144,6 +146,7 @@ fn main(rt: HostRuntime) -> io::Result<()> {
             let (stop, stopped) = channel((), rt.alloc())?;
             let (sender, report) = channel(rt, rt.alloc())?;
             workers.push(Worker { stop, report })?;
+            // A thread that cannot be started is one worker fewer.
             let _ = scope.spawn(move || work(rt, taken, stopped, sender));
         }
         // This closes the queue, for which a worker may be waiting.

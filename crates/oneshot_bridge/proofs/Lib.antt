@@ -6,11 +6,13 @@
 -- relation (`Got`), and makes one move of the model for each step of a walk. `Interleaves` follows the order.
 -- `StatesRun` concludes.
 -- 2. Each log is a walk's. `SenderScripted` writes down the walk of each log of the sender. `ReceiverStands` and
--- `Standpoints` state where a receiver's walk is, whichever calls follow. `ReceiverScripted` shows that a row which
--- passes a test leads on as a walk does. `RowsChangeSlots` finds a row for each operation of a log. `ReceiverLogs`
--- computes that every row passes, and follows the log. `Among` has lemmas on lists.
+-- `Standpoints` state where a receiver's walk is, whichever calls follow: at a *standpoint*, a position of its table
+-- with whether it has become a future. `ReceiverScripted` shows that a row which passes a test leads on as a walk does.
+-- `RowsChangeSlots` finds a row for each operation of a log. `ReceiverLogs` computes that every row passes, and follows
+-- the log. `Among` has lemmas on lists.
 -- 3. What each run with both logs has. `PhaseCodes`, `PhasesBeside` and `PhasesRead` find its phases, and `CellsRun`
--- its cells, by the search of the product. `RunOrder` finds the order of its operations.
+-- its cells, by the search of the product. It compares phases by their *codes*, a number for each. `RunOrder` finds the
+-- order of its operations.
 -- 4. The program's own calls. `CallsWalk` continues a walk by the run of one call. `ReceiverCalls` and `SenderCalls` do
 -- so for all calls of an end. `CallsRun` joins both ends, and `Joined` adds the slots and the message.
 -- 5. What the laws of the model then state. `OneReceive` reads it off a trace, and `Given` and `Woken` state it of both

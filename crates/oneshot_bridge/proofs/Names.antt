@@ -5,7 +5,7 @@ pub use Rattle.oneshot_bridge.specs.CellExamples.{worlds_by, WorkedCells, WrongC
 pub use Rattle.oneshot_bridge.specs.Examples.{sends, receives, r, sent, received, worlds, WorkedRun, WrongRuns}
 pub use Rattle.oneshot_bridge.specs.Gives.{HaveCome, gave_message, OneReceiveGets, RunLosesNoWakeup, RunFreesOnce, RunFreesLast, RunFreesByItsHolder}
 pub use Rattle.oneshot_bridge.specs.Homes.{one_has_both, CellsAreSo, message_of_logs, waker_of_logs, RunsHaveCells}
-pub use Rattle.oneshot_bridge.specs.Joined.{SlotsAreSo, Passed, none_passed, it_passed, maker_before, dealer_before, is_run, TablesAreOfRuns, OfARun}
+pub use Rattle.oneshot_bridge.specs.Joined.{SlotsAreSo, Passed, none_passed, it_passed, maker_before, maker_with_slot_before, is_run, TablesAreOfRuns, OfARun}
 pub use Rattle.oneshot_bridge.specs.OrdersRun.{log_of, RunsSo, answered_by, RunsTo, noted_of, operation_of, OrdersAreRuns, answered_at}
 pub use Rattle.oneshot_bridge.specs.RunExamples.{tries, stops, in_turn, sent_log, tried_log, sent_call, tried_call, sender_stands, receiver_stands, entries_of_run, AnswersThatAre}
 pub use Rattle.oneshot_bridge.specs.RunExamples.{RunsThatAre, RunsThatAreNot}

@@ -1,7 +1,8 @@
 -- The examples of runs: the worked one step by step, and what each field of the others states.
 use Rattle.oneshot_bridge.proofs.Names.{◌≡◌, ℕ, List, [], ◌∷◌, None, Some, refl, sym, ap, ◌∙◌, Done, Try, SendWrite, SendAdd, TryLoad, Close, Take, Load, Store, Add, Noted, Goes, Answers}
 use Rattle.oneshot_bridge.proofs.Names.{calls_of, Entry, marks, is_right, View, Home, view, receiver_answered, sender_answered, is_at_rest, RunsCalls, worlds_by}
-use Rattle.oneshot_bridge.proofs.Names.{world_by, scene_at, sends, HaveCome, InOrder, OfARun, maker_before, dealer_before, is_run, log_of, answered_by, RunsSo, RunsTo, tries, stops, in_turn, sent_log}
+use Rattle.oneshot_bridge.proofs.Names.{world_by, scene_at, sends, HaveCome, InOrder, OfARun, maker_before, maker_with_slot_before, is_run, log_of}
+use Rattle.oneshot_bridge.proofs.Names.{answered_by, RunsSo, RunsTo, tries, stops, in_turn, sent_log}
 use Rattle.oneshot_bridge.proofs.Names.{tried_log, sent_call, tried_call, sender_stands, receiver_stands, entries_of_run, AnswersThatAre, RunsThatAre, RunsThatAreNot, RunsSay}
 use Rattle.oneshot_bridge.proofs.Names.{SendsOnly, begins, quietly}
 use Rattle.oneshot_bridge.proofs.Names.{by_one, Quiet, quiet, Operates, operates, the_sender, SenderStand, ReceiverStand, SenderWalk}
@@ -155,7 +156,7 @@ role_is {T} {H} {K} {P} {v} {w} are =
 one_end_is_no_table : {T H K P W : Type 0} {q : P} {words : List ℕ} {homes : List (Home T H K)}
     {views : List (View T H K P)} → OfARun W q words homes views → views ≡ view q Role.Sender [] None None ∷ [] → ⊥
 one_end_is_no_table maker_before is = let roles : Role.Maker ≡ Role.Sender = role_is is in cc roles
-one_end_is_no_table dealer_before is = let roles : Role.MakerWithSlot ≡ Role.Sender = role_is is in cc roles
+one_end_is_no_table maker_with_slot_before is = let roles : Role.MakerWithSlot ≡ Role.Sender = role_is is in cc roles
 one_end_is_no_table (is_run _ _ _ _ _ _ _ _) is = cc is
 
 module _ {T : Type 0} (m : T) where

@@ -8,7 +8,7 @@
 -- forward simulation.
 -- `Scripted` states that each log which the rule of the word allows has a script and a walk, and so a run (`IsOfARun`).
 -- `RunOrder` states that a run with both logs performs their operations in the one order that these logs have.
--- `Homes` states what such a run has in its cells, by which slots are at home in the table.
+-- `Homes` states what such a run has in its cells, by which slots are *at home* in the table: no end has taken them.
 -- `CallsRun` states that, between calls, some run has made just the program's own calls, with the same replies.
 -- `Joined` states all of this for one state of the shared table, with the message that passed. This is a refinement.
 -- `Gives` and `Woken` state what the laws of the model then say of both ends.

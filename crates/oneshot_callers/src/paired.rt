@@ -3,7 +3,7 @@
 ghost use Rattle.std.specs.Prelude.{◌≡◌, ◌<◌, None, Some, Err, IfOk, IfSome};
 ghost use Rattle.oneshot_channel.specs.TryRecvError.TheVariants as Tried;
 
-use oneshot_channel::laws::an_unfinished_future_took_none;
+use oneshot_channel::laws::an_open_future_took_none;
 use oneshot_channel::{
     AsyncReceiver, Promise, Receiver, Sender, TryRecvError, async_channel, async_channel_for,
     channel_for,
@@ -50,7 +50,7 @@ fn tried<T: Drop, Rt: Drop, P: Promise<T>>(
     ensures none { result ≡ Err Tried.Empty → future.new.took ≡ None }
 {
     let result = future.try_recv();
-    an_unfinished_future_took_none(future);
+    an_open_future_took_none(future);
     result
 }
 

@@ -4,7 +4,7 @@ use Rattle.oneshot_word.proofs.Names.{◌⊎◌, inl, inr, sym, ap, subst, Load,
 use Rattle.oneshot_word.specs.declared.rule.Role.{Role}
 use Rattle.oneshot_word.specs.declared.rule.Role.TheVariants.{Maker}
 use Rattle.oneshot_contract_examples.proofs.OrderExamples.{orders_that_are_not}
-use Rattle.oneshot_word.proofs.Names.{Ordered, maker_before, dealer_before, in_order, Home}
+use Rattle.oneshot_word.proofs.Names.{Ordered, maker_before, maker_with_slot_before, in_order, Home}
 use Rattle.oneshot_word.specs.declared.rule.Role.TheVariants.{MakerWithSlot}
 use Rattle.oneshot_word.specs.declared.rule.View.{View}
 use Rattle.oneshot_word.specs.declared.any_waker.AnyWaker.{AnyWaker}
@@ -15,7 +15,7 @@ use Rattle.oneshot_word.specs.declared.rule.Role.TheVariants.{Sender, Receiver}
 use Rattle.oneshot_word.specs.EndLogs.{sent as sent_alone}
 use Rattle.oneshot_contract_examples.specs.ReadExamples.{sent}
 use Rattle.oneshot_word.specs.ReadRule.{Owned, both_open, sent as sent_row, sender_has_it, left_for_receiver, receiver_has_it, receiver_found_it, waits_for_receiver, Ruled, maker_alone}
-use Rattle.oneshot_word.specs.ReadRule.{dealer_alone}
+use Rattle.oneshot_word.specs.ReadRule.{maker_with_slot_alone}
 use Rattle.oneshot_word.specs.ReadRule.{two_ends}
 use Rattle.oneshot_contract_examples.specs.SeatExamples.{keeps}
 use Rattle.oneshot_contract_examples.proofs.StateExamples.{states_that_are_not}
@@ -28,12 +28,12 @@ pub reads_that_are : ReadsThatAre
 reads_that_are =
     record {
       new = maker_alone;
-      dealt = dealer_alone;
+      dealt = maker_with_slot_alone;
       both_new = two_ends [] [] (both_open refl refl refl sender_has_it left_for_receiver);
       was_sent = two_ends sent [] (sent_row sent_alone refl (waits_for_receiver 7) left_for_receiver);
       was_received = two_ends sent found (sent_row sent_alone refl receiver_found_it receiver_has_it);
       ordered_as_new = maker_before;
-      ordered_as_dealt = dealer_before;
+      ordered_as_dealt = maker_with_slot_before;
       ordered = in_order sent found (receiver_makes Load sends (has_row (tail head)));
       is_read = λ reads. reads 7 _ _ _ ((messages_that_pass ℕ ℕ keeps).lies_there 7 7 refl);
       is_ordered = λ orders. orders 7 _ _ _ ((messages_that_pass ℕ ℕ keeps).lies_there 7 7 refl);
@@ -51,7 +51,7 @@ module _ {xs xs' ys ys' : List Noted} {given given' taken taken' : Option ℕ} {
 has_order : {words : List ℕ} {seats : List (View ℕ ℕ ℕ ℕ)} {word : ℕ} {xs ys : List Noted} {given taken : Option ℕ}
     → Ordered {P = ℕ} 7 words seats → words ≡ word ∷ [] → seats ≡ views xs given ys taken → Reaches xs ys word
 has_order maker_before is are = absurd (cc are)
-has_order dealer_before is are = absurd (cc are)
+has_order maker_with_slot_before is are = absurd (cc are)
 has_order {word} {xs} {ys} (in_order {word = left} xs' ys' order) is are =
     let alike = logs_alike are in
     let same : left ≡ word = cc is in
@@ -62,7 +62,7 @@ has_owners : {words : List ℕ} {seats : List (View ℕ ℕ ℕ ℕ)} {word : �
     {homes : List (Home ℕ ℕ ℕ)} {h k : Home ℕ ℕ ℕ} → Ruled {P = ℕ} 7 words homes seats → words ≡ word ∷ []
     → homes ≡ h ∷ k ∷ [] → seats ≡ views xs given ys taken → Owned xs ys word h k
 has_owners maker_alone is slots are = absurd (cc are)
-has_owners dealer_alone is slots are = absurd (cc are)
+has_owners maker_with_slot_alone is slots are = absurd (cc are)
 has_owners {word} {xs} {ys} {h} {k} (two_ends {w = left} {h = h'} {k = k'} xs' ys' owned) is slots are =
     let alike = logs_alike are in
     let same : left ≡ word = cc is in
@@ -85,19 +85,19 @@ role_is {v} role are =
 first_word : {words : List ℕ} {seats : List (View ℕ ℕ ℕ ℕ)} {v : View ℕ ℕ ℕ ℕ} {homes : List (Home ℕ ℕ ℕ)}
     → Ruled {P = ℕ} 7 words homes seats → seats ≡ v ∷ [] → words ≡ EMPTY ∷ []
 first_word maker_alone are = refl
-first_word dealer_alone are = refl
+first_word maker_with_slot_alone are = refl
 first_word (two_ends xs ys owned) are = absurd (cc are)
 
 first_slots : {words : List ℕ} {seats : List (View ℕ ℕ ℕ ℕ)} {v : View ℕ ℕ ℕ ℕ} {homes : List (Home ℕ ℕ ℕ)}
     → Ruled {P = ℕ} 7 words homes seats → seats ≡ v ∷ [] → IsNew v.role homes
 first_slots maker_alone are = inl (role_is Maker are, refl)
-first_slots dealer_alone are = inr (role_is MakerWithSlot are, refl)
+first_slots maker_with_slot_alone are = inr (role_is MakerWithSlot are, refl)
 first_slots (two_ends xs ys owned) are = absurd (cc are)
 
 first_order : {words : List ℕ} {seats : List (View ℕ ℕ ℕ ℕ)} {v : View ℕ ℕ ℕ ℕ} → Ordered {P = ℕ} 7 words seats
     → seats ≡ v ∷ [] → (words ≡ EMPTY ∷ []) × ((v.role ≡ Maker) ⊎ (v.role ≡ MakerWithSlot))
 first_order maker_before are = (refl, inl (role_is Maker are))
-first_order dealer_before are = (refl, inr (role_is MakerWithSlot are))
+first_order maker_with_slot_before are = (refl, inr (role_is MakerWithSlot are))
 first_order (in_order xs ys order) are = absurd (cc are)
 
 not_new : IsNew Maker both_out → ⊥

@@ -17,34 +17,35 @@ rests_swap (rests_open after_load) = refl
 rests_swap _ = refl
 
 -- the word that its load finds, and where that leads
-pub data Looked : ℕ → ReceiverAt → Type 0 where
-  looked_empty : Looked EMPTY (idle after_load)
-  looked_message : Looked MESSAGE (full at_once)
-  looked_closed : (c : Closing) → Looked DISCONNECTED (disconnected c)
+pub data LoadFinds : ℕ → ReceiverAt → Type 0 where
+  load_finds_empty : LoadFinds EMPTY (idle after_load)
+  load_finds_message : LoadFinds MESSAGE (full at_once)
+  load_finds_closed : (c : Closing) → LoadFinds DISCONNECTED (disconnected c)
 
-rests_look : {at : ReceiverAt} → Rests at
-    → Each (λ n next after. Looked n next × (after ≡ receiver_slots next)) (landings Load (receiver_moves at))
-rests_look rests_new = ((looked_empty, refl), ((looked_message, refl), ((looked_closed found_closed, refl), tt)))
-rests_look (rests_open after_load) =
-    ((looked_empty, refl), ((looked_message, refl), ((looked_closed found_closed, refl), tt)))
-rests_look (rests_open after_timeout) =
-    ((looked_empty, refl), ((looked_message, refl), ((looked_closed found_closed, refl), tt)))
-rests_look (rests_closed c) = ((looked_closed c, refl), tt)
+rests_find : {at : ReceiverAt} → Rests at
+    → Each (λ n next after. LoadFinds n next × (after ≡ receiver_slots next)) (landings Load (receiver_moves at))
+rests_find rests_new =
+    ((load_finds_empty, refl), ((load_finds_message, refl), ((load_finds_closed found_closed, refl), tt)))
+rests_find (rests_open after_load) =
+    ((load_finds_empty, refl), ((load_finds_message, refl), ((load_finds_closed found_closed, refl), tt)))
+rests_find (rests_open after_timeout) =
+    ((load_finds_empty, refl), ((load_finds_message, refl), ((load_finds_closed found_closed, refl), tt)))
+rests_find (rests_closed c) = ((load_finds_closed c, refl), tt)
 
-at_message : {at : ReceiverAt} → Looked MESSAGE at → at ≡ full at_once
-at_message looked_message = refl
+at_message : {at : ReceiverAt} → LoadFinds MESSAGE at → at ≡ full at_once
+at_message load_finds_message = refl
 
-at_empty : {at : ReceiverAt} → Looked EMPTY at → at ≡ idle after_load
-at_empty looked_empty = refl
+at_empty : {at : ReceiverAt} → LoadFinds EMPTY at → at ≡ idle after_load
+at_empty load_finds_empty = refl
 
-at_closed : {at : ReceiverAt} → Looked DISCONNECTED at → (c : Closing) × (at ≡ disconnected c)
-at_closed (looked_closed c) = (c, refl)
+at_closed : {at : ReceiverAt} → LoadFinds DISCONNECTED at → (c : Closing) × (at ≡ disconnected c)
+at_closed (load_finds_closed c) = (c, refl)
 
-at_none : {X : Type 0} {n : ℕ} {at : ReceiverAt} → Looked n at → ¬ (n ≡ MESSAGE) → ¬ (n ≡ EMPTY) → ¬ (n ≡ DISCONNECTED)
-    → X
-at_none looked_message a b c = absurd (a refl)
-at_none looked_empty a b c = absurd (b refl)
-at_none (looked_closed k) a b c = absurd (c refl)
+at_none : {X : Type 0} {n : ℕ} {at : ReceiverAt} → LoadFinds n at → ¬ (n ≡ MESSAGE) → ¬ (n ≡ EMPTY)
+    → ¬ (n ≡ DISCONNECTED) → X
+at_none load_finds_message a b c = absurd (a refl)
+at_none load_finds_empty a b c = absurd (b refl)
+at_none (load_finds_closed k) a b c = absurd (c refl)
 
 -- a closed receiver finds DISCONNECTED, and no other word
 closed_loads : (at : ReceiverAt) → IsClosedAt at
@@ -61,19 +62,21 @@ module _ {T W : Type 0} where
   swap_asks rests = asks (Swap DISCONNECTED) rests.stands (rests_swap rests.is_one)
 
   pub loaded : {b a : GroundState T W} (n : ℕ) → AtRest b → ReceiverMakes Load n b a
-      → Grows b.log a.log (worded Load n ∷ []) → Came Looked n a
-  loaded {b} n rests made grows = came Looked (rests_look rests.is_one) (lands b Load n rests.stands.phase made grows)
+      → Grows b.log a.log (worded Load n ∷ []) → Came LoadFinds n a
+  loaded {b} n rests made grows =
+      came LoadFinds (rests_find rests.is_one) (lands b Load n rests.stands.phase made grows)
 
-  module _ {n : ℕ} {s : GroundState T W} (found : Came Looked n s) where
+  module _ {n : ℕ} {s : GroundState T W} (found : Came LoadFinds n s) where
     pub loaded_full : n ≡ MESSAGE → Stands (full at_once) s
-    loaded_full e = subst (λ at. Stands at s) (at_message (subst (λ n. Looked n found.at) e found.is_so)) found.stands
+    loaded_full e =
+        subst (λ at. Stands at s) (at_message (subst (λ n. LoadFinds n found.at) e found.is_so)) found.stands
 
     pub loaded_open : n ≡ EMPTY → Stands (idle after_load) s
-    loaded_open e = subst (λ at. Stands at s) (at_empty (subst (λ n. Looked n found.at) e found.is_so)) found.stands
+    loaded_open e = subst (λ at. Stands at s) (at_empty (subst (λ n. LoadFinds n found.at) e found.is_so)) found.stands
 
     pub loaded_closed : n ≡ DISCONNECTED → (c : Closing) × Stands (disconnected c) s
     loaded_closed e =
-        let is = at_closed (subst (λ n. Looked n found.at) e found.is_so) in
+        let is = at_closed (subst (λ n. LoadFinds n found.at) e found.is_so) in
         (is.0, subst (λ at. Stands at s) is.1 found.stands)
 
     -- it found no other word
@@ -104,7 +107,7 @@ module _ {T W : Type 0} where
 
   -- or finds none
   pub rests_here : {s : GroundState T W} → Stands (idle after_load) s → AtRest s
-  rests_here here_looked = record { at = idle after_load; is_one = rests_open after_load; stands = here_looked }
+  rests_here here_loaded = record { at = idle after_load; is_one = rests_open after_load; stands = here_loaded }
 
   -- its runs
   pub took_ran : {l k j z : Log T W} (n r : ℕ) (x : T) → n ≡ MESSAGE → Grows l k (worded Load n ∷ [])

@@ -57,7 +57,7 @@ pub trait SenderGround<T, W> {
             → gave self.new x }
         ensures keeps { keeps self.old self.new };
 
-    /// Flips the word's lowest bit, and returns the word before.
+    /// Xors the word with one, and returns the word before.
     fn xor(&mut self) -> u8
         requires { SenderAsks Xor (state self.old) }
         ensures log { Grows (state self.old).log (state self.new).log (worded Xor result ∷ []) }
@@ -77,7 +77,7 @@ pub trait SenderGround<T, W> {
     /// Writes `message` into its slot, which is the end's and empty.
     fn write_message(&mut self, message: T)
         requires slot { (state self.old).message ≡ vacant }
-        requires kept { admits self.old message }
+        requires promise { admits self.old message }
         ensures log { Grows (state self.old).log (state self.new).log (wrote message ∷ []) }
         ensures message { (state self.new).message ≡ held message }
         ensures waker { (state self.new).waker ≡ (state self.old).waker }

@@ -21,7 +21,7 @@ use oneshot_machine::states::{DISCONNECTED, EMPTY, MESSAGE, RECEIVING};
 ///   and `g` owns the block, which `into_inner` or `drop_error` frees.
 pub fn send<T, W, G: SenderGround<T, W>>(g: &mut G, message: T) -> bool
     requires fresh { IsFresh (G.state g.old) }
-    requires kept { G.admits g.old message }
+    requires promise { G.admits g.old message }
     ensures run { SenderRan Send (G.state g.old).log (G.state g.new).log (send_reply result) (message ∷ []) [] }
     ensures refused { result ≡ false →
         IsError (held message) (G.state g.new) }

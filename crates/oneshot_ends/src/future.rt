@@ -94,6 +94,18 @@ impl<T, Rt, P: Promise<T>> AsyncReceiver<T, Rt, P> {
             unshared: PhantomData,
         }
     }
+
+    /// Whether the sender is gone without a message, or the message was received; if so, every later poll and
+    /// `try_recv` returns an error. It performs one load and never blocks.
+    pub fn is_closed(&self) -> bool {
+        self.ground.is_closed()
+    }
+
+    /// Whether the message is there; if so, the next poll or `try_recv` returns it. It performs one load and never
+    /// blocks.
+    pub fn has_message(&self) -> bool {
+        self.ground.has_message()
+    }
 }
 
 impl<T: Drop, Rt: Drop, P: Promise<T>> AsyncReceiver<T, Rt, P> {

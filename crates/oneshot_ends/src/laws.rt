@@ -71,7 +71,7 @@ pub fn an_open_receiver_took_none<T, Rt, P: Promise<T>>(receiver: &Receiver<T, R
 }
 
 /// The same of a future.
-pub fn an_unfinished_future_took_none<T, Rt, P: Promise<T>>(future: &AsyncReceiver<T, Rt, P>)
+pub fn an_open_future_took_none<T, Rt, P: Promise<T>>(future: &AsyncReceiver<T, Rt, P>)
     ensures { IsOpen future.now.log → future.now.took ≡ None }
 {
     a_future_took_what_it_found(future);

@@ -54,6 +54,11 @@ impl<T, P: Promise<T>> Sender<T, P> {
             side: Unsent::new(side),
         }
     }
+
+    /// Whether the receiver is gone; if so, a `send` is refused. It performs one load and never blocks.
+    pub fn is_closed(&self) -> bool {
+        self.side.is_closed()
+    }
 }
 
 impl<T: Message> Sender<T> {

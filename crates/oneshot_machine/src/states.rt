@@ -34,7 +34,7 @@ pub enum Op {
     Exchange(u8, u8),
     /// Adds one.
     Add,
-    /// Flips the lowest bit.
+    /// Xors the word with one.
     Xor,
 }
 

@@ -26,10 +26,11 @@ pub use Rattle.oneshot_machine.specs.declared.states.Op.TheVariants.{Add, Load, 
 pub use Rattle.oneshot_word.specs.EndLogs.{FoundZero, MadeLast, MadeLate, stores_waker, is_overdue, is_gone, wrote_since, send_found, drop_found, sent_to_it, sent_to_overdue, dropped_before_it}
 pub use Rattle.oneshot_word.specs.EndLogs.{dropped_before_overdue, sent_late, dropped_late, sent_overtaken, dropped_overtaken, along, stores_next, overdue_next, gone_next, wrote_next}
 pub use Rattle.oneshot_word.specs.OneOrder.{OrderIsOne, WorkedOrders, WrongOrders, ends_of}
-pub use Rattle.oneshot_word.specs.Ordered.{Ordered, maker_before, dealer_before, in_order}
+pub use Rattle.oneshot_word.specs.Ordered.{Ordered, maker_before, maker_with_slot_before, in_order}
 pub use Rattle.oneshot_word.specs.Promised.{RuleKeeps}
 pub use Rattle.oneshot_word.specs.ReadRule.{sender_has_it, left_for_sender, receiver_has_it, left_for_receiver, receiver_found_it, waits_for_receiver, waker_at_home, Owned, both_open, waker_stored}
-pub use Rattle.oneshot_word.specs.ReadRule.{waker_claimed, claimed_overdue, claimed_gone, receiver_gone, sender_after, written, Ruled, maker_alone, dealer_alone, two_ends, IsSenders, IsReceivers}
+pub use Rattle.oneshot_word.specs.ReadRule.{waker_claimed, claimed_overdue, claimed_gone, receiver_gone, sender_after, written, Ruled, maker_alone}
+pub use Rattle.oneshot_word.specs.ReadRule.{maker_with_slot_alone, two_ends, IsSenders, IsReceivers}
 pub use Rattle.oneshot_word.specs.ReadRule.{IsWords}
 pub use Rattle.oneshot_word.specs.Received.{both_views, ReceivedIsSent, WokenIsPut}
 pub use Rattle.oneshot_word.specs.Rule.{Home, has_slots, waker_left, message_home, waker_home, Lies, lies_out, lies_bare, lies_filled, Tied, opened, dealt, runs, IsGiven, IsTaken, took_none, took_it}

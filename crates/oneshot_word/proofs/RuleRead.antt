@@ -2,8 +2,9 @@
 use Rattle.std.proofs.Common.{ℕ, List, Bool, Option, refl}
 use Rattle.oneshot_word.proofs.Names.{Noted, sending, dropping, SenderAt, at_once, waited, swapped, by_future, by_poll, found_closed, closed_itself, ReceiverAt, first, idle, claimed, withdrew}
 use Rattle.oneshot_word.proofs.Names.{overdue, full, unclosed, disconnected, resolved, gone, Held, IsOwned, not_its_own, own_vacant, own_held, Owns, AnyWaker, Slot, View, Ordered, maker_before}
-use Rattle.oneshot_word.proofs.Names.{dealer_before, in_order, sender_has_it, left_for_sender, receiver_has_it, left_for_receiver, receiver_found_it, waits_for_receiver, waker_at_home, Owned}
-use Rattle.oneshot_word.proofs.Names.{both_open, waker_stored, waker_claimed, claimed_overdue, claimed_gone, receiver_gone, sender_after, written, Ruled, maker_alone, dealer_alone, two_ends, Home}
+use Rattle.oneshot_word.proofs.Names.{maker_with_slot_before, in_order, sender_has_it, left_for_sender, receiver_has_it, left_for_receiver, receiver_found_it, waits_for_receiver, waker_at_home, Owned}
+use Rattle.oneshot_word.proofs.Names.{both_open, waker_stored, waker_claimed, claimed_overdue, claimed_gone, receiver_gone, sender_after, written, Ruled, maker_alone}
+use Rattle.oneshot_word.proofs.Names.{maker_with_slot_alone, two_ends, Home}
 use Rattle.oneshot_word.proofs.Names.{lies_out, lies_bare, lies_filled, Tied, opened, dealt, runs, Carried, slot_vacant, slot_held, Part, not_carried, carried, Front, SeatOf, seat_of}
 use Rattle.oneshot_machine.specs.Phases.{waits, ended}
 use Rattle.oneshot_machine.specs.Slots.{owns}
@@ -95,7 +96,7 @@ module _ {T H K : Type 0} where
     pub rule_reads : (words : List ℕ) (homes : List (Home T H K)) (views : List (View T H K P))
         → Tied keeps q words homes views → Ruled q words homes views
     rule_reads _ _ _ opened = maker_alone
-    rule_reads _ _ _ dealt = dealer_alone
+    rule_reads _ _ _ dealt = maker_with_slot_alone
     rule_reads _ _ _ (runs xs ys order lies lies' same claim) =
         two_ends xs ys (pair_reads (sender_told order) _ (receiver_told order) (meet (between order) lies lies'))
 
@@ -103,7 +104,7 @@ module _ {T H K : Type 0} where
     pub rule_orders : (words : List ℕ) (homes : List (Home T H K)) (views : List (View T H K P))
         → Tied keeps q words homes views → Ordered q words views
     rule_orders _ _ _ opened = maker_before
-    rule_orders _ _ _ dealt = dealer_before
+    rule_orders _ _ _ dealt = maker_with_slot_before
     rule_orders _ _ _ (runs xs ys order lies lies' same claim) = in_order xs ys order
 
   is_own : {X : Type 0} {kept : X → Type 0} {place : ℕ} {put : X → Slot T H K} {b : Bool} {c : Carried T H K}

@@ -29,24 +29,24 @@ OrderIsOne =
     → IsSameOrder one other
 
 -- A receiver that waits and finds that the sender is about to finish, operation by operation.
-abbrev pub waits_and_looks :
+abbrev pub waits_and_loads :
     InOrder ((Add, Word RECEIVING) ∷ [])
     ((Load, Word EMPTY) ∷ (Swap RECEIVING, Word EMPTY) ∷ (Load, Word UNPARKING) ∷ []) UNPARKING
-waits_and_looks = by_receiver Load (by_sender Add (by_receiver (Swap RECEIVING) (by_receiver Load none_made)))
+waits_and_loads = by_receiver Load (by_sender Add (by_receiver (Swap RECEIVING) (by_receiver Load none_made)))
 
 -- Two orders of the same logs, which no sender has: whichever end loads first, both see the same.
-abbrev pub sender_looks_first : InOrder ((Load, Word EMPTY) ∷ []) ((Load, Word EMPTY) ∷ []) EMPTY
-sender_looks_first = by_receiver Load (by_sender Load none_made)
+abbrev pub sender_loads_first : InOrder ((Load, Word EMPTY) ∷ []) ((Load, Word EMPTY) ∷ []) EMPTY
+sender_loads_first = by_receiver Load (by_sender Load none_made)
 
-abbrev pub receiver_looks_first : InOrder ((Load, Word EMPTY) ∷ []) ((Load, Word EMPTY) ∷ []) EMPTY
-receiver_looks_first = by_sender Load (by_receiver Load none_made)
+abbrev pub receiver_loads_first : InOrder ((Load, Word EMPTY) ∷ []) ((Load, Word EMPTY) ∷ []) EMPTY
+receiver_loads_first = by_sender Load (by_receiver Load none_made)
 
 pub record WorkedOrders : Type 0 where
-  pub ends : ends_of waits_and_looks ≡ Receiver ∷ Receiver ∷ Sender ∷ Receiver ∷ []
-  pub same : IsSameOrder waits_and_looks waits_and_looks
+  pub ends : ends_of waits_and_loads ≡ Receiver ∷ Receiver ∷ Sender ∷ Receiver ∷ []
+  pub same : IsSameOrder waits_and_loads waits_and_loads
 
 pub record WrongOrders : Type 0 where
   -- not all of the receiver's operations come before the sender's
-  pub not_apart : ends_of waits_and_looks ≡ Receiver ∷ Receiver ∷ Receiver ∷ Sender ∷ [] → ⊥
+  pub not_apart : ends_of waits_and_loads ≡ Receiver ∷ Receiver ∷ Receiver ∷ Sender ∷ [] → ⊥
   -- logs of no real ends may have two orders, which the definition distinguishes
-  pub not_the_same : IsSameOrder sender_looks_first receiver_looks_first → ⊥
+  pub not_the_same : IsSameOrder sender_loads_first receiver_loads_first → ⊥

@@ -13,7 +13,7 @@ use Rattle.oneshot_machine.specs.declared.states.TheConstants.{EMPTY}
 pub data Ordered {T H K P : Type 0} (q : P) : List ℕ → List (View T H K P) → Type 0 where
   -- before there are ends
   maker_before : Ordered q (EMPTY ∷ []) (view q Maker [] None None ∷ [])
-  dealer_before : Ordered q (EMPTY ∷ []) (view q MakerWithSlot [] None None ∷ [])
+  maker_with_slot_before : Ordered q (EMPTY ∷ []) (view q MakerWithSlot [] None None ∷ [])
   -- from then on
   in_order : {word : ℕ} (xs ys : List Noted) {given taken : Option T} {put woke : Option (AnyWaker H K)}
       → Reaches xs ys word

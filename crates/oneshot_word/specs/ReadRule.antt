@@ -68,7 +68,7 @@ pub data Owned {T H K : Type 0} (xs ys : List Noted) : ℕ → Home T H K → Ho
 pub data Ruled {T H K P : Type 0} (q : P) : List ℕ → List (Home T H K) → List (View T H K P) → Type 0 where
   -- before there are ends
   maker_alone : Ruled q (EMPTY ∷ []) (bare ∷ bare ∷ []) (view q Maker [] None None ∷ [])
-  dealer_alone : Ruled q (EMPTY ∷ []) (out ∷ bare ∷ []) (view q MakerWithSlot [] None None ∷ [])
+  maker_with_slot_alone : Ruled q (EMPTY ∷ []) (out ∷ bare ∷ []) (view q MakerWithSlot [] None None ∷ [])
   -- from then on
   two_ends : {w : ℕ} {h k : Home T H K} (xs ys : List Noted) {given taken : Option T} {put woke : Option (AnyWaker H K)}
       → Owned xs ys w h k

@@ -60,6 +60,7 @@ fn total<Rt: Wait + Clock + Copy + Drop, F: FnMut(Part)>(
 fn count_large(part: Part) {
     let Part { size, count } = part;
     if size >= 10 {
+        // If the receiver is gone, nobody needs the count.
         let _ = count.send_kept(size);
     }
 }
@@ -69,6 +70,7 @@ fn all_counts_add_up(rt: HostRuntime) -> Result<(), Fail> {
     for (sizes, wanted) in [([50, 30, 20], Some(100)), ([50, 3, 20], None)] {
         let counted = thread::scope(thread::scope_env(), &rt, |scope| {
             total(&rt, rt.alloc(), &sizes, |part| {
+                // A part whose thread cannot be started is dropped, and so is its sender.
                 let _ = scope.spawn(move || count_large(part));
             })
         });

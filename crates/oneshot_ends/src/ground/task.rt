@@ -111,6 +111,7 @@ impl<'g, 'c, 'x, T: Drop, P: Promise<T>> TaskGround<T, Copied>
 
     /// As in any `TaskGround`. `Some`: the copy in hand has the task's number, and wakes the task if the
     /// context could make a waker. `None`: the copies are unchanged, unless one in hand has that number.
+    /// Clauses `made` and `refused` state this; the other clauses are those of the trait.
     fn copy(&mut self) -> Option<Copied>
         ensures log { Grows
             (polled_state (self.old.ground.ghost_name ∷ self.old.cx.ghost_name ∷ self.old.copies.ghost_name ∷ [])

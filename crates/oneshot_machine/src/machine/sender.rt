@@ -43,7 +43,7 @@ pub enum SenderPos {
     SendWake,
     /// The swap of `send` found the receiver gone, and `send` is about to use the waker.
     SendLateWake,
-    /// The drop is about to flip the word's lowest bit.
+    /// The drop is about to xor the word with one.
     DropXor,
     /// The drop is about to take the waker of the waiting receiver.
     DropTakeWaker,
