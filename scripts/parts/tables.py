@@ -21,7 +21,7 @@ FORMS = {
     "word": ("the same", lambda word: word),
     "new": ("x", lambda word: "x"),
     "word + 1": ("the word and one", lambda word: word + 1),
-    "bit_xor word 1": ("the word with its lowest bit flipped", lambda word: word ^ 1),
+    "bit_xor word 1": ("the word xor 1", lambda word: word ^ 1),
     "if word == expected then new else word": ("b where the word is a, else the same", lambda word: ""),
 }
 

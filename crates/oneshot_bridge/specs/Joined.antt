@@ -37,7 +37,8 @@ pub data OfARun {T H K P : Type 0} (W : Type 0) (q : P)
     : List ℕ → List (Home T H K) → List (View T H K P) → Type 0 where
   -- before there are ends
   maker_before : {homes : List (Home T H K)} → OfARun W q (EMPTY ∷ []) homes (view q Maker [] None None ∷ [])
-  maker_with_slot_before : {homes : List (Home T H K)} → OfARun W q (EMPTY ∷ []) homes (view q MakerWithSlot [] None None ∷ [])
+  maker_with_slot_before : {homes : List (Home T H K)}
+      → OfARun W q (EMPTY ∷ []) homes (view q MakerWithSlot [] None None ∷ [])
   -- From then on: both views have the operations of a run, which has this word and these slots. Between
   -- two calls of the receiver there is also such a run that has made its own calls, with the same
   -- replies. The message of the run is the one that the sender gave, if it gave one, and that the
