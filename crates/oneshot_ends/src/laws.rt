@@ -154,7 +154,7 @@ pub fn no_wakeup_is_lost<T, P: Promise<T>>()
 
 /// Examples of deadlines and of receives that wait, and counterexamples. No other crate can name their types; the other
 /// examples of the ends are in `oneshot_contract_examples`.
-pub fn examples_are_so()
+pub(crate) fn examples_are_so()
     ensures deadlines { DeadlinesThatAre }
     ensures no_deadlines { DeadlinesThatAreNot }
     ensures waits { WaitsThatAre }

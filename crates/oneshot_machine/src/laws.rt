@@ -20,6 +20,6 @@ pub fn phases_keep_order()
 
 /// Examples of where a row leads. No other crate can name the type of a row's end; the other examples of the tables are
 /// in `oneshot_contract_examples`.
-pub fn examples_are_so()
+pub(crate) fn examples_are_so()
     ensures { RowsThatLead }
 {}
