@@ -60,9 +60,9 @@ ready_is RS.Ready e = refl
 ready_is _ e = absurd (cc e)
 
 -- the calls that may follow
-abbrev after_of : Form → After
-after_of as_receiver = calls
-after_of as_future = polls
+abbrev after_form : Form → After
+after_form as_receiver = calls
+after_form as_future = polls
 
 -- The receiver has made these calls by a walk, whichever calls follow.
 record Walked (after : After) (received : List (ReceiverStart × Reply)) (ys : List Noted) : Type 0 where
@@ -104,7 +104,7 @@ module _ {T W : Type 0} where
       }
 
   walks_of : {form : Form} {received : List (ReceiverStart × Reply)} {ys : List Noted}
-      → ReceiverCalled T W form received ys → Walked (after_of form) received ys
+      → ReceiverCalled T W form received ys → Walked (after_form form) received ys
   walks_of not_called = record { script = λ rest. record { calls = rest.0; last = rest.1 }; walk = λ rest. begins }
   walks_of (called {form = as_receiver} RC.TryRecv reply run before its made) =
       walked RC.TryRecv (λ rest. (Script.TryRecv ∷ rest.0, rest.1)) (λ rest. refl) refl refl made (walks_of before)
@@ -136,15 +136,15 @@ pub record ReceiverDone (received : List (ReceiverStart × Reply)) (ys : List No
   pub answered : stand.2 ≡ receiver_answered received
   pub walk : ReceiverWalk script ys stand
 
-no_more : (form : Form) → calls_in (after_of form) (some_rest (after_of form)) ≡ []
+no_more : (form : Form) → calls_in (after_form form) (some_rest (after_form form)) ≡ []
 no_more as_receiver = refl
 no_more as_future = refl
 
 pub receiver_done : {T W : Type 0} (form : Form) {received : List (ReceiverStart × Reply)} {ys : List Noted}
     → ReceiverCalled T W form received ys → ReceiverDone received ys
 receiver_done form was =
-    let walks : Walked (after_of form) _ _ = walks_of was in
-    let rest = some_rest (after_of form) in
+    let walks : Walked (after_form form) _ _ = walks_of was in
+    let rest = some_rest (after_form form) in
     record {
       script = walks.script rest;
       stand = _;

@@ -9,28 +9,28 @@ use Rattle.oneshot_machine.specs.Phases.{receiver_at}
 use Rattle.oneshot_machine.specs.Slots.{is_held}
 
 -- each slot of a row stays, is given up or comes
-abbrev can_turn : Share → Share → Bool
-can_turn empty filled = false
-can_turn filled empty = false
-can_turn _ _ = true
+abbrev can_change : Share → Share → Bool
+can_change empty filled = false
+can_change filled empty = false
+can_change _ _ = true
 
-abbrev is_turning : Row ReceiverAt → Bool
-is_turning row = can_turn row.1.0 row.4.0 && can_turn row.1.1 row.4.1
+abbrev is_changing : Row ReceiverAt → Bool
+is_changing row = can_change row.1.0 row.4.0 && can_change row.1.1 row.4.1
 
-record Turning (s t : Share) : Type 0 where
+record Changing (s t : Share) : Type 0 where
   before : Held (Unit {0})
   after : Held (Unit {0})
-  turns : SlotChange s t before after
+  changes : SlotChange s t before after
 
-turning : (s t : Share) → can_turn s t ≡ true → Turning s t
-turning none none e = record { before = away; after = away; turns = stays_away }
-turning none empty e = record { before = away; after = vacant; turns = gets_room }
-turning none filled e = record { before = away; after = held tt; turns = gets_thing tt }
-turning empty none e = record { before = vacant; after = away; turns = gives_room }
-turning empty empty e = record { before = vacant; after = vacant; turns = stays_vacant }
-turning filled none e = record { before = held tt; after = away; turns = gives_thing tt }
-turning filled filled e = record { before = held tt; after = held tt; turns = stays_held tt }
-turning _ _ e = absurd (cc e)
+changing : (s t : Share) → can_change s t ≡ true → Changing s t
+changing none none e = record { before = away; after = away; changes = stays_away }
+changing none empty e = record { before = away; after = vacant; changes = gets_room }
+changing none filled e = record { before = away; after = held tt; changes = gets_thing tt }
+changing empty none e = record { before = vacant; after = away; changes = gives_room }
+changing empty empty e = record { before = vacant; after = vacant; changes = stays_vacant }
+changing filled none e = record { before = held tt; after = away; changes = gives_thing tt }
+changing filled filled e = record { before = held tt; after = held tt; changes = stays_held tt }
+changing _ _ e = absurd (cc e)
 
 slot_before : {X : Type 0} {s t : Share} {m n : Held X} → SlotChange s t m n → IsSlot s m
 slot_before stays_away = is_away
@@ -53,17 +53,17 @@ pub record RowFound (at : ReceiverAt) (op : Op) (word : ℕ) : Type 0 where
 pub row_found : (at : ReceiverAt) {op : Op} {before after : Slots} {word : ℕ} {next : ReceiverAt}
     → In (op, before, word, next, after) (receiver_moves at) → RowFound at op word
 row_found at {before} {after} row =
-    let turn = and_parts (can_turn before.0 after.0) (can_turn before.1 after.1)
-    (in_each_receiver_row (λ at. is_turning) refl at row) in
-    let message = turning before.0 after.0 turn.0 in
-    let waker = turning before.1 after.1 turn.1 in
+    let change = and_parts (can_change before.0 after.0) (can_change before.1 after.1)
+    (in_each_receiver_row (λ at. is_changing) refl at row) in
+    let message = changing before.0 after.0 change.0 in
+    let waker = changing before.1 after.1 change.1 in
     record {
       m = message.before;
       w = waker.before;
       m_after = message.after;
       w_after = waker.after;
-      finds = finds row message.turns waker.turns;
-      may = may row (slot_before message.turns) (slot_before waker.turns);
+      finds = finds row message.changes waker.changes;
+      may = may row (slot_before message.changes) (slot_before waker.changes);
     }
 
 abbrev pub IsReceiverLog : List Noted → Type 0

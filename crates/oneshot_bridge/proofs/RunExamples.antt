@@ -133,18 +133,19 @@ module _ {T : Type 0} (m : T) where
       }
 
 -- a sender without a call makes no step
-abbrev opens : SenderStand
-opens = (SS.Ready, record { calls = []; error = [] }, [])
+abbrev opening_stand : SenderStand
+opening_stand = (SS.Ready, record { calls = []; error = [] }, [])
 
-rests_not : {s next : SenderStand} → s ≡ opens → Quiet the_sender s next → ⊥
+rests_not : {s next : SenderStand} → s ≡ opening_stand → Quiet the_sender s next → ⊥
 rests_not at (quiet p seen row position may rows) =
     let here : None ≡ Some p = sym (ap the_sender.position at) ∙ position in cc here
 
-makes_not : {s next : SenderStand} {x : Noted} → s ≡ opens → Operates the_sender s x next → ⊥
+makes_not : {s next : SenderStand} {x : Noted} → s ≡ opening_stand → Operates the_sender s x next → ⊥
 makes_not at (operates p x row position step rows) =
     let here : None ≡ Some p = sym (ap the_sender.position at) ∙ position in cc here
 
-no_step : (T : Type 0) {xs : List Noted} {s : SenderStand} → SenderWalk (stops {T = T}) xs s → (s ≡ opens) × (xs ≡ [])
+no_step : (T : Type 0) {xs : List Noted} {s : SenderStand} → SenderWalk (stops {T = T}) xs s
+    → (s ≡ opening_stand) × (xs ≡ [])
 no_step T begins = (refl, refl)
 no_step T (quietly a q) = absurd (rests_not (no_step T a).0 q)
 no_step T (by_one x a made) = absurd (makes_not (no_step T a).0 made)

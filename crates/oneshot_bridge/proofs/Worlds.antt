@@ -197,8 +197,8 @@ module _ {X : Type 0} (a : SenderScript X) (b : ReceiverScript) where
         (λ i. option_map (λ op. (op, seen i)) (op_of (step i))))
         (ap (word_left state.word) step ∙ ap (word_after op) g.run.leaves)
 
-  opens : Got [] [] 3 (opening_sender a) (opening_receiver b)
-  opens =
+  opening_got : Got [] [] 3 (opening_sender a) (opening_receiver b)
+  opening_got =
       record {
         moves = [];
         entries = [];
@@ -222,7 +222,7 @@ module _ {X : Type 0} (a : SenderScript X) (b : ReceiverScript) where
       (opening_sender a) (opening_receiver b) Got
   the_model =
       record {
-        opens = opens;
+        opens = opening_got;
         sender_rests = sender_rests;
         receiver_rests = receiver_rests;
         sender_acts = sender_acts;

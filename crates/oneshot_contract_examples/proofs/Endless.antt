@@ -36,12 +36,12 @@ is_timeout Timeout = true
 is_timeout _ = false
 
 -- a row leads to such a position, or to a reply other than `Timeout`
-abbrev goes_on : Outcome ReceiverPos → Bool
-goes_on (Goes p) = is_endless p
-goes_on (Answers r) = not (is_timeout r)
+abbrev stays_endless : Outcome ReceiverPos → Bool
+stays_endless (Goes p) = is_endless p
+stays_endless (Answers r) = not (is_timeout r)
 
 abbrev all_go_on : Rows ReceiverPos → Bool
-all_go_on = list_all (λ row. goes_on row.1)
+all_go_on = list_all (λ row. stays_endless row.1)
 
 rows_go_on : (p : ReceiverPos) → is_endless p ≡ true → all_go_on (receiver_rows p) ≡ true
 rows_go_on (Timed (SumClock false)) e = refl
@@ -59,15 +59,15 @@ rows_go_on _ e = absurd (cc e)
 
 -- the row for what was seen is one of them
 found_goes_on : (seen : Seen) (rows : Rows ReceiverPos) {o : Outcome ReceiverPos} → all_go_on rows ≡ true
-    → row_for seen rows ≡ Some o → goes_on o ≡ true
+    → row_for seen rows ≡ Some o → stays_endless o ≡ true
 found_goes_on seen [] all is = absurd (cc is)
 found_goes_on seen (row ∷ rows) {o} all is =
-    by (is_same_seen row.0 seen) is (and_parts (goes_on row.1) (all_go_on rows) all) (found_goes_on seen rows)
+    by (is_same_seen row.0 seen) is (and_parts (stays_endless row.1) (all_go_on rows) all) (found_goes_on seen rows)
   where
     by : (b : Bool) → (if b then Some row.1 else row_for seen rows) ≡ Some o
-        → (goes_on row.1 ≡ true) × (all_go_on rows ≡ true)
-        → (all_go_on rows ≡ true → row_for seen rows ≡ Some o → goes_on o ≡ true) → goes_on o ≡ true
-    by true is both later = subst (λ o. goes_on o ≡ true) (cc is) both.0
+        → (stays_endless row.1 ≡ true) × (all_go_on rows ≡ true)
+        → (all_go_on rows ≡ true → row_for seen rows ≡ Some o → stays_endless o ≡ true) → stays_endless o ≡ true
+    by true is both later = subst (λ o. stays_endless o ≡ true) (cc is) both.0
     by false is both later = later both.1 is
 
 module _ {T W : Type 0} where

@@ -11,6 +11,7 @@ pub mod NoRunExamples
 pub mod FutureExamples
 pub mod CountExamples
 pub mod OrderExamples
+pub mod OneOrderExamples
 pub mod LogExamples
 pub mod RowExamples
 pub mod ExactExamples

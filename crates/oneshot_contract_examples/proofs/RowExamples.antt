@@ -36,29 +36,29 @@ slots_that_are =
       has_received = owns (own_held 7) own_vacant;
     }
 
--- whether a slot has this share, and how it may turn
+-- whether a slot has this share, and how it may change
 abbrev fits : {X : Type 0} → Share → Held X → Bool
 fits none away = true
 fits empty vacant = true
 fits filled (held x) = true
 fits _ _ = false
 
-abbrev turns : Share → Share → Held ℕ → Held ℕ → Bool
-turns none none away away = true
-turns empty empty vacant vacant = true
-turns filled filled (held x) (held y) = x == y
-turns empty none vacant away = true
-turns filled none (held x) away = true
-turns none empty away vacant = true
-turns none filled away (held x) = true
-turns _ _ _ _ = false
+abbrev changes : Share → Share → Held ℕ → Held ℕ → Bool
+changes none none away away = true
+changes empty empty vacant vacant = true
+changes filled filled (held x) (held y) = x == y
+changes empty none vacant away = true
+changes filled none (held x) away = true
+changes none empty away vacant = true
+changes none filled away (held x) = true
+changes _ _ _ _ = false
 
 fits_so : {X : Type 0} {s : Share} {h : Held X} → IsSlot s h → fits s h ≡ true
 fits_so is_away = refl
 fits_so is_vacant = refl
 fits_so (is_held x) = refl
 
-changes_so : {s t : Share} {h k : Held ℕ} → SlotChange s t h k → turns s t h k ≡ true
+changes_so : {s t : Share} {h k : Held ℕ} → SlotChange s t h k → changes s t h k ≡ true
 changes_so stays_away = refl
 changes_so stays_vacant = refl
 changes_so (stays_held x) = eq-eqb x x refl
@@ -74,7 +74,7 @@ module _ {At : Type 0} where
 
   abbrev is_found : Op → ℕ → Held ℕ → Held ℕ → Held ℕ → Held ℕ → Row At → Bool
   is_found op word m w m' w' row =
-      is_same_op row.0 op && row.2 == word && turns row.1.0 row.4.0 m m' && turns row.1.1 row.4.1 w w'
+      is_same_op row.0 op && row.2 == word && changes row.1.0 row.4.0 m m' && changes row.1.1 row.4.1 w w'
 
   no_row : {rows : At → List (Row At)} {at : At} {op : Op} {m w : Held ℕ}
       → list_all (λ row. not (is_for op m w row)) (rows at) ≡ true → May rows at op m w → ⊥

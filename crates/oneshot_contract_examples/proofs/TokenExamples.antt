@@ -36,7 +36,7 @@ gives_undivided : {is_there : Bool} {halves : List Half} → Life (gives ∷ [])
 gives_undivided (and_then made (was_given id at)) = let e = is_both (has undivided id at) refl in cc
 
 takes_first : {is_there : Bool} {halves : List Half} → Life (takes ∷ divides ∷ []) is_there halves → ⊥
-takes_first (and_then (and_then made (was_divided _ _)) turn) = elim turn [ ]
+takes_first (and_then (and_then made (was_divided _ _)) step) = elim step [ ]
 
 pub lives_that_are_not : LivesThatAreNot
 lives_that_are_not =

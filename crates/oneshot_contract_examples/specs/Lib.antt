@@ -5,7 +5,8 @@
 -- The files stand in the order of the crates whose definitions they read:
 -- `oneshot_machine`: `ExactExamples`, `RunExamples`, `FutureExamples`, `CountExamples`, `LogExamples`, `RowExamples`,
 -- `OverExamples` and `OrderExamples`.
--- `oneshot_word`: `StateExamples`, `ReadExamples`, `SeatExamples`, `SideExamples` and `ReceivedExamples`.
+-- `oneshot_word`: `StateExamples`, `ReadExamples`, `SeatExamples`, `SideExamples`, `ReceivedExamples` and
+-- `OneOrderExamples`.
 -- `oneshot_drive`: `DriverExamples`. `oneshot_ends`: `EndExamples`, `OwnExamples`, `TakenExamples` and `TokenExamples`.
 -- docs/COVERAGE.md lists the definitions that no example reaches, and why.
 -- `ExampleLogs` has the logs that several of them are about.
@@ -23,6 +24,7 @@ pub mod ReadExamples
 pub mod SeatExamples
 pub mod SideExamples
 pub mod ReceivedExamples
+pub mod OneOrderExamples
 pub mod DriverExamples
 pub mod EndExamples
 pub mod OwnExamples

@@ -4,13 +4,14 @@ ghost use Rattle.oneshot_contract_examples.specs.StateExamples.{LogsSay, StatesT
 ghost use Rattle.oneshot_contract_examples.specs.ReadExamples.{ReadsThatAre, ReadsThatAreNot};
 ghost use Rattle.oneshot_contract_examples.specs.SeatExamples.{SlotsAsSeen, SeatsThatAre, SeatsThatAreNot};
 ghost use Rattle.oneshot_contract_examples.specs.SideExamples.{SidesThatAre, SidesThatAreNot};
+ghost use Rattle.oneshot_contract_examples.specs.OneOrderExamples.{WorkedOrders, WrongOrders};
 ghost use Rattle.oneshot_contract_examples.specs.ReceivedExamples.{MessagesThatPass, MessagesThatDoNot, WakersThatPass, WakersThatDoNot};
 
 use oneshot_word::Promise;
 
 /// Examples and counterexamples: what logs show, which states of the word have a row of owners, what a
-/// seat carries, what a side shows and does, what a reader finds of the table, and which messages and wakers pass
-/// through it.
+/// seat carries, what a side shows and does, what a reader finds of the table, which messages and wakers pass
+/// through it, and which end performs each operation of an order.
 pub fn examples_are_so<T, H, K, P: Promise<T>>()
     ensures logs { LogsSay }
     ensures states { StatesThatAre T H K }
@@ -26,4 +27,6 @@ pub fn examples_are_so<T, H, K, P: Promise<T>>()
     ensures no_messages { MessagesThatDoNot H K P.keeps }
     ensures wakers { WakersThatPass H K P.keeps }
     ensures no_wakers { WakersThatDoNot H K P.keeps }
+    ensures orders { WorkedOrders }
+    ensures no_orders { WrongOrders }
 {}

@@ -2,7 +2,7 @@
 use Rattle.oneshot_drive.proofs.Names.{◌≡◌, ℕ, not, List, [], ◌∷◌, true, refl, sym, ap, ◌∙◌, subst, ◌==◌, eq-eqb, WriteWaker, Withdraw, Op, Event, Log, Grows, words, sender_of, receiver_of, took}
 use Rattle.oneshot_drive.proofs.Names.{handed, worded, SenderAt, no_sender, sender_moves, sender_at, ReceiverAt, no_receiver, receiver_moves, receiver_at, Share, empty, filled, Slots, Row, next_by}
 use Rattle.oneshot_drive.proofs.Names.{vacant, held, In, head, tail, May, may, Finds, finds, saw, is_same_op, same_op, differ, leads_exactly, words_stay, sender_moved, receiver_moved, put_in, emptied}
-use Rattle.oneshot_drive.proofs.Names.{as_before, turned, has_row, row_of, Landing, landings, landed, Each, each, among, is_among, differs, sender_apart, receiver_apart, GroundState, StandsWith}
+use Rattle.oneshot_drive.proofs.Names.{as_before, slot_after, has_row, row_of, Landing, landings, landed, Each, each, among, is_among, differs, sender_apart, receiver_apart, GroundState, StandsWith}
 use Rattle.oneshot_drive.proofs.Names.{Stands, receiver_slots, SenderAsks, SenderMakes, ReceiverAsks, ReceiverMakes}
 
 -- an operation that found this word landed at one of these
@@ -86,8 +86,8 @@ module _ {At T W : Type 0} {of : Log T W → At} where
             phase = moved b.log a.log op n grows
                 ∙ leads_exactly nowhere (moves (of b.log)) (apart (of b.log)) row;
             message =
-                turned message;
-            waker = turned waker;
+                slot_after message;
+            waker = slot_after waker;
           };
         }
 

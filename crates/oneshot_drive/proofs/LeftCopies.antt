@@ -18,12 +18,12 @@ pub data Left : ℕ → ReceiverAt → Slots → Type 0 where
   left_full : Left MESSAGE (full by_poll) (filled, filled)
   left_over : Left DISCONNECTED (resolved found_closed) (empty, filled)
 
-leaves : (at : ReceiverAt) → Each Left (landings (Exchange EMPTY RECEIVING) (receiver_moves at))
-leaves (idle after_load) = (left_copy, (left_full, (left_over, tt)))
-leaves withdrew = (left_copy, (left_full, (left_over, tt)))
-leaves (waits polled) = tt
-leaves (full by_poll) = tt
-leaves _ = tt
+exchange_leaves : (at : ReceiverAt) → Each Left (landings (Exchange EMPTY RECEIVING) (receiver_moves at))
+exchange_leaves (idle after_load) = (left_copy, (left_full, (left_over, tt)))
+exchange_leaves withdrew = (left_copy, (left_full, (left_over, tt)))
+exchange_leaves (waits polled) = tt
+exchange_leaves (full by_poll) = tt
+exchange_leaves _ = tt
 
 module _ {T W : Type 0} where
   -- a copy, or a refusal
@@ -75,7 +75,7 @@ module _ {T W : Type 0} where
       → Grows l k (worded (Exchange EMPTY RECEIVING) n ∷ [])
       → OneOf receiver_of n (record { log = k; message = m'; waker = w' }) Left
   copy_left {l} {m} {w} n made grows =
-      one_of Left (leaves (receiver_of l))
+      one_of Left (exchange_leaves (receiver_of l))
       (lands (record { log = l; message = m; waker = w }) (Exchange EMPTY RECEIVING) n refl made grows)
 
   waits_with : {at : ReceiverAt} {slots : Slots} {s : GroundState T W} → Left EMPTY at slots

@@ -19,7 +19,8 @@ pub use Rattle.oneshot_errors.specs.declared.try_recv.TryRecvError.{TryRecvError
 pub use Rattle.oneshot_machine.proofs.CallBounds.{drop_few, send_few, async_try_recv_few, poll_few, drop_async_few, drop_receiver_few, try_recv_few}
 pub use Rattle.oneshot_machine.proofs.Exactness.{leads_exactly, differ}
 pub use Rattle.oneshot_machine.proofs.GrownLogs.{receiver_moved, and_then, sender_moved, words_stay}
-pub use Rattle.oneshot_machine.proofs.Landings.{is_room, has_row, Each, landings, found_so, is_in, put_in, as_before, turned, message_kept, landings_of, landed, each, sender_apart, FoundSo, emptied}
+pub use Rattle.oneshot_machine.proofs.Landings.{is_room, has_row, Each, landings, found_so, is_in, put_in, as_before, slot_after, message_kept, landings_of}
+pub use Rattle.oneshot_machine.proofs.Landings.{landed, each, sender_apart, FoundSo, emptied}
 pub use Rattle.oneshot_machine.proofs.Landings.{row_of, Landing, among, is_among, differs, receiver_apart, waker_kept}
 pub use Rattle.oneshot_machine.proofs.Sameness.{same_op}
 pub use Rattle.oneshot_machine.specs.Logs.{Log, Grows, receiver_of, did, took, clocked, worded, Event, handed, copied, wrote, sender_of, kept, parked, when_written, when_taken, messages_given}

@@ -5,7 +5,7 @@ use Rattle.oneshot_drive.proofs.Names.{IsSlot, is_away, is_vacant}
 use Rattle.oneshot_drive.proofs.Names.{is_held, SlotChange, stays_away, stays_vacant, stays_held, gives_room, gives_thing, gets_room, gets_thing, finds, SenderMay, SenderFinds}
 use Rattle.oneshot_drive.proofs.Names.{and_then}
 use Rattle.oneshot_drive.proofs.Names.{GroundState, StandsWith, SenderMakes, IsFresh, IsError, IsLate, is_late, Owes, LastFinds, finds_waiting, finds_overdue, finds_gone}
-use Rattle.oneshot_drive.proofs.Names.{Finishes, IsOvertaken, is_in, is_room, put_in, as_before, turned, has_row, landings_of, landed, Each, each, found_so, RECEIVING, DISCONNECTED}
+use Rattle.oneshot_drive.proofs.Names.{Finishes, IsOvertaken, is_in, is_room, put_in, as_before, slot_after, has_row, landings_of, landed, Each, each, found_so, RECEIVING, DISCONNECTED}
 use Rattle.oneshot_drive.proofs.Names.{EMPTY, MESSAGE}
 use Rattle.oneshot_machine.specs.Phases.{finished}
 use Rattle.oneshot_drive.proofs.AfterOperations.{Lone, lone, unlisted, at_word, not_at, sender_asks, sender_lands, sender_still}
@@ -174,14 +174,14 @@ module _ {T W : Type 0} where
         }
 
   -- where that found the receiver gone
-  late_over : {at : SenderAt} {new n : ℕ} {m m' : Held T} {w w' : Held W} → SenderFinds at (Swap new) n m w m' w'
+  late_slots : {at : SenderAt} {new n : ℕ} {m m' : Held T} {w w' : Held W} → SenderFinds at (Swap new) n m w m' w'
       → not (n == DISCONNECTED) ≡ false → ¬ (m ≡ away) → (m' ≡ m) × (w' ≡ vacant)
-  late_over {at} {w'} (finds row message waker) e has =
+  late_slots {at} {w'} (finds row message waker) e has =
       let ends =
       each LastEndsAt (landings_of is_swap (sender_moves at)) (last_ends at)
       (landed is_swap (sender_moves at) refl row) in
       let late = ends.late (here_by ends.finds ∙ e) in
-      (unmoved message late.1 has, is_room (subst (λ s. IsSlot s w') late.0 (turned waker)))
+      (unmoved message late.1 has, is_room (subst (λ s. IsSlot s w') late.0 (slot_after waker)))
 
   -- where it found the receiver, it gave its message
   pub given_over : {at : SenderAt} {new n : ℕ} {m m' : Held T} {w w' : Held W} → SenderFinds at (Swap new) n m w m' w'
@@ -190,11 +190,11 @@ module _ {T W : Type 0} where
       let ends =
       each LastEndsAt (landings_of is_swap (sender_moves at)) (last_ends at)
       (landed is_swap (sender_moves at) refl row) in
-      slot_left (subst (λ s. IsSlot s m') (ends.given (here_by ends.finds ∙ e)) (turned message))
+      slot_left (subst (λ s. IsSlot s m') (ends.given (here_by ends.finds ∙ e)) (slot_after message))
 
   pub overtaken_as : {b z : GroundState T W} {at : SenderAt} {word : ℕ} {m m' : Held T} {w w' : Held W} → Owes word b
       → m ≡ b.message → (n : ℕ) → SenderFinds at (Swap word) n m w m' w' → z.message ≡ m' → z.waker ≡ w'
       → not (n == DISCONNECTED) ≡ false → IsOvertaken b z
   overtaken_as is message n made kept waker e =
-      let late = late_over made e (λ gone. is.has_slot (sym message ∙ gone)) in
+      let late = late_slots made e (λ gone. is.has_slot (sym message ∙ gone)) in
       record { message = kept ∙ late.0 ∙ message; waker = waker ∙ late.1 }

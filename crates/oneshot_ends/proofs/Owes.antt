@@ -24,5 +24,5 @@ takes_none woke e _ = refl
 -- its last swap takes no waker
 pub swap_keeps : {T W : Type 0} (p : SenderAt) (last : ℕ) {word : ℕ} {m m' : Held T} {w w' : Held W} (woke : Option W)
     → Finds sender_moves p (Swap last) word m w m' w' → took w w' woke ≡ woke
-swap_keeps p last woke (finds row turns turns') =
-    takes_none woke (in_each_sender_row (λ p. keeps_waker) refl p row) turns'
+swap_keeps p last woke (finds row changes changes') =
+    takes_none woke (in_each_sender_row (λ p. keeps_waker) refl p row) changes'

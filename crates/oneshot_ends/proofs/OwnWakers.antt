@@ -66,26 +66,26 @@ module _ {W : Type 0} (own : W → Type 0) where
   left_on was_left test (gives_thing x) slot left hands = (x, hands, slot x refl)
   left_on was_left test _ slot left hands = absurd (no_and was_left test)
 
-  turned : {T P : Type 0} (s next : Side T W P) (q : ReceiverAt) {op : Op} {word : ℕ} → receiver_at s.log ≡ q
+  changed : {T P : Type 0} (s next : Side T W P) (q : ReceiverAt) {op : Op} {word : ℕ} → receiver_at s.log ≡ q
       → receiver_at next.log ≡ receiver_next q op (saw op word)
       → Finds receiver_moves q op word s.message s.waker next.message next.waker
       → next.handed ≡ gave s.waker next.waker s.handed
       → ((k : W) → s.waker ≡ away → next.waker ≡ held k → next.handed ≡ Some k) → WaitsBy own s → WaitsBy own next
-  turned s next q {op} {word} was after (finds {before} {after = slots} row turns turns') hands gets owned =
+  changed s next q {op} {word} was after (finds {before} {after = slots} row changes changes') hands gets owned =
       let left : is_waiting q ≡ true → Gave own s.handed = λ e. owned.gave (ap is_waiting was ∙ e) in
       record {
-        slot = slot_on (is_waiting q) (in_each_receiver_row got_by refl q row) turns' owned.slot left hands gets;
+        slot = slot_on (is_waiting q) (in_each_receiver_row got_by refl q row) changes' owned.slot left hands gets;
         gave = λ e. left_on (is_waiting q)
             (if_so (is_waiting (receiver_next q op (saw op word)))
             (is_put before.1 slots.1 || (is_waiting q && is_out before.1 slots.1))
             (in_each_receiver_row left_by refl q row) (sym (ap is_waiting after) ∙ e))
-            turns' owned.slot left hands;
+            changes' owned.slot left hands;
       }
 
   pub after_op : {T P : Type 0} (s next : Side T W P) {op : Op} {word : ℕ} → ReceiverDid s op word next
       → WaitsBy own s → WaitsBy own next
   after_op {T} {P} s next {op} {word} did owned =
-      turned {T = T} {P = P} s next (receiver_at s.log) {op = op} {word = word} refl
+      changed {T = T} {P = P} s next (receiver_at s.log) {op = op} {word = word} refl
       (ap receiver_at did.list ∙ phase_from-snoc receiver_next first s.log (op, saw op word)) did.finds did.handed
       did.gets owned
 

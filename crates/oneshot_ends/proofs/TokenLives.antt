@@ -3,7 +3,7 @@ use Rattle.std.proofs.Common.{◌≡◌, ℕ, suc, ◌+◌, Bool, true, false, L
 use Rattle.std.specs.Prelude.{if◌then◌else◌, ◌≤◌}
 use Rattle.oneshot_ends.specs.declared.token.Half.{Half}
 use Rattle.oneshot_ends.specs.declared.token.Half.TheVariants.{Both, Parking, Waking}
-use Rattle.oneshot_ends.specs.Tokens.{TokenIs, undivided, to_come, there, taken, Act, divides, gives, takes, Turn, was_divided, was_given, was_taken, was_missed, Life, made, and_then, given_by}
+use Rattle.oneshot_ends.specs.Tokens.{TokenIs, undivided, to_come, there, taken, Act, divides, gives, takes, TokenStep, was_divided, was_given, was_taken, was_missed, Life, made, and_then, given_by}
 use Rattle.oneshot_ends.specs.Tokens.{taken_by, times_given, times_taken, LivesLeadToStates, TokensAreGivenOnce}
 use Rattle.oneshot_ends.proofs.Tokens.{Has, has, undivided_has, to_come_waking, there_parking}
 
@@ -14,11 +14,11 @@ data Stands : ℕ → ℕ → Bool → List Half → Type 0 where
   stands_there : Stands 1 0 true (Parking false ∷ Waking true ∷ [])
   stands_taken : Stands 1 1 false (Parking true ∷ Waking true ∷ [])
 
-state_of : {g t : ℕ} {x : Bool} {vs : List Half} → Stands g t x vs → TokenIs x vs
-state_of stands_undivided = undivided
-state_of stands_to_come = to_come
-state_of stands_there = there
-state_of stands_taken = taken
+token_state : {g t : ℕ} {x : Bool} {vs : List Half} → Stands g t x vs → TokenIs x vs
+token_state stands_undivided = undivided
+token_state stands_to_come = to_come
+token_state stands_there = there
+token_state stands_taken = taken
 
 on_divided : {g t : ℕ} {x : Bool} {vs : List Half} {id : ℕ} → Stands g t x vs → Has x vs id Both
     → Stands g t x (set vs id (Parking false) ++ Waking false ∷ [])
@@ -39,17 +39,17 @@ on_taken : {g t : ℕ} {vs : List Half} {id : ℕ} {before : Bool} → Stands g 
 on_taken stands_there there_parking = stands_taken
 
 -- one more act
-after : {act : Act} {g t : ℕ} {x y : Bool} {vs ws : List Half} → Stands g t x vs → Turn act x vs y ws
+after : {act : Act} {g t : ℕ} {x y : Bool} {vs ws : List Half} → Stands g t x vs → TokenStep act x vs y ws
     → Stands (given_by act g) (taken_by act t) y ws
-after s (was_divided id at) = on_divided s (has (state_of s) id at)
-after s (was_given id at) = on_given s (has (state_of s) id at)
-after s (was_taken id at) = on_taken s (has (state_of s) id at)
+after s (was_divided id at) = on_divided s (has (token_state s) id at)
+after s (was_given id at) = on_given s (has (token_state s) id at)
+after s (was_taken id at) = on_taken s (has (token_state s) id at)
 after s (was_missed id at) = s
 
 stands : {acts : List Act} {x : Bool} {vs : List Half} → Life acts x vs
     → Stands (times_given acts) (times_taken acts) x vs
 stands made = stands_undivided
-stands (and_then life turn) = after (stands life) turn
+stands (and_then life step) = after (stands life) step
 
 once : {g t : ℕ} {x : Bool} {vs : List Half} → Stands g t x vs → (g ≤ 1) × (g ≡ t + (if x then 1 else 0))
 once stands_undivided = (omega arith, refl)
@@ -74,7 +74,7 @@ life_to there = (_, halves_gave)
 life_to taken = (_, halves_took)
 
 pub lives_lead_to_states : LivesLeadToStates
-lives_lead_to_states = (λ acts x vs life. state_of (stands life), λ x vs is. life_to is)
+lives_lead_to_states = (λ acts x vs life. token_state (stands life), λ x vs is. life_to is)
 
 pub tokens_are_given_once : TokensAreGivenOnce
 tokens_are_given_once acts x vs life =

@@ -31,22 +31,22 @@ pub data Act : Type 0 where
   takes : Act
   finds_none : Act
 
--- A turn from one state to the next, for any list of halves. `id` is the number of the half that acts.
-pub data Turn : Act → Bool → List Half → Bool → List Half → Type 0 where
+-- A step from one state to the next, for any list of halves. `id` is the number of the half that acts.
+pub data TokenStep : Act → Bool → List Half → Bool → List Half → Type 0 where
   was_divided : {is_there : Bool} {halves : List Half} (id : ℕ) → get_elem? halves id ≡ some Both
-      → Turn divides is_there halves is_there (slice_set halves id (Parking false) ++ Waking false ∷ [])
+      → TokenStep divides is_there halves is_there (slice_set halves id (Parking false) ++ Waking false ∷ [])
   was_given : {is_there : Bool} {halves : List Half} (id : ℕ) → get_elem? halves id ≡ some (Waking false)
-      → Turn gives is_there halves true (slice_set halves id (Waking true))
+      → TokenStep gives is_there halves true (slice_set halves id (Waking true))
   was_taken : {halves : List Half} {before : Bool} (id : ℕ) → get_elem? halves id ≡ some (Parking before)
-      → Turn takes true halves false (slice_set halves id (Parking true))
+      → TokenStep takes true halves false (slice_set halves id (Parking true))
   was_missed : {halves : List Half} {before : Bool} (id : ℕ) → get_elem? halves id ≡ some (Parking before)
-      → Turn finds_none false halves false halves
+      → TokenStep finds_none false halves false halves
 
 -- The life of a token up to a state: its acts, the latest first.
 pub data Life : List Act → Bool → List Half → Type 0 where
   made : Life [] false (Both ∷ [])
   and_then : {act : Act} {acts : List Act} {is_there now_there : Bool} {halves now : List Half}
-      → Life acts is_there halves → Turn act is_there halves now_there now → Life (act ∷ acts) now_there now
+      → Life acts is_there halves → TokenStep act is_there halves now_there now → Life (act ∷ acts) now_there now
 
 -- one more if this act gives, or takes
 abbrev pub given_by : Act → ℕ → ℕ

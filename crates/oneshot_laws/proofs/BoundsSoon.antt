@@ -19,15 +19,15 @@ pub record Rest : Type 0 where
 abbrev whole : Bool → Rest
 whole over = record { over = over; operations = 2; moves = 6 }
 
-abbrev spent : Rest → Made → Rest
-spent x e =
+abbrev rest_spent : Rest → Made → Rest
+rest_spent x e =
     until_reply e.reply
     (record { over = true; operations = spend x.operations (is_word e.step); moves = spend x.moves true })
     (whole true)
 
 abbrev rest_at : End → Made → Rest → Rest
 rest_at Sender e x = elim x.over [ true ↦ x | false ↦ whole (finishes e) ]
-rest_at Receiver e x = elim x.over [ true ↦ spent x e | false ↦ whole false ]
+rest_at Receiver e x = elim x.over [ true ↦ rest_spent x e | false ↦ whole false ]
 
 abbrev rest_then : Rest → PastView → Rest
 rest_then x g = rest_at g.entry.side g.entry x
@@ -115,9 +115,9 @@ own_marks [] n k p = (no_more n operates, no_more k each_move)
 own_marks (m ∷ ms) n k p =
     one_move m.entry.side m ms n k (own_marks ms) (and_right (less n 2 && less k 6) _ p.0) p.1
 
-goes_to : (end : End) (e : Made) (n k : ℕ) → (a : ℕ × ℕ) × (rest_at end e (left n k) ≡ left a.0 a.1)
-goes_to Sender e n k = ((n, k), refl)
-goes_to Receiver e n k =
+rest_left : (end : End) (e : Made) (n k : ℕ) → (a : ℕ × ℕ) × (rest_at end e (left n k) ≡ left a.0 a.1)
+rest_left Sender e n k = ((n, k), refl)
+rest_left Receiver e n k =
     elim e.reply as (λ r. (a : ℕ × ℕ)
     × (until_reply r (left (spend n (is_word e.step)) (spend k true)) (whole true) ≡ left a.0 a.1)) [
       | None ↦ ((spend n (is_word e.step), spend k true), refl)
@@ -129,7 +129,7 @@ soon [] n k p = refl
 soon (m ∷ ms) n k p =
     let limits = and_left _ _ p.0 in
     let own = own_marks (m ∷ ms) n k p in
-    let next = goes_to m.entry.side m.entry n k in
+    let next = rest_left m.entry.side m.entry n k in
     both _ _
     (both _ _
     (more operates n 2 (call_marks Receiver (m ∷ ms)) (and_left _ _ limits) own.0)

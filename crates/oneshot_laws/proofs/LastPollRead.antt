@@ -13,8 +13,8 @@ pub data Nap : Type 0 where
   Polling : Nap
   Left : Nap
 
-abbrev begun : Bool → Bool → Nap → Nap
-begun begins this nap = if begins then if this then Polling else Calm else nap
+abbrev nap_begun : Bool → Bool → Nap → Nap
+nap_begun begins this nap = if begins then if this then Polling else Calm else nap
 
 abbrev roused : Bool → Nap → Nap
 roused woken nap = if woken then Calm else nap
@@ -28,26 +28,26 @@ abbrev pub nap_then : ℕ → Nap → PastView → Nap
 nap_then number nap g =
     answered (is_poll g.call && is_reply R.Pending g.entry.reply)
     (roused (uses_copy_of number g.entry.waker || is_own number g.entry.own)
-    (begun (g.begins && (is_poll g.call || is_drop_of_receiver g.call)) (is_own number (number_of g.call)) nap))
+    (nap_begun (g.begins && (is_poll g.call || is_drop_of_receiver g.call)) (is_own number (number_of g.call)) nap))
 
 abbrev pub nap_after : ℕ → Nap → List Mark → Nap
 nap_after number nap ms = own_after (nap_then number) nap (map past_of ms)
 
 -- a task that was left and not woken stays so
 left_stays : (begins this woken pending : Bool) → begins ≡ false → woken ≡ false
-    → answered pending (roused woken (begun begins this Left)) ≡ Left
+    → answered pending (roused woken (nap_begun begins this Left)) ≡ Left
 left_stays false this false pending b w = refl
 left_stays true this woken pending b w = cc
 left_stays false this true pending b w = cc
 
 polling_stays : (begins this woken pending : Bool) → begins ≡ false → woken ≡ false
-    → answered pending (roused woken (begun begins this Polling)) ≡ (if pending then Left else Polling)
+    → answered pending (roused woken (nap_begun begins this Polling)) ≡ (if pending then Left else Polling)
 polling_stays false this false pending b w = refl
 polling_stays true this woken pending b w = cc
 polling_stays false this true pending b w = cc
 
 polling_begins : (begins this woken pending : Bool) (nap : Nap) → begins ≡ true → this ≡ true → woken ≡ false
-    → answered pending (roused woken (begun begins this nap)) ≡ (if pending then Left else Polling)
+    → answered pending (roused woken (nap_begun begins this nap)) ≡ (if pending then Left else Polling)
 polling_begins true true false pending nap b t w = refl
 polling_begins false this woken pending nap b t w = cc
 polling_begins true false woken pending nap b t w = cc
@@ -71,17 +71,17 @@ still_left number (m ∷ ms) b w =
     ∙ still_left number ms (none_later (begins_poll_or_drop m) _ b) (none_later (wakes number m) _ w)
 
 -- a poll under way that replies "pending" later
-left_then : (number : ℕ) (ms : List Mark) → list_any answers_pending ms ≡ true → list_any begins_poll_or_drop ms ≡ false
-    → list_any (wakes number) ms ≡ false → nap_after number Polling ms ≡ Left
-left_then number [] p b w = cc
-left_then number (m ∷ ms) p b w =
+polling_left : (number : ℕ) (ms : List Mark) → list_any answers_pending ms ≡ true
+    → list_any begins_poll_or_drop ms ≡ false → list_any (wakes number) ms ≡ false → nap_after number Polling ms ≡ Left
+polling_left number [] p b w = cc
+polling_left number (m ∷ ms) p b w =
     ap (λ nap. nap_after number nap ms)
     (polling_stays (begins_poll_or_drop m) (is_own number (number_of m.call)) (wakes number m) (answers_pending m)
     (none_first _ _ b) (none_first _ _ w))
     ∙ elim (answers_pending m) as (λ a. (a || list_any answers_pending ms) ≡ true → nap_after number
     (if a then Left else Polling) ms ≡ Left) [
       | true ↦ λ p. still_left number ms (none_later (begins_poll_or_drop m) _ b) (none_later (wakes number m) _ w)
-      | false ↦ λ p. left_then number ms p (none_later (begins_poll_or_drop m) _ b) (none_later (wakes number m) _ w)
+      | false ↦ λ p. polling_left number ms p (none_later (begins_poll_or_drop m) _ b) (none_later (wakes number m) _ w)
     ] p
 
 -- a poll of this number left its task
@@ -120,7 +120,7 @@ left_here number m ms nap begins this left =
     ∙ elim (answers_pending m) as (λ a. (a || list_any answers_pending ms) ≡ true → nap_after number
     (if a then Left else Polling) ms ≡ Left) [
       | true ↦ λ p. still_left number ms calm (none_later (wakes number m) _ silent)
-      | false ↦ λ p. left_then number ms p calm (none_later (wakes number m) _ silent)
+      | false ↦ λ p. polling_left number ms p calm (none_later (wakes number m) _ silent)
     ] pending
 
 -- if a poll of the number left its task by the definition, the reader ends in `Left`

@@ -28,14 +28,14 @@ emptied is = subst (IsSlot empty) (sym is) is_vacant
 pub as_before : {X : Type 0} {s : Share} {h h' : Held X} → IsSlot s h → h' ≡ h → IsSlot s h'
 as_before {s} slot is = subst (IsSlot s) (sym is) slot
 
-pub turned : {X : Type 0} {s t : Share} {h h' : Held X} → SlotChange s t h h' → IsSlot t h'
-turned stays_away = is_away
-turned stays_vacant = is_vacant
-turned (stays_held x) = is_held x
-turned gives_room = is_away
-turned (gives_thing x) = is_away
-turned gets_room = is_vacant
-turned (gets_thing x) = is_held x
+pub slot_after : {X : Type 0} {s t : Share} {h h' : Held X} → SlotChange s t h h' → IsSlot t h'
+slot_after stays_away = is_away
+slot_after stays_vacant = is_vacant
+slot_after (stays_held x) = is_held x
+slot_after gives_room = is_away
+slot_after (gives_thing x) = is_away
+slot_after gets_room = is_vacant
+slot_after (gets_thing x) = is_held x
 
 -- whether a row has this operation and needs these slots
 abbrev pub is_row_of : {At : Type 0} → Op → Slots → Row At → Bool
@@ -129,24 +129,24 @@ found_so {moves} {at} such fact is all (finds {after} {next} row message waker) 
       after = after;
       is_so = each fact (landings_of such (moves at)) all
           (landed such (moves at) is row);
-      message = turned message;
-      waker = turned waker;
+      message = slot_after message;
+      waker = slot_after waker;
     }
 
 -- an operation keeps what is in a slot
-kept : {X : Type 0} {s t : Share} {h h' : Held X} {x : X} → SlotChange s t h h' → h ≡ held x → IsSlot filled h' → h'
-    ≡ held x
-kept (stays_held y) is there = is
-kept (gives_thing y) is there = elim there [ ]
-kept _ is there = absurd (cc)
+content_kept : {X : Type 0} {s t : Share} {h h' : Held X} {x : X} → SlotChange s t h h' → h ≡ held x → IsSlot filled h'
+    → h' ≡ held x
+content_kept (stays_held y) is there = is
+content_kept (gives_thing y) is there = elim there [ ]
+content_kept _ is there = absurd (cc)
 
 module _ {At T W : Type 0} {moves : At → List (Row At)} {at : At} {op : Op} {n : ℕ} {m m' : Held T}
     {w w' : Held W} where
   pub message_kept : {x : T} → Finds moves at op n m w m' w' → m ≡ held x → IsSlot filled m' → m' ≡ held x
-  message_kept (finds row message waker) is there = kept message is there
+  message_kept (finds row message waker) is there = content_kept message is there
 
   pub waker_kept : {k : W} → Finds moves at op n m w m' w' → w ≡ held k → IsSlot filled w' → w' ≡ held k
-  waker_kept (finds row message waker) is there = kept waker is there
+  waker_kept (finds row message waker) is there = content_kept waker is there
 
 -- the landings whose word passes
 abbrev pub among : {At : Type 0} → (ℕ → Bool) → List (Landing At) → List (Landing At)

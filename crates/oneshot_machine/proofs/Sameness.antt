@@ -99,7 +99,7 @@ fills x none = is_away
 fills x empty = is_vacant
 fills x filled = is_held x
 
--- a slot turns from one share to the other without new content
+-- a slot changes from one share to the other without new content
 abbrev pub is_plain : Share → Share → Bool
 is_plain none none = true
 is_plain empty empty = true

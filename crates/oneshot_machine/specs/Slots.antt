@@ -39,7 +39,7 @@ module _ {At T W : Type 0} (rows : At → List (Row At)) where
         → In (op, before, word, next, after) (rows at)
         → IsSlot before.0 m → IsSlot before.1 w → May at op m w
 
-  -- it may find this word, and turns the first two slots into the last two
+  -- it may find this word, and changes the first two slots into the last two
   pub data Finds : At → Op → ℕ → Held T → Held W → Held T → Held W → Type 0 where
     finds : {at : At} {op : Op} {before after : Slots} {word : ℕ} {next : At} {m m' : Held T} {w w' : Held W}
         → In (op, before, word, next, after) (rows at)

@@ -85,17 +85,17 @@ module _ {X : Type 0} where
   share_is true None is_vacant = refl
   share_is true (Some x) (is_held _) = refl
 
-  -- a slot turns with its owner, and keeps its content
-  turns : (own owns : Bool) (content : Option X)
+  -- a slot changes with its owner, and keeps its content
+  slot_changes : (own owns : Bool) (content : Option X)
       → SlotChange (share_of own (is_some content)) (share_of owns (is_some content))
       (slot_if_own own content) (slot_if_own owns content)
-  turns false false content = stays_away
-  turns false true None = gets_room
-  turns false true (Some x) = gets_thing x
-  turns true false None = gives_room
-  turns true false (Some x) = gives_thing x
-  turns true true None = stays_vacant
-  turns true true (Some x) = stays_held x
+  slot_changes false false content = stays_away
+  slot_changes false true None = gets_room
+  slot_changes false true (Some x) = gets_thing x
+  slot_changes true false None = gives_room
+  slot_changes true false (Some x) = gives_thing x
+  slot_changes true true None = stays_vacant
+  slot_changes true true (Some x) = stays_held x
 
   -- the end owns a slot that is not away
   pub slot_vacant : (own : Bool) (content : Option X) → slot_if_own own content ≡ vacant → own ≡ true
@@ -199,18 +199,19 @@ module _ {At : Type 0} (next : At → Op → Seen → At) (rows : At → List (R
             (slot_if_own (keeps op (memory_of word own own_waker content waker)).1 waker)
         row_finds at op word own own_waker content waker {row} among found =
             let c : Memory = memory_of word own own_waker content waker in
-            let turned = and_parts (is_such op c row) (is_same_slots (shares_of (after op c)) row.4) found in
-            let such = and_parts (is_same_op row.0 op && row.2 == word) (is_same_slots (shares_of c) row.1) turned.0 in
+            let changed = and_parts (is_such op c row) (is_same_slots (shares_of (after op c)) row.4) found in
+            let such = and_parts (is_same_op row.0 op && row.2 == word) (is_same_slots (shares_of c) row.1) changed.0 in
             let same = and_parts (is_same_op row.0 op) (row.2 == word) such.0 in
             let slots : (shares_of c ≡ row.1) × (shares_of (after op c) ≡ row.4) =
-            (slots_are_same _ _ such.1, slots_are_same _ _ turned.1) in
+            (slots_are_same _ _ such.1, slots_are_same _ _ changed.1) in
             let message : SlotChange row.1.0 row.4.0 (slot_if_own own content) (slot_if_own (keeps op c).0 content) =
             subst (λ (z : Slots × Slots). SlotChange z.0.0 z.1.0 (slot_if_own own content)
             (slot_if_own (keeps op c).0 content))
-            (λ i. (slots.0 i, slots.1 i)) (turns own (keeps op c).0 content) in
+            (λ i. (slots.0 i, slots.1 i)) (slot_changes own (keeps op c).0 content) in
             let also : SlotChange row.1.1 row.4.1 (slot_if_own own_waker waker) (slot_if_own (keeps op c).1 waker) =
             subst (λ (z : Slots × Slots). SlotChange z.0.1 z.1.1 (slot_if_own own_waker waker)
-            (slot_if_own (keeps op c).1 waker)) (λ i. (slots.0 i, slots.1 i)) (turns own_waker (keeps op c).1 waker) in
+            (slot_if_own (keeps op c).1 waker)) (λ i. (slots.0 i, slots.1 i))
+            (slot_changes own_waker (keeps op c).1 waker) in
             subst (λ (z : Op × ℕ). Finds rows at z.0 z.1 (slot_if_own own content) (slot_if_own own_waker waker)
             (slot_if_own (keeps op c).0 content) (slot_if_own (keeps op c).1 waker))
             (λ i. (ops_are_same row.0 op same.0 i, eqb-true row.2 word same.1 i)) (finds among message also)

@@ -35,7 +35,7 @@ module _ {T W : Type 0} where
   swap_ends : (p : SenderAt) (last : ℕ) {word : ℕ} (s t : Plain T W)
       → SenderFinds p (Swap last) word s.message s.waker t.message t.waker
       → is_over (sender_next p (Swap last) (saw (Swap last) word)) ≡ true
-  swap_ends p last s t (finds row turns turns') = in_each_sender_row ends_it refl p row
+  swap_ends p last s t (finds row changes changes') = in_each_sender_row ends_it refl p row
 
   -- a sender is over after its swap
   pub swapped_over : (last : ℕ) {found : ℕ} (s t : Plain T W) → SenderDid s (Swap last) found t

@@ -161,5 +161,5 @@ module _ {T W : Type 0} where
 
   pub keeps_message : {g : Got} {found : ℕ} {x : T} {m : Held T} {w : Held W}
       → ReceiverFinds (full g) (Store DISCONNECTED) found (held x) vacant m w → m ≡ held x
-  keeps_message {g} (finds row turns _) =
-      kept (each_passes (λ row. is_filled row.4.0) (receiver_moves (full g)) (stays_full g) row) turns
+  keeps_message {g} (finds row changes _) =
+      kept (each_passes (λ row. is_filled row.4.0) (receiver_moves (full g)) (stays_full g) row) changes

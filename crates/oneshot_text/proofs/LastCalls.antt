@@ -9,7 +9,7 @@ use Rattle.oneshot_text.specs.declared.words.Word.{Word}
 use Rattle.oneshot_text.specs.declared.words.Words.{Words}
 use Rattle.oneshot_text.specs.Grammar.{IsOver}
 use Rattle.oneshot_text.specs.Words.{words_left, IsSameLine, TakesFirst, HasLineFault}
-use Rattle.oneshot_text.proofs.LineFaults.{fault_passed, fault_turned, fault_behind, fault_behind_word, word_unknown}
+use Rattle.oneshot_text.proofs.LineFaults.{fault_passed, fault_converted, fault_behind, fault_behind_word, word_unknown}
 use Rattle.oneshot_text.proofs.Runs.{replicate_to, replicate_from}
 
 module _ (language : List (List ℕ) → Type 0) (words : Words) (given fault : Malformed) where
@@ -25,9 +25,9 @@ module _ (language : List (List ℕ) → Type 0) (words : Words) (given fault : 
         → HasLineFault language words fault
     last_passed r told is = fault_passed language words r given fault told is behind_last
 
-    pub last_turned : {T : Type 0} (r : Result T ParseError) → IsErrAnd r (λ e. e ≡ NotOfTheGrammar given)
+    pub last_converted : {T : Type 0} (r : Result T ParseError) → IsErrAnd r (λ e. e ≡ NotOfTheGrammar given)
         → r ≡ Err (NotOfTheGrammar fault) → HasLineFault language words fault
-    last_turned r told is = fault_turned language words r given fault told is behind_last
+    last_converted r told is = fault_converted language words r given fault told is behind_last
 
   -- a word that is no last call, as the contract of `stop` states it
   module _ (other : List ℕ) (right : language (other ∷ []))
@@ -43,9 +43,9 @@ module _ (language : List (List ℕ) → Type 0) (words : Words) (given fault : 
         → HasLineFault language words fault
     unknown_passed r told is = fault_passed language words r given fault told is unknown_last
 
-    pub unknown_turned : {T : Type 0} (r : Result T ParseError) → IsErrAnd r (λ e. e ≡ NotOfTheGrammar given)
+    pub unknown_converted : {T : Type 0} (r : Result T ParseError) → IsErrAnd r (λ e. e ≡ NotOfTheGrammar given)
         → r ≡ Err (NotOfTheGrammar fault) → HasLineFault language words fault
-    unknown_turned r told is = fault_turned language words r given fault told is unknown_last
+    unknown_converted r told is = fault_converted language words r given fault told is unknown_last
 
 -- words of a run, with a fault after them
 pub run_passed : {T : Type 0} (language : List (List ℕ) → Type 0) (words : Words) (given fault : Malformed)

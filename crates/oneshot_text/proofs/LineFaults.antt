@@ -135,16 +135,16 @@ same_grammar : (given fault : Malformed) → NotOfTheGrammar fault ≡ NotOfTheG
 same_grammar given fault is = cc
 
 -- the same as an error of the whole text
-pub turned_is : {T : Type 0} (r : Result T ParseError) (given fault : Malformed)
+pub converted_is : {T : Type 0} (r : Result T ParseError) (given fault : Malformed)
     → IsErrAnd r (λ e. e ≡ NotOfTheGrammar given) → r ≡ Err (NotOfTheGrammar fault) → fault ≡ given
-turned_is r given fault told is =
+converted_is r given fault told is =
     same_grammar given fault (subst (λ x. IsErrAnd x (λ e. e ≡ NotOfTheGrammar given)) is told)
 
-pub fault_turned : {T : Type 0} (language : List (List ℕ) → Type 0) (words : Words) (r : Result T ParseError)
+pub fault_converted : {T : Type 0} (language : List (List ℕ) → Type 0) (words : Words) (r : Result T ParseError)
     (given fault : Malformed)
     → IsErrAnd r (λ e. e ≡ NotOfTheGrammar given) → r ≡ Err (NotOfTheGrammar fault) → HasLineFault language words given
     → HasLineFault language words fault
-fault_turned language words r given fault told is f = rw (turned_is r given fault told is) f
+fault_converted language words r given fault told is f = rw (converted_is r given fault told is) f
 
 -- an error that is passed on is this fault
 pub error_is : {T U : Type 0} (read : Result T ParseError) (given : ParseError) (fault : Malformed) → read ≡ Err given

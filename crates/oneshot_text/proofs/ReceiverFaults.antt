@@ -61,15 +61,15 @@ no_drop c is = receiver_last-no_call Drop c (ap (λ w. Some w) (sym is))
 nothing : AsyncScript
 nothing = record { calls = []; last = A.Stop }
 
-no_future : (c : ReceiverCall) → word_of_call c ≢ codes "future"
-no_future c is = receiver_last-no_call (IntoFuture nothing) c (ap (λ w. Some w) (sym is))
+no_into_future : (c : ReceiverCall) → word_of_call c ≢ codes "future"
+no_into_future c is = receiver_last-no_call (IntoFuture nothing) c (ap (λ w. Some w) (sym is))
 
 -- after a call
 call_from_head : (c : ReceiverCall) (rest : List (List ℕ)) → ReceiverHead (word_of_call c) rest → AsksForReceiver rest
 call_from_head c rest (call d is asks) = asks
 call_from_head c rest (recv is over) = absurd (no_recv c is)
 call_from_head c rest (drop is over) = absurd (no_drop c is)
-call_from_head c rest (future is asks) = absurd (no_future c is)
+call_from_head c rest (future is asks) = absurd (no_into_future c is)
 
 pub call_to : (c : ReceiverCall) (rest : List (List ℕ)) → AsksForReceiver rest → AsksForReceiver (word_of_call c ∷ rest)
 call_to c rest asks =
@@ -87,10 +87,10 @@ call_from c rest asks = call_from_head c rest (receiver_head (word_of_call c) re
 -- after `recv` and after `drop`
 last_from_head : (word : List ℕ) (rest : List (List ℕ)) → ((c : ReceiverCall) → word_of_call c ≢ word)
     → word ≢ codes "future" → ReceiverHead word rest → IsOver rest
-last_from_head word rest no_call no_future (call c is asks) = absurd (no_call c (sym is))
-last_from_head word rest no_call no_future (recv is over) = over
-last_from_head word rest no_call no_future (drop is over) = over
-last_from_head word rest no_call no_future (future is asks) = absurd (no_future is)
+last_from_head word rest no_call no_into_future (call c is asks) = absurd (no_call c (sym is))
+last_from_head word rest no_call no_into_future (recv is over) = over
+last_from_head word rest no_call no_into_future (drop is over) = over
+last_from_head word rest no_call no_into_future (future is asks) = absurd (no_into_future is)
 
 pub recv_to : (rest : List (List ℕ)) → IsOver rest → AsksForReceiver (codes "recv" ∷ rest)
 recv_to rest over =
@@ -110,7 +110,7 @@ receiver_drop_from rest asks =
 
 -- after `future`
 future_from_head : (rest : List (List ℕ)) → ReceiverHead (codes "future") rest → AsksForFuture rest
-future_from_head rest (call c is asks) = absurd (no_future c (sym is))
+future_from_head rest (call c is asks) = absurd (no_into_future c (sym is))
 future_from_head rest (recv is over) = absurd (unlike (codes "future") (codes "recv") refl refl is)
 future_from_head rest (drop is over) = absurd (unlike (codes "future") (codes "drop") refl refl is)
 future_from_head rest (future is asks) = asks

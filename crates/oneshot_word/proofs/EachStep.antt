@@ -10,7 +10,7 @@ use Rattle.oneshot_word.proofs.Names.{MESSAGE}
 use Rattle.oneshot_word.specs.declared.rule.Role.TheVariants.{Sender, Receiver}
 use Rattle.oneshot_word.proofs.SeatShows.{Sits, sender_sits, receiver_sits, sits, knows}
 use Rattle.oneshot_word.proofs.KeptRows.{stepped}
-use Rattle.oneshot_word.proofs.RuleKept.{turn, sender_turns, receiver_turns}
+use Rattle.oneshot_word.proofs.RuleKept.{has_acted, sender_acts, receiver_acts}
 use Rattle.oneshot_word.proofs.Between.{between, sender_told, sender_reaches, receiver_reaches}
 use Rattle.oneshot_word.proofs.SlotReads.{as_read, as_seat, reads}
 use Rattle.oneshot_word.proofs.RuleImplies.{meet}
@@ -84,10 +84,10 @@ module _ {T H K P : Type 0} (keeps : P → T → Type 0) (q : P) where
         (seat_as {kept' = Offers keeps q m}
         (λ x is k. (k, subst (λ m. gave m away None ≡ Some x) (sym is) refl)) has) in
         let lies = lies_as {kept' = Offers keeps q m} (λ x k. let is = sym none ∙ k.1 in absurd (cc is)) there in
-        elim (sender_turns {kept = Offers keeps q m} {fits = IsPut put} {word = found} asks offers
+        elim (sender_acts {kept = Offers keeps q m} {fits = IsPut put} {word = found} asks offers
         (meet (between order) lies there')) [
-          | turn {h'} {k'} {m'} {w'} act valid homes word lies lies' (finds row turns turns') has code ↦
-              let found_so = finds row turns turns' in
+          | has_acted {h'} {k'} {m'} {w'} act valid homes word lies lies' (finds row changes changes') has code ↦
+              let found_so = finds row changes changes' in
               let x : Noted = (op, saw op found) in
               let after = phase_from-snoc sender_next fresh me.0.log x in
               let xs : List Noted = me.0.log ++ x ∷ [] in (
@@ -100,7 +100,7 @@ module _ {T H K P : Type 0} (keeps : P → T → Type 0) (q : P) where
                     (sender_runs order found_so
                     (gave_what_lies keeps q (sender_next (sender_at me.0.log) op (saw op found)) (receiver_at ys) m
                     has lies) lies' (none_taken (gave m m' None) one none)
-                    (claims_put turns' claimed (made_more me.0.log x) (λ x is. fits_so has is))),
+                    (claims_put changes' claimed (made_more me.0.log x) (λ x is. fits_so has is))),
                 record {
                   about = sym same;
                   list = refl;
@@ -113,7 +113,7 @@ module _ {T H K P : Type 0} (keeps : P → T → Type 0) (q : P) where
                       refl
                       (subst (λ p. SeatOf (keeps q) any waker_first (sender_owns p) (carried_after me.1 act) m' w')
                       (sym after) (seat_fits (λ x is. tt) (seat_as (λ x is k. k.0) has))) (gives_once m m')
-                      (holds_claimed turns' seat.handed)
+                      (holds_claimed changes' seat.handed)
                       (ys, _, sender_reaches order found_so);
                   code = code;
                   finds = as_read (carried_after me.1 act)
@@ -135,10 +135,10 @@ module _ {T H K P : Type 0} (keeps : P → T → Type 0) (q : P) where
         let holds = seat_fits {fits' = λ x. gave w away put ≡ Some x}
         (λ x is. subst (λ w. gave w away put ≡ Some x) (sym is) refl)
         (seat_as {kept' = IsGiven keeps q given} (λ x is k. (k, holds_given seat.passed one is)) has) in
-        elim (receiver_turns {kept = IsGiven keeps q given} {fits = λ x. gave w away put ≡ Some x} {word = found} asks
+        elim (receiver_acts {kept = IsGiven keeps q given} {fits = λ x. gave w away put ≡ Some x} {word = found} asks
         holds (meet (between order) there (rests_as (sender_at xs) (receiver_at me.0.log) w has there'))) [
-          | turn {h'} {k'} {m'} {w'} act valid homes word lies lies' (finds row turns turns') has code ↦
-              let found_so = finds row turns turns' in
+          | has_acted {h'} {k'} {m'} {w'} act valid homes word lies lies' (finds row changes changes') has code ↦
+              let found_so = finds row changes changes' in
               let taken : Option T = took m m' me.0.passed in
               let x : Noted = (op, saw op found) in
               let after = phase_from-snoc receiver_next first me.0.log x in
@@ -152,8 +152,8 @@ module _ {T H K P : Type 0} (keeps : P → T → Type 0) (q : P) where
                     (receiver_runs order found_so lies
                     (put_what_rests (sender_at xs) (receiver_next (receiver_at me.0.log) op (saw op found)) w w' put has
                     lies')
-                    (takes_given turns one (λ x is. (seat_keeps has is).1))
-                    (still_claimed turns' claimed
+                    (takes_given changes one (λ x is. (seat_keeps has is).1))
+                    (still_claimed changes' claimed
                     (none_made (sender_at xs) (receiver_at me.0.log) (sender_told order) (between order) row))),
                 record {
                   about = sym same;
@@ -161,15 +161,15 @@ module _ {T H K P : Type 0} (keeps : P → T → Type 0) (q : P) where
                   passed = λ i. took m (sym (reads has).0 i) me.0.passed;
                   handed = λ i. gave w (sym (reads has).1 i) put;
                   gets = λ k from to. gets_put w' put k from (fits_so has (sym (reads has).1 ∙ to));
-                  stays = stays_taken turns seat.passed;
-                  takes = takes_as_found (is_same_seen (saw op found) (Word MESSAGE)) turns
+                  stays = stays_taken changes seat.passed;
+                  takes = takes_as_found (is_same_seen (saw op found) (Word MESSAGE)) changes
                       (finds_it_so (receiver_at me.0.log) op found row) seat.passed;
                   seat = as_seat {owns = λ ys. receiver_owns (receiver_at ys)} {Passed = HoldsTaken} {Handed = unsaid}
                       refl
                       (subst (λ at. SeatOf (keeps q) any message_first (receiver_owns at) (carried_after me.1 act) m'
                       w')
                       (sym after) (seat_fits (λ x is. tt) (seat_as (λ x is k. k.0) has)))
-                      (holds_taken turns (keeps_its_slot (receiver_at me.0.log) row) seat.passed) tt
+                      (holds_taken changes (keeps_its_slot (receiver_at me.0.log) row) seat.passed) tt
                       (xs, _, receiver_reaches order found_so);
                   code = code;
                   finds = as_read (carried_after me.1 act)

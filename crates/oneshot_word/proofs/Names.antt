@@ -25,7 +25,7 @@ pub use Rattle.oneshot_machine.specs.declared.states.Op.{Op}
 pub use Rattle.oneshot_machine.specs.declared.states.Op.TheVariants.{Add, Load, Store, Swap, Exchange, Xor}
 pub use Rattle.oneshot_word.specs.EndLogs.{FoundZero, MadeLast, MadeLate, stores_waker, is_overdue, is_gone, wrote_since, send_found, drop_found, sent_to_it, sent_to_overdue, dropped_before_it}
 pub use Rattle.oneshot_word.specs.EndLogs.{dropped_before_overdue, sent_late, dropped_late, sent_overtaken, dropped_overtaken, along, stores_next, overdue_next, gone_next, wrote_next}
-pub use Rattle.oneshot_word.specs.OneOrder.{OrderIsOne, WorkedOrders, WrongOrders, ends_of}
+pub use Rattle.oneshot_word.specs.OneOrder.{OrderIsOne, ends_of}
 pub use Rattle.oneshot_word.specs.Ordered.{Ordered, maker_before, maker_with_slot_before, in_order}
 pub use Rattle.oneshot_word.specs.Promised.{RuleKeeps}
 pub use Rattle.oneshot_word.specs.ReadRule.{sender_has_it, left_for_sender, receiver_has_it, left_for_receiver, receiver_found_it, waits_for_receiver, waker_at_home, Owned, both_open, waker_stored}

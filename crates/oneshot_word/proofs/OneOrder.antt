@@ -2,7 +2,7 @@
 use Rattle.std.proofs.Common.{◌≡◌, ℕ, Bool, true, false, List, [], ◌∷◌, Option, Some, None, refl}
 use Rattle.oneshot_word.proofs.Names.{not, ◌&&◌, ◌||◌, ◌++◌, sym, ap, ◌∙◌, subst, true≢false, list_all, eq-eqb, Op, Noted, saw, is_same_seen, HasRow, has_row, Reaches, nothing_made, sender_makes}
 use Rattle.oneshot_word.proofs.Names.{receiver_makes, Slots, Row, SenderAt, fresh, owes, no_sender, sender_at, sender_next, sender_moves, ReceiverAt, receiver_at, receiver_moves, In, word_after}
-use Rattle.oneshot_word.proofs.Names.{each_passes, same_sight, phase_from-snoc, OrderIsOne, WorkedOrders, WrongOrders}
+use Rattle.oneshot_word.proofs.Names.{each_passes, same_sight, phase_from-snoc, OrderIsOne}
 use Rattle.oneshot_machine.specs.declared.machine.End.TheVariants.{Sender, Receiver}
 use Rattle.oneshot_machine.proofs.EachPhase.{senders, at_each_sender, at_each_pair}
 use Rattle.oneshot_word.proofs.WordsEqual.{is_word}
@@ -174,9 +174,3 @@ order_is_one xs ys word v w reached one other =
     let b : IsByRows other = by_rows other (sender_is reached) (receiver_is reached) in
     let same : (v ≡ w) × (made_by a.reaches ≡ made_by b.reaches) = one_by_one a.reaches b.reaches refl refl in
     record { word = same.0; ends = sym a.ends ∙ same.1 ∙ b.ends }
-
-pub worked_orders : WorkedOrders
-worked_orders = record { ends = refl; same = record { word = refl; ends = refl } }
-
-pub wrong_orders : WrongOrders
-wrong_orders = record { not_apart = λ e. cc e; not_the_same = λ same. cc same.ends }

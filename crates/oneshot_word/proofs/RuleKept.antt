@@ -25,32 +25,32 @@ module _ {T H K At : Type 0} (kept : T → Type 0) (fits : AnyWaker H K → Type
             (bools_are slots.1 (is_owned after.1) parts.1) i,
       )) (seat_of message waker)
 
-  -- the end's turn: its act on the slots, and the rule after it
-  pub data Turn (at : At) (op : Op) (word : ℕ) (h k : Home T H K) (c : Carried T H K) (m : Held T)
+  -- what an operation of an end did: its act on the slots, and the rule after it
+  pub data Acted (at : At) (op : Op) (word : ℕ) (h k : Home T H K) (c : Carried T H K) (m : Held T)
       (w : Held (AnyWaker H K)) : Type 0 where
-    turn : {h' k' : Home T H K} {m' : Held T} {w' : Held (AnyWaker H K)} (act : Act (Slot T H K))
+    has_acted : {h' k' : Home T H K} {m' : Held T} {w' : Held (AnyWaker H K)} (act : Act (Slot T H K))
         → Valid (h ∷ k ∷ []) c act → homes_after (h ∷ k ∷ []) c act ≡ h' ∷ k' ∷ []
         → Is (e.word (e.next at op (saw op word))) (stepped op word)
         → Lies kept Message (e.message (e.next at op (saw op word))) h'
         → Lies fits with_waker (e.waker (e.next at op (saw op word))) k'
         → Finds e.moves at op word m w m' w'
         → SeatOf kept fits e.front (e.owns (e.next at op (saw op word))) (carried_after c act) m' w' → word ≤ 4
-        → Turn at op word h k c m w
+        → Acted at op word h k c m w
 
   module _ (at : At) (op : Op) (word : ℕ) {h k : Home T H K} where
-    turned : {before : Slots} (slots : Slots) {at' : At} {cm cw : Carried T H K} {m : Held T} {w : Held (AnyWaker H K)}
-        → word ≤ 4 → In (op, before, word, at', slots) (e.moves at)
+    acts_by_row : {before : Slots} (slots : Slots) {at' : At} {cm cw : Carried T H K} {m : Held T}
+        {w : Held (AnyWaker H K)} → word ≤ 4 → In (op, before, word, at', slots) (e.moves at)
         → leaves_word e at op before word ≡ true → is_slots (e.owns (after e at op before word)) slots ≡ true
         → has_act e at op before word slots ≡ true
         → Moved kept 0 Message before.0 slots.0 (e.message (after e at op before word)) h cm m
         → Moved fits 1 with_waker before.1 slots.1 (e.waker (after e at op before word)) k cw w
-        → Turn at op word h k (carried_as e.front cm cw) m w
-    turned {before} slots code there leaves owned acted (moved {x' = m'} turns moves part lies)
-        (moved {x' = w'} turns' moves' part' lies') =
+        → Acted at op word h k (carried_as e.front cm cw) m w
+    acts_by_row {before} slots code there leaves owned acted (moved {x' = m'} changes moves part lies)
+        (moved {x' = w'} changes' moves' part' lies') =
         let at' = e.next at op (saw op word) in
         elim (both e.front acted moves moves') [
           | acts act valid homes left ↦
-              turn act valid homes (leaves_so e at op word before leaves) lies lies' (finds there turns turns')
+              has_acted act valid homes (leaves_so e at op word before leaves) lies lies' (finds there changes changes')
               (subst (λ c. SeatOf kept fits e.front (e.owns at') c m' w') (sym left) (seated slots owned part part'))
               code
         ]
@@ -59,31 +59,31 @@ module _ {T H K At : Type 0} (kept : T → Type 0) (fits : AnyWaker H K → Type
         → word ≤ 4 → Found (e.moves at) op before word o → is_right e at op before word o ≡ true
         → Carries kept 0 Message before.0 cm m → Carries fits 1 with_waker before.1 cw w
         → Lies kept Message (e.message at) h → Lies fits with_waker (e.waker at) k
-        → Turn at op word h k (carried_as e.front cm cw) m w
+        → Acted at op word h k (carried_as e.front cm cw) m w
     right code found_none rightful message waker lies lies' = absurd (cc)
     right {before} code (found_row {after = slots} there) rightful message waker lies lies' =
         let at' = e.next at op (saw op word) in
         let so = rightly e at op word before slots rightful in
-        turned slots code there so.leaves so.owned so.acted
+        acts_by_row slots code there so.leaves so.owned so.acted
         (goes kept 0 Message message slots.0 (e.message at') lies so.of_message)
         (goes fits 1 with_waker waker slots.1 (e.waker at') lies' so.of_waker)
 
-    turns_from : {before : Slots} {o : Option ℕ} {owns : Option (Bool × Bool)} {c : Carried T H K} {m : Held T}
+    acts_from : {before : Slots} {o : Option ℕ} {owns : Option (Bool × Bool)} {c : Carried T H K} {m : Held T}
         {w : Held (AnyWaker H K)} → Is o word → is_kept e at op before o ≡ true
         → IsSlot before.0 m → IsSlot before.1 w → SeatOf kept fits e.front owns c m w → Lies kept Message (e.message at)
         h
-        → Lies fits with_waker (e.waker at) k → Turn at op word h k c m w
-    turns_from {before} is computed message waker (seat_of part part') lies lies' =
+        → Lies fits with_waker (e.waker at) k → Acted at op word h k c m w
+    acts_from {before} is computed message waker (seat_of part part') lies lies' =
         let parts =
         and_parts (leb word 4) (is_right e at op before word (row_of (e.moves at) op before word)) computed in
         right (leb-true word 4 parts.0) (found (e.moves at) op before word) parts.1
         (carries kept 0 Message message part) (carries fits 1 with_waker waker part') lies lies'
 
-    keeps_turn : {c : Carried T H K} {m : Held T} {w : Held (AnyWaker H K)} → keeps_rule e at ≡ true
+    acts_rightly : {c : Carried T H K} {m : Held T} {w : Held (AnyWaker H K)} → keeps_rule e at ≡ true
         → May e.moves at op m w → SeatOf kept fits e.front (e.owns at) c m w → Is (e.word at) word
-        → Lies kept Message (e.message at) h → Lies fits with_waker (e.waker at) k → Turn at op word h k c m w
-    keeps_turn all (may row message waker) seat number lies lies' =
-        turns_from number (each_passes (λ (row : Row At). is_kept e at row.0 row.1 (e.word at)) (e.moves at) all row)
+        → Lies kept Message (e.message at) h → Lies fits with_waker (e.waker at) k → Acted at op word h k c m w
+    acts_rightly all (may row message waker) seat number lies lies' =
+        acts_from number (each_passes (λ (row : Row At). is_kept e at row.0 row.1 (e.word at)) (e.moves at) all row)
         message waker seat lies lies'
 
 -- so at each pair of phases
@@ -96,16 +96,16 @@ receiver_keeps = at_each_pair (λ p q. keeps_rule (receiver_end p) q) refl
 module _ {T H K : Type 0} {kept : T → Type 0} {fits : AnyWaker H K → Type 0} {p : SenderAt} {q : ReceiverAt} {op : Op}
     {word : ℕ} {h k : Home T H K}
     {c : Carried T H K} {m : Held T} {w : Held (AnyWaker H K)} where
-  pub sender_turns : SenderMay p op m w → SeatOf kept fits waker_first (sender_owns p) c m w → Meet T H K kept fits p q
+  pub sender_acts : SenderMay p op m w → SeatOf kept fits waker_first (sender_owns p) c m w → Meet T H K kept fits p q
       word h k
-      → Turn kept fits (sender_end q) p op word h k c m w
-  sender_turns asks seat (meet now lies lies') =
-      keeps_turn kept fits (sender_end q) p op word (sender_keeps p q) asks seat now lies lies'
+      → Acted kept fits (sender_end q) p op word h k c m w
+  sender_acts asks seat (meet now lies lies') =
+      acts_rightly kept fits (sender_end q) p op word (sender_keeps p q) asks seat now lies lies'
 
-  pub receiver_turns : ReceiverMay q op m w → SeatOf kept fits message_first (receiver_owns q) c m w
-      → Meet T H K kept fits p q word h k → Turn kept fits (receiver_end p) q op word h k c m w
-  receiver_turns asks seat (meet now lies lies') =
-      keeps_turn kept fits (receiver_end p) q op word (receiver_keeps p q) asks seat now lies lies'
+  pub receiver_acts : ReceiverMay q op m w → SeatOf kept fits message_first (receiver_owns q) c m w
+      → Meet T H K kept fits p q word h k → Acted kept fits (receiver_end p) q op word h k c m w
+  receiver_acts asks seat (meet now lies lies') =
+      acts_rightly kept fits (receiver_end p) q op word (receiver_keeps p q) asks seat now lies lies'
 
 module _ (p : SenderAt) (q : ReceiverAt) {op : Op} {before after : Slots} {word : ℕ} where
   pub sender_leaves : {next : SenderAt} → Is (word_between p q) word

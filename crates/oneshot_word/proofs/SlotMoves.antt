@@ -22,7 +22,7 @@ pub data Goes {T H K : Type 0} (place : ℕ) : Bool → Bool → Home T H K → 
   goes_home : {s : Slot T H K} → Goes place true false out (maybe.some s) ((place, s) ∷ []) []
   comes : {s : Slot T H K} → Goes place false true (maybe.some s) out [] ((place, s) ∷ [])
 
--- whether a slot can turn so: the seat's shares of it before and after, then the table's after and before
+-- whether a slot can change so: the seat's shares of it before and after, then the table's after and before
 abbrev pub is_change : Share → Share → Share → Share → Bool
 is_change none none there' there = is_same_share there there'
 is_change empty empty none none = true

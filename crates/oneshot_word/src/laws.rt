@@ -4,7 +4,7 @@
 ghost use Rattle.std.specs.Prelude.{ℕ, List};
 ghost use Rattle.oneshot_machine.specs.Noted.{Noted};
 ghost use Rattle.oneshot_machine.specs.Orders.{Reaches};
-ghost use Rattle.oneshot_word.specs.OneOrder.{OrderIsOne, WorkedOrders, WrongOrders};
+ghost use Rattle.oneshot_word.specs.OneOrder.{OrderIsOne};
 ghost use Rattle.oneshot_word.specs.Ordered.{RuleOrders};
 ghost use Rattle.oneshot_word.specs.Promised.{RuleKeeps};
 ghost use Rattle.oneshot_word.specs.Received.{ReceivedIsSent, WokenIsPut};
@@ -21,11 +21,9 @@ pub fn every_state_is_reached<T, H, K, P: Promise<T>>()
 
 /// The logs of both ends have only one order: in any two orders of them, in which each operation finds
 /// the word that the one before it left, the ends operate in the same sequence. So if the operations happened in
-/// such an order, it is the one of `every_state_is_reached`. With examples of orders, and counterexamples.
+/// such an order, it is the one of `every_state_is_reached`.
 pub fn order_is_one()
-    ensures law { OrderIsOne }
-    ensures orders { WorkedOrders }
-    ensures no_orders { WrongOrders }
+    ensures { OrderIsOne }
 {}
 
 /// In every state that the table's rule allows, a message in the table keeps its channel's promise. Any

@@ -119,11 +119,11 @@ abbrev pub becomes_future : Option Call → Bool
 becomes_future None = false
 becomes_future (Some call) = makes_future call
 
-receiver_goes : (calls : List Call) → is_receiver_script calls ≡ true
+receiver_script_goes : (calls : List Call) → is_receiver_script calls ≡ true
     → has_script (becomes_future (first calls)) (rest calls) ≡ true
-receiver_goes [] h = refl
-receiver_goes (Of_receiver RC.IntoFuture ∷ calls) h = h
-receiver_goes (call ∷ calls) h =
+receiver_script_goes [] h = refl
+receiver_script_goes (Of_receiver RC.IntoFuture ∷ calls) h = h
+receiver_script_goes (call ∷ calls) h =
     follows (stays_receiver call) (ends_receiver call) (is_receiver_script calls) (is_none_left calls)
     (none_is_receiver calls) h
 
@@ -135,7 +135,7 @@ async_goes (call ∷ calls) h =
 
 pub receiver_goes_on : (future : Bool) (calls : List Call) → has_script future calls ≡ true
     → has_script (future || becomes_future (first calls)) (rest calls) ≡ true
-receiver_goes_on false calls h = receiver_goes calls h
+receiver_goes_on false calls h = receiver_script_goes calls h
 receiver_goes_on true calls h = async_goes calls h
 
 abbrev pub ends_either : Call → Bool

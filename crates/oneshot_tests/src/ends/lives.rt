@@ -255,14 +255,14 @@ pub(super) fn live(
 
 /// A runtime with an `Arc`, whose count shows whether the runtime is alive.
 #[derive(Drop)]
-struct Counted<'a, R> {
+struct CountedRuntime<'a, R> {
     rt: &'a R,
     _alive: Arc<u8>,
 }
 
-impl<'a, R: Wait> Wait for Counted<'a, R> {}
+impl<'a, R: Wait> Wait for CountedRuntime<'a, R> {}
 
-impl<'a, R: Clock> Clock for Counted<'a, R> {
+impl<'a, R: Clock> Clock for CountedRuntime<'a, R> {
     fn monotonic(&self) -> io::Result<Duration> {
         self.rt.monotonic()
     }
@@ -312,7 +312,7 @@ fn assert_looks(
     let alive = Arc::new(rt.alloc(), 0u8)?;
     let tasks = Tasks::new(rt)?;
     let life = read(rt.alloc(), text)?;
-    let counted = Counted {
+    let counted = CountedRuntime {
         rt,
         _alive: Arc::try_clone(&alive)?,
     };

@@ -23,12 +23,12 @@ const TRIES: u64 = 3;
 
 /// A receiver whose polls are counted.
 #[derive(Drop)]
-struct Counted<'a, T, Rt> {
+struct CountedReceiver<'a, T, Rt> {
     receiver: AsyncReceiver<T, Rt>,
     polls: &'a AtomicU64,
 }
 
-impl<'a, T: Drop, Rt: Drop> Future for Counted<'a, T, Rt> {
+impl<'a, T: Drop, Rt: Drop> Future for CountedReceiver<'a, T, Rt> {
     type Output = Result<T, RecvError>;
 
     ghost needs = { λ c s. s ≡ c.receiver.source };
@@ -57,7 +57,7 @@ fn wait_for_a_poll(rt: &impl Clock, polls: &AtomicU64) {
 fn a_send_of_another_thread_wakes_the_task(rt: HostRuntime) -> Result<(), Fail> {
     let polls = AtomicU64::new(0);
     let (sender, receiver) = async_channel(&rt, rt.alloc())?;
-    let counted = Counted {
+    let counted = CountedReceiver {
         receiver,
         polls: &polls,
     };
@@ -100,11 +100,11 @@ fn polls_of_two<R: thread::Threads + Wait + Clock + RandomSource + AllocGlobal +
     let polls = AtomicU64::new(0);
     let (sender, receiver) = async_channel(rt, rt.alloc())?;
     let (other_sender, other) = async_channel(rt, rt.alloc())?;
-    let counted = Counted {
+    let counted = CountedReceiver {
         receiver,
         polls: &polls,
     };
-    let other = Counted {
+    let other = CountedReceiver {
         receiver: other,
         polls: &polls,
     };
@@ -166,7 +166,7 @@ fn a_message_that_was_sent_before_is_ready_at_once(rt: HostRuntime) -> Result<()
     let polls = AtomicU64::new(0);
     let (sender, receiver) = async_channel(&rt, rt.alloc())?;
     assert!(rt; sender.send(19u8).is_ok());
-    let counted = Counted {
+    let counted = CountedReceiver {
         receiver,
         polls: &polls,
     };

@@ -4,6 +4,7 @@ use Rattle.oneshot_contract_examples.proofs.ReadExamples.{reads_that_are, reads_
 use Rattle.oneshot_contract_examples.proofs.SeatExamples.{slots_as_seen, seats_that_are, seats_that_are_not}
 use Rattle.oneshot_contract_examples.proofs.SideExamples.{sides_that_are, sides_that_are_not}
 use Rattle.oneshot_contract_examples.proofs.ReceivedExamples.{messages_that_pass, messages_that_do_not, wakers_that_pass, wakers_that_do_not}
+use Rattle.oneshot_contract_examples.proofs.OneOrderExamples.{worked_orders, wrong_orders}
 use Rattle.oneshot_contract_examples.proofs.word.examples_are_so.Goals as goal
 
 pub returns-clause-states : goal.returns-clause-states
@@ -44,3 +45,9 @@ returns-clause-wakers g c = wakers_that_pass _ _ _
 
 pub returns-clause-no_wakers : goal.returns-clause-no_wakers
 returns-clause-no_wakers g c = wakers_that_do_not _ _ _
+
+pub returns-clause-orders : goal.returns-clause-orders
+returns-clause-orders g c = worked_orders
+
+pub returns-clause-no_orders : goal.returns-clause-no_orders
+returns-clause-no_orders g c = wrong_orders

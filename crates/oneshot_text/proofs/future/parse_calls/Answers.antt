@@ -5,7 +5,7 @@ use Rattle.oneshot_text.specs.Grammar.{AsksForFuture}
 use Rattle.oneshot_text.specs.Words.{words_left, IsSameLine}
 use Rattle.oneshot_text.proofs.FutureFaults.{calls_to, calls_from, numbers_more}
 use Rattle.oneshot_text.proofs.FutureWords.{future_written_more, takes_one, takes_none, no_fault}
-use Rattle.oneshot_text.proofs.LineFaults.{fault_turned, fault_behind, same_line_on}
+use Rattle.oneshot_text.proofs.LineFaults.{fault_converted, fault_behind, same_line_on}
 use Rattle.oneshot_text.proofs.future.parse_calls.Goals as goal
 
 pub returns-in_err-call-clause-each : goal.returns-in_err-call-clause-each
@@ -53,7 +53,7 @@ returns-in_err-call-clause-faulty c = λ fault is.
     let given = c.in_err-call.field-0.0 in
     let calls = c.loop-calls.calls.items in
     let so_far = c.loop-calls.invariant in
-    fault_turned AsksForFuture c.args.words.now c.from_residual.result given fault c.from_residual.ensures.1 is
+    fault_converted AsksForFuture c.args.words.now c.from_residual.result given fault c.from_residual.ensures.1 is
     (fault_behind AsksForFuture AsksForFuture (words_of_future_calls calls) (calls_to calls so_far.numbers)
     (calls_from calls)
     c.args.words.now c.loop-calls.words given so_far.line so_far.written

@@ -3,7 +3,7 @@ use Rattle.std.proofs.Common.{refl}
 use Rattle.oneshot_text.specs.Future.{words_of_future_calls}
 use Rattle.oneshot_text.specs.Grammar.{AsksForFuture}
 use Rattle.oneshot_text.proofs.FutureFaults.{calls_to, calls_from}
-use Rattle.oneshot_text.proofs.LineFaults.{error_is, fault_turned, fault_behind}
+use Rattle.oneshot_text.proofs.LineFaults.{error_is, fault_converted, fault_behind}
 use Rattle.oneshot_text.proofs.future.parse_future.Goals as goal
 
 pub returns-in_err-calls-clause-faulty : goal.returns-in_err-calls-clause-faulty
@@ -17,7 +17,7 @@ returns-in_err-last-clause-faulty c = λ fault is.
     let given = c.in_err-last.field-0.0 in
     let calls = c.in_ok-calls.calls.items in
     let run = c.in_ok-calls.ensures in
-    fault_turned AsksForFuture c.args.words c.from_residual-in_err-last.result given fault
+    fault_converted AsksForFuture c.args.words c.from_residual-in_err-last.result given fault
     c.from_residual-in_err-last.ensures.1 is
     (fault_behind AsksForFuture AsksForFuture (words_of_future_calls calls) (calls_to calls run.numbers)
     (calls_from calls)

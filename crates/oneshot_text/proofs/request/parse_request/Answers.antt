@@ -2,14 +2,15 @@
 use Rattle.std.proofs.Common.{[], ◌∷◌, refl, sym, ◌∙◌}
 use Rattle.oneshot_text.specs.declared.line.Line.TheVariants.{Sender, Receiver, Schedule}
 use Rattle.oneshot_text.proofs.FirstFaults.{line_wrong, line_later, sender_right, receiver_right, moves_right}
-use Rattle.oneshot_text.proofs.LineFaults.{turned_is, error_is}
+use Rattle.oneshot_text.proofs.LineFaults.{converted_is, error_is}
 use Rattle.oneshot_text.proofs.request.parse_request.Goals as goal
 
 pub returns-in_err-sender-clause-faulty : goal.returns-in_err-sender-clause-faulty
 returns-in_err-sender-clause-faulty c = λ fault is.
     let given = c.in_err-sender.field-0.0 in
     let line = c.in_ok-take.ensures in
-    let same = turned_is c.from_residual-in_err-sender.result given fault c.from_residual-in_err-sender.ensures.1 is in
+    let same =
+    converted_is c.from_residual-in_err-sender.result given fault c.from_residual-in_err-sender.ensures.1 is in
     rw same (line_wrong Sender _ _ c.in_ok-take.field-0 _ given (sym c.new-lines.ensures ∙ line.read) line.first
     (c.in_err-sender.ensures.faulty given refl))
 
@@ -17,7 +18,8 @@ pub returns-in_err-take-2-clause-faulty : goal.returns-in_err-take-2-clause-faul
 returns-in_err-take-2-clause-faulty c = λ fault is.
     let given = c.in_err-take-2.field-0.0 in
     let sender = sender_right _ c.in_ok-sender.sender c.in_ok-sender.ensures.written c.in_ok-sender.ensures.fits in
-    let same = turned_is c.from_residual-in_err-take-2.result given fault c.from_residual-in_err-take-2.ensures.1 is in
+    let same =
+    converted_is c.from_residual-in_err-take-2.result given fault c.from_residual-in_err-take-2.ensures.1 is in
     rw same (line_later Sender _ _ _ _ given (sym c.new-lines.ensures ∙ c.in_ok-take.ensures.read) sender
     (c.in_err-take-2.ensures.faulty given refl (Schedule ∷ [])))
 
@@ -38,7 +40,8 @@ returns-in_err-take-3-clause-faulty c = λ fault is.
     let sender = sender_right _ c.in_ok-sender.sender c.in_ok-sender.ensures.written c.in_ok-sender.ensures.fits in
     let receiver =
     receiver_right _ c.in_ok-receiver.receiver c.in_ok-receiver.ensures.written c.in_ok-receiver.ensures.fits in
-    let same = turned_is c.from_residual-in_err-take-3.result given fault c.from_residual-in_err-take-3.ensures.1 is in
+    let same =
+    converted_is c.from_residual-in_err-take-3.result given fault c.from_residual-in_err-take-3.ensures.1 is in
     rw same (line_later Sender _ _ _ _ given (sym c.new-lines.ensures ∙ c.in_ok-take.ensures.read) sender
     (line_later Receiver _ _ _ _ given c.in_ok-take-2.ensures.read receiver
     (c.in_err-take-3.ensures.faulty given refl [])))
@@ -64,7 +67,7 @@ returns-in_err-end-clause-faulty c = λ fault is.
     let receiver =
     receiver_right _ c.in_ok-receiver.receiver c.in_ok-receiver.ensures.written c.in_ok-receiver.ensures.fits in
     let moves = moves_right _ c.in_ok-moves.moves.items c.in_ok-moves.ensures.written in
-    let same = turned_is c.from_residual-in_err-end.result given fault c.from_residual-in_err-end.ensures.1 is in
+    let same = converted_is c.from_residual-in_err-end.result given fault c.from_residual-in_err-end.ensures.1 is in
     rw same (line_later Sender _ _ _ _ given (sym c.new-lines.ensures ∙ c.in_ok-take.ensures.read) sender
     (line_later Receiver _ _ _ _ given c.in_ok-take-2.ensures.read receiver
     (line_later Schedule _ _ _ _ given c.in_ok-take-3.ensures.read moves (c.in_err-end.ensures.faulty given refl))))

@@ -3,7 +3,7 @@ use Rattle.std.proofs.Common.{◌≡◌, ◌<◌, [], ◌∷◌, length, refl, a
 use Rattle.oneshot_text.specs.Grammar.{AsksForMoves, IsOver}
 use Rattle.oneshot_text.specs.Words.{words_left}
 use Rattle.oneshot_text.proofs.Letters.{schedule-same}
-use Rattle.oneshot_text.proofs.LineFaults.{error_is, fault_turned, fault_behind}
+use Rattle.oneshot_text.proofs.LineFaults.{error_is, fault_converted, fault_behind}
 use Rattle.oneshot_text.proofs.ScheduleFaults.{moves_to, moves_from, schedule_unknown}
 use Rattle.oneshot_text.proofs.schedule.parse_schedule.Goals as goal
 
@@ -29,7 +29,7 @@ returns-in_err-end-clause-faulty c = λ fault is.
     let moves = c.in_ok-moves.ensures in
     let some : 0 < length c.in_ok-moves.moves.items = omega (arith, moves.some) in
     let given = c.in_err-end.field-0.0 in
-    fault_turned AsksForMoves c.args.words c.from_residual-in_err-end.result given fault
+    fault_converted AsksForMoves c.args.words c.from_residual-in_err-end.result given fault
     c.from_residual-in_err-end.ensures.1 is
     (fault_behind IsOver AsksForMoves (word ∷ []) (moves_to c.in_ok-moves.moves.items word some moves.written)
     (moves_from word) c.args.words _ given next.1 next.0 (c.in_err-end.ensures.faulty given refl))
