@@ -46,7 +46,7 @@ fn work(
         job.serve();
         served = served.saturating_add(1);
     }
-    // If its receiver is gone, nobody asks for the report.
+    // If the owner is gone, nobody needs the report.
     let _ = report.send(served);
 }
 

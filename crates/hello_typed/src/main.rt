@@ -65,7 +65,7 @@ fn work(
         serve(job);
         served = served.saturating_add(1);
     }
-    // If its receiver is gone, nobody asks for the report.
+    // If the owner is gone, nobody needs the report.
     let _ = report.send(served);
 }
 

@@ -11,8 +11,8 @@
 -- `RowsChangeSlots` finds a row for each operation of a log. `ReceiverLogs` computes that every row passes, and follows
 -- the log. `Among` has lemmas on lists.
 -- 3. What each run with both logs has. `PhaseCodes`, `PhasesBeside` and `PhasesRead` find its phases, and `CellsRun`
--- its cells, by the search of the product. It compares phases by their *codes*, a number for each. `RunOrder` finds the
--- order of its operations.
+-- its cells, by the search of the product. The search compares phases by their *codes*: each phase has a number.
+-- `RunOrder` finds the order of its operations.
 -- 4. The program's own calls. `CallsWalk` continues a walk by the run of one call. `ReceiverCalls` and `SenderCalls` do
 -- so for all calls of an end. `CallsRun` joins both ends, and `Joined` adds the slots and the message.
 -- 5. What the laws of the model then state. `OneReceive` reads it off a trace, and `Given` and `Woken` state it of both

@@ -127,7 +127,7 @@ fn a_receiver_blocks_on_after_its_deadline(rt: HostRuntime) -> Result<(), Fail> 
     let mut sender = Some(sender);
     let received = keep_waiting(receiver, now, || {
         if let Some(sender) = sender.take() {
-            // The receiver is in the call that waits for this.
+            // `keep_waiting`, which calls this closure, still has the receiver, so the message is not refused.
             let _ = sender.send(19u64);
         }
     });

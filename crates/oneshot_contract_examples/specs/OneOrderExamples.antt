@@ -13,7 +13,8 @@ abbrev pub waits_and_loads :
     ((Load, Word EMPTY) ∷ (Swap RECEIVING, Word EMPTY) ∷ (Load, Word UNPARKING) ∷ []) UNPARKING
 waits_and_loads = by_receiver Load (by_sender Add (by_receiver (Swap RECEIVING) (by_receiver Load none_made)))
 
--- Two orders of the same logs, which no sender has: whichever end loads first, both see the same.
+-- Two orders of the same logs: both loads find the same word, whichever end loads first. No sender has such a
+-- log, since a sender's log has no load.
 abbrev pub sender_loads_first : InOrder ((Load, Word EMPTY) ∷ []) ((Load, Word EMPTY) ∷ []) EMPTY
 sender_loads_first = by_receiver Load (by_sender Load none_made)
 

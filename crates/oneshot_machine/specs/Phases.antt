@@ -68,7 +68,7 @@ pub data Closing : Type 0 where
   closed_itself : Closing
 
 pub data ReceiverAt : Type 0 where
-  -- it has performed no operation, as a `fresh` sender
+  -- it has performed no operation; the sender's phase of this kind is `fresh`
   first : ReceiverAt
   idle : Open → ReceiverAt
   -- its waker is stored, unless the sender took it since

@@ -11,8 +11,8 @@ module _ {T H K P : Type 0} (keeps : P → T → Type 0) where
   pub data Sits (q : P) : List ℕ → List (Home T H K) → List (View T H K P) → ℕ → Role → List Noted → Option T
       → Option (AnyWaker H K) → Type 0 where
     maker_sits : Sits q (EMPTY ∷ []) (bare ∷ bare ∷ []) (view q Maker [] None None ∷ []) 0 Maker [] None None
-    dealer_sits : Sits q (EMPTY ∷ []) (out ∷ bare ∷ []) (view q MakerWithSlot [] None None ∷ []) 0 MakerWithSlot []
-        None None
+    maker_with_slot_sits : Sits q (EMPTY ∷ []) (out ∷ bare ∷ []) (view q MakerWithSlot [] None None ∷ []) 0
+        MakerWithSlot [] None None
     sender_sits : {w : ℕ} {h k : Home T H K} {xs : List Noted} {given : Option T} {woke : Option (AnyWaker H K)}
         (ys : List Noted) (taken : Option T) (put : Option (AnyWaker H K))
         → Reaches xs ys w
@@ -39,7 +39,8 @@ module _ {T H K P : Type 0} {keeps : P → T → Type 0} where
       (view q Maker [] None None ∷ []) 0 v.role v.log v.passed v.handed) (some-injective _ _ at) maker_sits
   sits {q} dealt zero at =
       subst (λ (v : View T H K P). Sits {T = T} {H = H} {K = K} keeps q (EMPTY ∷ []) (out ∷ bare ∷ [])
-      (view q MakerWithSlot [] None None ∷ []) 0 v.role v.log v.passed v.handed) (some-injective _ _ at) dealer_sits
+      (view q MakerWithSlot [] None None ∷ []) 0 v.role v.log v.passed v.handed) (some-injective _ _ at)
+      maker_with_slot_sits
   sits {q} (runs {w} {h} {k} xs ys {given} {taken} {put} {woke} order lies lies' same claimed) zero at =
       subst (λ (v : View T H K P). Sits {T = T} {H = H} {K = K} keeps q (w ∷ []) (h ∷ k ∷ [])
       (view q Sender xs given woke ∷ view q Receiver ys taken put ∷ []) 0 v.role v.log v.passed v.handed)

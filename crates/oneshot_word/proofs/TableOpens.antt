@@ -5,7 +5,7 @@ use Rattle.oneshot_word.proofs.Names.{Empty, View, Home, lies_out}
 use Rattle.oneshot_word.proofs.Names.{lies_bare, took_none, claimed_none, Tied, dealt, runs, view, slot_vacant, carried, not_carried, seat_of, gave_none, holds_no_slot, claims_no_slot, SenderSeat}
 use Rattle.oneshot_word.proofs.Names.{ReceiverSeat, EMPTY}
 use Rattle.oneshot_word.specs.declared.rule.Role.TheVariants.{Sender, Receiver}
-use Rattle.oneshot_word.proofs.SeatShows.{Sits, maker_sits, dealer_sits, sits}
+use Rattle.oneshot_word.proofs.SeatShows.{Sits, maker_sits, maker_with_slot_sits, sits}
 use Rattle.oneshot_word.proofs.EachStep.{Holds}
 
 abbrev pub dealt_seat : {T H K P : Type 0} → P → Me (Slot T H K) (View T H K P)
@@ -31,7 +31,7 @@ module _ {T H K P : Type 0} (keeps : P → T → Type 0) (q : P) where
   splits : {ws : List ℕ} {hs : List (Home T H K)} {vs : List (View T H K P)} {id : ℕ}
       → Sits keeps q ws hs vs id MakerWithSlot [] None None
       → Tied keeps q ws hs (set vs id (view q Sender [] None None) ++ view q Receiver [] None None ∷ [])
-  splits dealer_sits = runs [] [] nothing_made lies_out lies_bare took_none claimed_none
+  splits maker_with_slot_sits = runs [] [] nothing_made lies_out lies_bare took_none claimed_none
 
   pub split_allowed : (id : ℕ) (v : View T H K P) → v ≡ view q MakerWithSlot [] None None
       → Splits (Holds {T = T} {H = H} {K = K} keeps q) id v (view v.about Sender [] None None)

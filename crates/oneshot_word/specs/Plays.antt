@@ -16,8 +16,8 @@ module _ {T H K P : Type 0} (keeps : P → T → Type 0) where
   abbrev pub AddFound : Note T H K P
   AddFound step before word after = SenderStepped keeps before Add word after
 
-  abbrev pub FlipFound : Note T H K P
-  FlipFound step before word after = SenderStepped keeps before Xor word after
+  abbrev pub XorFound : Note T H K P
+  XorFound step before word after = SenderStepped keeps before Xor word after
 
   -- `first` is the number that the step puts in
   abbrev pub FinalSwapFound : Note T H K P

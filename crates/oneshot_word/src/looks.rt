@@ -13,7 +13,7 @@ use crate::table::WordTable;
 use std::alloc::Global;
 use std::sync::Arc;
 
-/// The load beneath a look. It is a trait, so only a file that imports it can look.
+/// The load beneath a look. It is a trait, so only a file that imports it can perform this load.
 pub trait Peek {
     /// Loads the word and returns it. The load is not logged, and no contract states what it found.
     fn peek(&self) -> u8;

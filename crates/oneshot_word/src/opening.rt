@@ -78,7 +78,8 @@ fn seated<T: Send + Drop, H: Send + Drop, K: Send + Drop, P: Promise<T>>(
     let Ok((made, mut seat)) = Table::new(alloc, &[EMPTY as u64], empty_slots(alloc)?, about) else {
         return Err(AllocError);
     };
-    // The load is for its step, which gives the maker the slot of the message. The word is `EMPTY`.
+    // Performs the step `TakesMessageSlot`, which gives the maker the slot of the message. The word that the load
+    // finds, `EMPTY`, is not used.
     made.shared.load::<TakesMessageSlot>(&mut seat, 0);
     let other = made.shared.split_seat::<MakesReceiver>(&mut seat);
     Ok((made, seat, other))

@@ -3,7 +3,7 @@
 ghost use Rattle.std.specs.Prelude.{◌≡◌, ◌∷◌, [], None};
 ghost use Rattle.oneshot_word.specs.declared.rule.Role.TheVariants.{MakerWithSlot, Sender, Receiver};
 ghost use Rattle.oneshot_word.specs.declared.rule.Slot.TheVariants.{Empty};
-ghost use Rattle.oneshot_word.specs.Plays.{AddFound, FlipFound, FinalSwapFound, LoadFound, StoreFound, SwapFound, ExchangeFound};
+ghost use Rattle.oneshot_word.specs.Plays.{AddFound, XorFound, FinalSwapFound, LoadFound, StoreFound, SwapFound, ExchangeFound};
 ghost use Rattle.oneshot_word.specs.Seats.{view};
 
 use crate::promise::Promise;
@@ -19,7 +19,7 @@ impl<T, H, K, P: Promise<T>> Play<Slot<T, H, K>, View<T, H, K, P>> for Adds {
 pub(crate) struct Xors;
 
 impl<T, H, K, P: Promise<T>> Play<Slot<T, H, K>, View<T, H, K, P>> for Xors {
-    ghost then = { FlipFound P.keeps };
+    ghost then = { XorFound P.keeps };
 }
 
 pub(crate) struct Finishes;

@@ -75,7 +75,7 @@ impl<T, H, K, P: Promise<T>> SenderSide<T, H, K, P> {
         self.table.shared.fetch_add::<Adds>(&mut self.seat, 0, 1) as u8
     }
 
-    /// Xors the word's lowest bit, and returns the word before.
+    /// Xors the word with one, and returns the word before.
     pub fn xor(&mut self) -> u8
         requires { SenderCan self.old Xor }
         ensures { SenderDid self.old Xor result self.new }

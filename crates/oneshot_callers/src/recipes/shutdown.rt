@@ -43,7 +43,7 @@ fn a_worker_works_until_it_is_told_or_left(rt: HostRuntime) -> Result<(), Fail> 
     let told = work(&mut stopped, u64::MAX, || {
         made = made.wrapping_add(1);
         if made == 3 {
-            // Its receiver is in the worker, which is here.
+            // `work`, which calls this closure, still has the receiver, so the signal is not refused.
             let _ = stop.take().map(|stop| stop.send(()));
         }
     });
