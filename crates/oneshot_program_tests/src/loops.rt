@@ -443,12 +443,15 @@ fn a_request_that_never_comes_is_lost(rt: HostRuntime) -> Result<(), Fail> {
     Ok(())
 }
 
-/// A round whose message is lost once two rounds were made.
+/// A round whose message is lost once two rounds were made. It counts how often it is begun.
 #[derive(Drop)]
-struct LostAtTheThird;
+struct LostAtTheThird<'a> {
+    begun: &'a Cell<u64>,
+}
 
-impl PolledRound for LostAtTheThird {
+impl PolledRound for LostAtTheThird<'_> {
     fn make(&self, _cx: &mut Context<'_>, tally: &mut Tally) -> Result<(), Fault> {
+        self.begun.set(self.begun.get().wrapping_add(1));
         if tally.channels == 2 {
             return Err(Fault::MessageLost);
         }
@@ -460,9 +463,11 @@ impl PolledRound for LostAtTheThird {
 #[test]
 fn rounds_in_a_task_end_at_the_first_fault(rt: HostRuntime) -> Result<(), Fail> {
     let mut tally = Tally::new();
-    let lost = repeat_in_task(&rt, 5, LostAtTheThird, &mut tally);
+    let begun = Cell::new(0);
+    let lost = repeat_in_task(&rt, 5, LostAtTheThird { begun: &begun }, &mut tally);
     assert!(rt; matches!(lost, Err(Fault::MessageLost)));
-    repeat_in_task(&rt, 2, LostAtTheThird, &mut tally)?;
-    assert_eq!(rt; tally, tally_of(2, made(8)));
+    assert_eq!(rt; begun.get(), 3);
+    repeat_in_task(&rt, 2, LostAtTheThird { begun: &begun }, &mut tally)?;
+    assert_eq!(rt; (begun.get(), tally), (5, tally_of(2, made(8))));
     Ok(())
 }

@@ -1,6 +1,6 @@
 //! The function that makes a request whose server is told when its ticket is gone.
 
-ghost use Rattle.std.specs.Prelude.{◌≡◌, IfOk, IfErr, None};
+ghost use Rattle.std.specs.Prelude.{◌≡◌, [], IfOk, IfErr, None};
 ghost use Rattle.oneshot_channel.specs.Ends.{IsOpen};
 
 use crate::pair::watch;
@@ -25,6 +25,7 @@ pub fn cancellable_request<Q: Eq + Send + Drop, A: Answer<Q> + Send + Drop, Rt: 
     ensures request { IfOk result (λ made. made.0.channel.about.question ≡ question) }
     ensures ticket { IfOk result (λ made. made.1.channel.about.question ≡ question) }
     ensures one_channel { IfOk result (λ made. made.0.channel ≡ made.1.channel) }
+    ensures new_ticket { IfOk result (λ made. made.1.log ≡ []) }
     ensures open { IfOk result (λ made. IsOpen made.1.log) }
     ensures none_taken { IfOk result (λ made. made.1.took ≡ None) }
     ensures back { IfErr result (λ back. back ≡ question) }

@@ -8,14 +8,13 @@ use std::test::Fail;
 fn a_worker_that_was_told_makes_no_turn(rt: HostRuntime) -> Result<(), Fail> {
     let (sender, mut stop) = channel((), rt.alloc())?;
     assert!(rt; sender.send(()).is_ok());
-    let report = work_until(&mut stop, 3, || {});
-    assert_eq!(rt;
-        report,
-        Report {
-            turns: 0,
-            ending: Ending::Told,
-        }
-    );
+    let mut made = 0u64;
+    let report = work_until(&mut stop, 3, || made = made.wrapping_add(1));
+    let none = Report {
+        turns: 0,
+        ending: Ending::Told,
+    };
+    assert_eq!(rt; (report, made), (none, 0));
     Ok(())
 }
 
@@ -23,14 +22,13 @@ fn a_worker_that_was_told_makes_no_turn(rt: HostRuntime) -> Result<(), Fail> {
 fn a_worker_that_was_left_makes_no_turn(rt: HostRuntime) -> Result<(), Fail> {
     let (sender, mut stop) = channel::<(), ()>((), rt.alloc())?;
     drop(sender);
-    let report = work_until(&mut stop, 3, || {});
-    assert_eq!(rt;
-        report,
-        Report {
-            turns: 0,
-            ending: Ending::Left,
-        }
-    );
+    let mut made = 0u64;
+    let report = work_until(&mut stop, 3, || made = made.wrapping_add(1));
+    let none = Report {
+        turns: 0,
+        ending: Ending::Left,
+    };
+    assert_eq!(rt; (report, made), (none, 0));
     Ok(())
 }
 

@@ -120,24 +120,28 @@ fn raw_ends_leave_nothing(rt: HostRuntime) -> Result<(), Fail> {
     assert_none_leaks(&rt, RAW)
 }
 
+/// `Err`, unless a call ended as it should.
+fn ended_so(as_it_should: bool) -> Result<(), AllocError> {
+    if as_it_should { Ok(()) } else { Err(AllocError) }
+}
+
 /// Ends five requests: one with its reply, one whose reply comes back, one without a reply, and two whose reply is not
 /// taken, of which one's ticket became a future.
 fn end_requests(alloc: Global) -> Result<(), AllocError> {
     let (request, mut ticket) = ask((), alloc)?;
-    let _ = answer(request)?;
-    let _ = ticket.try_take();
+    ended_so(answer(request)?.is_ok() && ticket.try_take().is_ok())?;
     let (request, ticket) = ask((), alloc)?;
     drop(ticket);
-    let _ = answer(request)?;
+    ended_so(answer(request)?.is_err())?;
     let (request, ticket) = ask((), alloc)?;
     drop(request);
     drop(ticket);
     let (request, ticket) = ask((), alloc)?;
-    let _ = answer(request)?;
+    ended_so(answer(request)?.is_ok())?;
     drop(ticket);
     let (request, ticket) = ask((), alloc)?;
     let reply = ticket.into_future();
-    let _ = answer(request)?;
+    ended_so(answer(request)?.is_ok())?;
     drop(reply);
     Ok(())
 }
@@ -146,16 +150,15 @@ fn end_requests(alloc: Global) -> Result<(), AllocError> {
 /// a future, and whose reply is not taken.
 fn end_cancellable_requests(alloc: Global) -> Result<(), AllocError> {
     let (request, mut ticket) = cancelled::ask((), alloc)?;
-    let _ = cancelled::answer(request)?;
-    let _ = ticket.try_take();
+    ended_so(cancelled::answer(request)?.is_ok() && ticket.try_take().is_ok())?;
     let (request, ticket) = cancelled::ask((), alloc)?;
     let (request, watch) = request.into_parts();
     drop(ticket);
-    let _ = answer(request)?;
+    ended_so(answer(request)?.is_err())?;
     drop(watch);
     let (request, ticket) = cancelled::ask((), alloc)?;
     let reply = ticket.into_future();
-    let _ = cancelled::answer(request)?;
+    ended_so(cancelled::answer(request)?.is_ok())?;
     drop(reply);
     Ok(())
 }

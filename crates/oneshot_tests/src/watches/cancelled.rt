@@ -97,8 +97,10 @@ fn a_ticket_waits_to_the_nanosecond(rt: HostRuntime) -> Result<(), Fail> {
 #[test]
 fn a_reply_is_waited_for(rt: HostRuntime) -> Result<(), Fail> {
     let (request, ticket) = ask(&rt, rt.alloc())?;
-    assert!(rt; answer(request)?.is_ok());
-    assert_eq!(rt; ticket.wait().map(bytes_of), Ok(21));
+    let (request, mut watch) = request.into_parts();
+    assert!(rt; crate::reply::answer(request)?.is_ok());
+    let waited = ticket.wait().map(bytes_of);
+    assert_eq!(rt; (waited, watch.is_gone()), (Ok(21), true));
     Ok(())
 }
 

@@ -1,16 +1,18 @@
 //! A ticket is gone before its server is told: what the ticket drops sees that the guard is still there.
 
 use crate::reply::TEXT;
-use oneshot_channel::reply::Length;
+use oneshot_channel::reply::{Length, Request};
 use oneshot_watch::{CancellableTicket, Watch, cancellable_request};
 use std::alloc::{AllocError, Global};
 use std::cell::Cell;
 use std::process::Abort;
 use std::test::Fail;
 
-/// A server's watch, and whether the server was told before the ticket's runtime was dropped.
+/// A server's request with its watch, and whether the server was told before the ticket's runtime was dropped. The
+/// request stays, so the ticket's drop finds it there.
 #[derive(Drop)]
 struct Server {
+    request: Cell<Option<Request<String, Length>>>,
     watch: Cell<Option<Watch<()>>>,
     was_told: Cell<Option<bool>>,
 }
@@ -18,6 +20,7 @@ struct Server {
 impl Server {
     fn new() -> Server {
         Server {
+            request: Cell::new(None),
             watch: Cell::new(None),
             was_told: Cell::new(None),
         }
@@ -52,17 +55,20 @@ fn ticket_of<'a>(
     let question = String::from_str(alloc, TEXT)?;
     let made = cancellable_request(Witness { server }, (), alloc, question);
     let (request, ticket) = made.map_err(|_| AllocError)?;
-    let (_, watch) = request.into_parts();
+    let (request, watch) = request.into_parts();
+    server.request.set(Some(request));
     server.watch.set(Some(watch));
     Ok(ticket)
 }
 
-/// Stops the test unless the server was told, and only after the ticket was gone.
+/// Stops the test unless the server was told, and only after the ticket was gone. Then its request is cancelled.
 fn assert_told_last(rt: &impl Abort, server: &Server) {
     assert_eq!(rt;
         (server.was_told.get(), server.is_told()),
         (Some(false), Some(true))
     );
+    let request = server.request.take();
+    assert_eq!(rt; request.map(|request| request.is_cancelled()), Some(true));
 }
 
 #[test]
