@@ -89,7 +89,10 @@ fn a_client_awaits_replies_and_reports_to_its_limit(rt: HostRuntime) -> Result<(
     turn(&task, &mut timers, before, 99)?;
     let before_limit = polled(&task, &mut square, &mut report);
     turn(&task, &mut timers, Instant::now(&rt)?, 101)?;
-    let after_limit = (ran_out(task.poll(&mut square)), ran_out(task.poll(&mut report)));
+    let after_limit = (
+        ran_out(task.poll(&mut square)),
+        ran_out(task.poll(&mut report)),
+    );
     let replied = (at_once.0, before_limit.0, after_limit.0);
     let reported = (at_once.1, before_limit.1, after_limit.1);
     assert_eq!(rt; ("reply", replied), ("reply", (false, false, true)));

@@ -122,7 +122,11 @@ fn raw_ends_leave_nothing(rt: HostRuntime) -> Result<(), Fail> {
 
 /// `Err`, unless a call ended as it should.
 fn ended_so(as_it_should: bool) -> Result<(), AllocError> {
-    if as_it_should { Ok(()) } else { Err(AllocError) }
+    if as_it_should {
+        Ok(())
+    } else {
+        Err(AllocError)
+    }
 }
 
 /// Ends five requests: one with its reply, one whose reply comes back, one without a reply, and two whose reply is not
