@@ -62,7 +62,7 @@ fn polled(
     (task.poll(square).is_ready(), task.poll(report).is_ready())
 }
 
-/// Whether a future is ready because its limit is over.
+/// Whether a poll returned that the limit of its future is over.
 fn ran_out<T: Drop>(polled: Poll<Result<T, RecvTimeoutError>>) -> bool {
     matches!(polled, Poll::Ready(Err(RecvTimeoutError::Timeout)))
 }

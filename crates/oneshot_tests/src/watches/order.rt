@@ -61,14 +61,15 @@ fn ticket_of<'a>(
     Ok(ticket)
 }
 
-/// Stops the test unless the server was told, and only after the ticket was gone. Then its request is cancelled.
+/// Stops the test unless the server was told only after the ticket's runtime was dropped, and its request is then
+/// cancelled.
 fn assert_told_last(rt: &impl Abort, server: &Server) {
     assert_eq!(rt;
         (server.was_told.get(), server.is_told()),
         (Some(false), Some(true))
     );
-    let request = server.request.take();
-    assert_eq!(rt; request.map(|request| request.is_cancelled()), Some(true));
+    let left = server.request.take();
+    assert_eq!(rt; left.map(|left| left.is_cancelled()), Some(true));
 }
 
 #[test]
