@@ -1,47 +1,37 @@
 //! Tests of how a worker stops.
 
-use oneshot::channel;
+use oneshot::{Receiver, channel};
 use oneshot_patterns::shutdown::{Ending, Order, Report, watched, work_until};
+use std::process::Abort;
 use std::test::Fail;
+
+/// Fails unless a worker with three turns makes so many of them, and ends so.
+fn assert_works(rt: &impl Abort, stop: &mut Receiver<(), ()>, turns: u64, ending: Ending) {
+    let mut made = 0u64;
+    let report = work_until(stop, 3, || made = made.wrapping_add(1));
+    assert_eq!(rt; (report, made), (Report { turns, ending }, turns));
+}
 
 #[test]
 fn a_worker_that_was_told_makes_no_turn(rt: HostRuntime) -> Result<(), Fail> {
     let (sender, mut stop) = channel((), rt.alloc())?;
     assert!(rt; sender.send(()).is_ok());
-    let mut made = 0u64;
-    let report = work_until(&mut stop, 3, || made = made.wrapping_add(1));
-    let none = Report {
-        turns: 0,
-        ending: Ending::Told,
-    };
-    assert_eq!(rt; (report, made), (none, 0));
+    assert_works(&rt, &mut stop, 0, Ending::Told);
     Ok(())
 }
 
 #[test]
 fn a_worker_that_was_left_makes_no_turn(rt: HostRuntime) -> Result<(), Fail> {
-    let (sender, mut stop) = channel::<(), ()>((), rt.alloc())?;
+    let (sender, mut stop) = channel((), rt.alloc())?;
     drop(sender);
-    let mut made = 0u64;
-    let report = work_until(&mut stop, 3, || made = made.wrapping_add(1));
-    let none = Report {
-        turns: 0,
-        ending: Ending::Left,
-    };
-    assert_eq!(rt; (report, made), (none, 0));
+    assert_works(&rt, &mut stop, 0, Ending::Left);
     Ok(())
 }
 
 #[test]
 fn a_worker_that_nobody_stops_makes_all_its_turns(rt: HostRuntime) -> Result<(), Fail> {
-    let (sender, mut stop) = channel::<(), ()>((), rt.alloc())?;
-    let mut made = 0u64;
-    let report = work_until(&mut stop, 3, || made = made.wrapping_add(1));
-    let all = Report {
-        turns: 3,
-        ending: Ending::Done,
-    };
-    assert_eq!(rt; (report, made), (all, 3));
+    let (sender, mut stop) = channel((), rt.alloc())?;
+    assert_works(&rt, &mut stop, 3, Ending::Done);
     drop(sender);
     Ok(())
 }

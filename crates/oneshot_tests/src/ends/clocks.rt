@@ -65,48 +65,65 @@ pub(crate) fn instant_at(rt: &impl Wait, nanos: u64) -> io::Result<Instant> {
     Instant::now(&Written::new(rt, &[nanos]))
 }
 
-/// A clock's readings for a receive until the instant five, and how many the receive makes.
-pub(crate) const UNTIL_FIVE: [(&[u64], usize); 6] = [
+/// A second, in nanoseconds.
+const SECOND: u64 = 1_000_000_000;
+
+/// An hour, in nanoseconds.
+const HOUR: u64 = 3_600 * SECOND;
+
+/// A month of thirty days, in nanoseconds.
+const MONTH: u64 = 720 * HOUR;
+
+/// A hundred years, in nanoseconds.
+const CENTURY: u64 = 876_600 * HOUR;
+
+/// A deadline in nanoseconds after a clock's start, the clock's readings, and how many a receive until then makes.
+pub(crate) const DEADLINES: [(u64, &[u64], usize); 10] = [
     // The turn and its park read the deadline itself, and the next turn a nanosecond past it.
-    (&[5, 5, 6, 7], 3),
+    (5, &[5, 5, 6, 7], 3),
+    (SECOND, &[SECOND, SECOND, SECOND + 1, 0], 3),
+    (2 * HOUR, &[2 * HOUR, 2 * HOUR, 2 * HOUR + 1, 0], 3),
+    (MONTH, &[MONTH, MONTH, MONTH + 1, 0], 3),
+    (CENTURY, &[CENTURY, CENTURY, CENTURY + 1, 0], 3),
     // A turn reads the clock to see whether the deadline is past, and its park reads until it has come. This
     // clock goes back after each park: without a park, the next turn would find the deadline past.
-    (&[1, 7, 2, 7, 3, 7, 6, 8], 7),
+    (5, &[1, 7, 2, 7, 3, 7, 6, 8], 7),
     // The deadline is past at once.
-    (&[6, 7], 1),
+    (5, &[6, 7], 1),
     // The clock fails at once, in the park and after it, or after the park.
-    (&[], 1),
-    (&[1], 3),
-    (&[5, 5], 3),
+    (5, &[], 1),
+    (5, &[1], 3),
+    (5, &[5, 5], 3),
 ];
 
 #[test]
 fn a_deadline_ends_a_receive_once_the_clock_is_past_it(rt: HostRuntime) -> Result<(), Fail> {
-    for (written, made) in UNTIL_FIVE {
+    for (deadline, written, made) in DEADLINES {
         let clock = Written::new(&rt, written);
         let (_sender, mut receiver) = by_clock(&clock, rt.alloc())?;
-        let received = receiver.recv_deadline(instant_at(&rt, 5)?);
+        let received = receiver.recv_deadline(instant_at(&rt, deadline)?);
         assert_eq!(rt;
-            (written, received, clock.made()),
-            (written, Err(RecvTimeoutError::Timeout), made)
+            (deadline, written, received, clock.made()),
+            (deadline, written, Err(RecvTimeoutError::Timeout), made)
         );
     }
     Ok(())
 }
 
-/// An hour, in nanoseconds.
-const HOUR: u64 = 3_600_000_000_000;
-
-/// A hundred years, in nanoseconds.
-const CENTURY: u64 = 876_600 * HOUR;
-
 /// A timeout in nanoseconds, a clock's readings, and how many a receive with this timeout makes. The first is for the
 /// deadline, and each turn reads the clock anew.
-pub(crate) const TIMEOUTS: [(u64, &[u64], usize); 10] = [
+pub(crate) const TIMEOUTS: [(u64, &[u64], usize); 13] = [
     // The deadline is six. Six is not past it, even after the park; seven is, and eight is not read.
     (5, &[1, 7, 8], 2),
     (5, &[1, 6, 6, 7, 8], 4),
-    // So it is with a timeout of a hundred years.
+    // So it is with a longer timeout.
+    (SECOND, &[1, SECOND + 1, SECOND + 1, SECOND + 2, 0], 4),
+    (
+        2 * HOUR,
+        &[1, 2 * HOUR + 1, 2 * HOUR + 1, 2 * HOUR + 2, 0],
+        4,
+    ),
+    (MONTH, &[1, MONTH + 1, MONTH + 1, MONTH + 2, 0], 4),
     (CENTURY, &[1, CENTURY + 1, CENTURY + 1, CENTURY + 2, 0], 4),
     // A failed reading counts as past it, and is not repeated: at the deadline's own reading, and in a turn.
     (5, &[], 2),
@@ -133,9 +150,6 @@ fn a_timeout_counts_from_one_reading(rt: HostRuntime) -> Result<(), Fail> {
     }
     Ok(())
 }
-
-/// A second, in nanoseconds: a timeout so long that a receive spins.
-const SECOND: u64 = 1_000_000_000;
 
 /// How often a receive spins before it sleeps.
 const SPINS: usize = 17;

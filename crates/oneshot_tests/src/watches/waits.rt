@@ -1,7 +1,7 @@
 //! Waits of a watch: by another thread, and to the nanosecond by a written clock.
 
 use super::MOMENT;
-use crate::ends::clocks::{TIMEOUTS, UNTIL_FIVE, Written, instant_at};
+use crate::ends::clocks::{DEADLINES, TIMEOUTS, Written, instant_at};
 use oneshot_watch::{Watch, watch};
 use std::process::Abort;
 use std::sync::Wait;
@@ -70,11 +70,14 @@ fn a_wait_for_a_guard_that_is_gone_ends_at_once(rt: HostRuntime) -> Result<(), F
 
 #[test]
 fn a_deadline_ends_a_wait_once_the_clock_is_past_it(rt: HostRuntime) -> Result<(), Fail> {
-    for (written, made) in UNTIL_FIVE {
+    for (deadline, written, made) in DEADLINES {
         let clock = Written::new(&rt, written);
         let (_guard, mut watch) = watch(&clock, rt.alloc())?;
-        let gone = watch.wait_deadline(instant_at(&rt, 5)?);
-        assert_eq!(rt; (written, gone, clock.made()), (written, false, made));
+        let gone = watch.wait_deadline(instant_at(&rt, deadline)?);
+        assert_eq!(rt;
+            (deadline, written, gone, clock.made()),
+            (deadline, written, false, made)
+        );
     }
     Ok(())
 }
