@@ -6,7 +6,6 @@
 -- Of the channel read `Ends`, `Runs` and `BetweenCalls` first. Of the model read `TraceView` and `Right` first, and
 -- then the file of `oneshot_laws` that a field of `Right` names.
 -- the definitions that the contracts of the ends name
-pub use Rattle.oneshot_ends.specs.Deadlines
 pub use Rattle.oneshot_ends.specs.Ends
 pub use Rattle.oneshot_ends.specs.Taken
 pub use Rattle.oneshot_ends.specs.NoLostWakeup

@@ -5,7 +5,7 @@ use Rattle.oneshot_bridge.proofs.Names.{filled, Call, Classes, all_alike, as_nam
 use Rattle.oneshot_bridge.proofs.Names.{by_end, Move, ReceiverScript, SenderScript, State, Entry, Place, WakerName, passes_where_found, opening_reached, Turned, turned, turned_reaches, only_if}
 use Rattle.oneshot_bridge.proofs.Names.{Product, product_coding, reads_entry, class_under_way, Classed, all_classed, found_next, opening_found, Scene, last_of, message_home, waker_home, one_has_both}
 use Rattle.oneshot_bridge.proofs.Names.{CellsAreSo, RunsSo}
-use Rattle.oneshot_machine.specs.Phases.{sender_at, first, receiver_at}
+use Rattle.oneshot_machine.specs.Phases.{sender_at, untouched, receiver_at}
 use Rattle.oneshot_world.specs.declared.trace.Entry.TheVariants.{Idle, Made as Made_entry}
 use Rattle.oneshot_world.specs.declared.trace.Place.TheVariants.{InCell}
 use Rattle.oneshot_laws.proofs.ProductRuns.{IsFound}
@@ -47,14 +47,14 @@ pub comes_to : {T : Type 0} (a : SenderScript T) (b : ReceiverScript) {moves : L
     → IsAt now.world (Some (sender_at xs, receiver_at ys))
 comes_to a b {moves} {entries} {now} {xs} {ys} run order =
     let ran = run.run in
-    let at_first : IsAt (opening a b) (Some (fresh, first)) =
+    let at_first : IsAt (opening a b) (Some (fresh, untouched)) =
     (opening_reached a b, opening_found phase_reader all_alike classed explored a.last) in
-    let reads : read_all (Some (fresh, first)) entries ≡ Some (sender_at xs, receiver_at ys) =
-    read_logs entries fresh first
+    let reads : read_all (Some (fresh, untouched)) entries ≡ Some (sender_at xs, receiver_at ys) =
+    read_logs entries fresh untouched
     ∙ (λ i. with_phases (sender_at (run.sender_log i)) (receiver_at (run.receiver_log i))) ∙ phases_are order in
     subst (λ w. IsAt w (Some (sender_at xs, receiver_at ys))) ran.ends
     (subst (IsAt (last_of (opening a b) ran.worlds)) reads
-    (found_last 1 (opening a b) (Some (fresh, first)) ran.worlds moves entries at_first ran.is_run))
+    (found_last 1 (opening a b) (Some (fresh, untouched)) ran.worlds moves entries at_first ran.is_run))
 
 -- what was computed of the state by classes holds of the state
 some_as : (f : WakerName → WakerName) (o : Option WakerName) → is_some (option_map f o) ≡ is_some o

@@ -25,9 +25,9 @@ module _ {T : Type 0} (m : T) where
         (quiet SendWake Done (Answers R.Sent) refl refl refl),
   )
 
-waits : ReceiverWalk receives ((Load, Word EMPTY) ∷ (Swap RECEIVING, Word EMPTY) ∷ [])
+walk_to_wait : ReceiverWalk receives ((Load, Word EMPTY) ∷ (Swap RECEIVING, Word EMPTY) ∷ [])
     (RS.At (Value RecvPark), (opening_receiver receives).1, [])
-waits =
+walk_to_wait =
     by_one (Swap RECEIVING, Word EMPTY)
     (quietly
     (by_one (Load, Word EMPTY) begins
@@ -43,7 +43,7 @@ receiver = (
       (by_one (Load, Word MESSAGE)
       (quietly
       (by_one (Load, Word UNPARKING)
-      (quietly waits (quiet (Value RecvPark) (Token false) (Goes (Value RecvParkLoad)) refl refl refl))
+      (quietly walk_to_wait (quiet (Value RecvPark) (Token false) (Goes (Value RecvParkLoad)) refl refl refl))
       (operates (Value RecvParkLoad) (Load, Word UNPARKING) (Goes (Value RecvPark)) refl refl refl))
       (quiet (Value RecvPark) (Token true) (Goes (Value RecvParkLoad)) refl refl refl))
       (operates (Value RecvParkLoad) (Load, Word MESSAGE) (Goes (Value RecvTake)) refl refl refl))
@@ -51,15 +51,15 @@ receiver = (
       (quiet (Value RecvFreeGot) Done (Answers R.Message) refl refl refl),
 )
 
-stored : Reaches [] ((Load, Word EMPTY) ∷ (Swap RECEIVING, Word EMPTY) ∷ []) RECEIVING
-stored = receiver_makes (Swap RECEIVING) (receiver_makes Load nothing_made (has_row head))
+has_stored : Reaches [] ((Load, Word EMPTY) ∷ (Swap RECEIVING, Word EMPTY) ∷ []) RECEIVING
+has_stored = receiver_makes (Swap RECEIVING) (receiver_makes Load nothing_made (has_row head))
     (has_row (tail (tail (tail head))))
 
 order : Reaches sent received MESSAGE
 order =
     receiver_makes Load
     (sender_makes (Swap MESSAGE)
-    (receiver_makes Load (sender_makes Add stored (has_row (tail head))) (has_row (tail head))) (has_row head))
+    (receiver_makes Load (sender_makes Add has_stored (has_row (tail head))) (has_row (tail head))) (has_row head))
     (has_row (tail (tail head)))
 
 pub worked_run : {T : Type 0} (m : T) → WorkedRun m

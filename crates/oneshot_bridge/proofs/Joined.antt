@@ -2,7 +2,7 @@
 use Rattle.oneshot_bridge.proofs.Names.{◌≡◌, ℕ, ◌+◌, List, [], ◌∷◌, Option, Some, None, refl, sym, ap, ◌∙◌, subst, End, Noted, Reaches, Share, empty, filled, receiver_step, sender_step, sender_puts}
 use Rattle.oneshot_bridge.proofs.Names.{receiver_puts, place_left, reply_of, World, opening, opening_place, side_of, IsRunFrom, Move, ReceiverScript, SenderLast, SenderScript, Entry, Turned}
 use Rattle.oneshot_bridge.proofs.Names.{sender_idle, sender_made, receiver_idle, receiver_made, turned, message_of, rest_at, HasRun, Scene, last_of, AnyWaker, Slot, Empty, Message, Home, bare}
-use Rattle.oneshot_bridge.proofs.Names.{has_message, Lies, lies_out, lies_bare, lies_filled, IsGiven, IsTaken, took_none, took_it, opened, dealt, runs, with_waker, message_of_logs, waker_of_logs}
+use Rattle.oneshot_bridge.proofs.Names.{has_message, Lies, lies_out, lies_bare, lies_filled, IsGiven, IsTaken, took_none, took_it, opened, slot_taken, runs, with_waker, message_of_logs, waker_of_logs}
 use Rattle.oneshot_bridge.proofs.Names.{CellsAreSo, SlotsAreSo, Passed, none_passed, it_passed, maker_before, maker_with_slot_before, is_run, TablesAreOfRuns, RunsSo, SendsOnly, IsOfARun, RunsCalls}
 use mathlib.Core.Option as maybe
 use Rattle.oneshot_world.specs.declared.script.SenderLast.TheVariants as SL
@@ -137,7 +137,7 @@ passed_one it_passed is = cc is
 
 pub tables_are_of_runs : {T P : Type 0} (H K W : Type 0) (keeps : P → T → Type 0) → TablesAreOfRuns H K W keeps
 tables_are_of_runs H K W keeps m q _ _ _ opened = maker_before
-tables_are_of_runs H K W keeps m q _ _ _ dealt = maker_with_slot_before
+tables_are_of_runs H K W keeps m q _ _ _ slot_taken = maker_with_slot_before
 tables_are_of_runs {T} H K W keeps m q _ _ _ (runs {w} {h} xs ys {given} {taken} order message waker same claim) =
     let sent : Passes h given taken = passes keeps q given m message same in
     let run : IsOfARun sent.it xs ys w = states_run T sent.it xs ys w order in

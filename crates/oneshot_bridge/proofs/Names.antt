@@ -36,7 +36,8 @@ pub use Rattle.oneshot_machine.specs.Exact.{none_yet, one_more, Accepts}
 pub use Rattle.oneshot_machine.specs.Logs.{Event, did, words, worded}
 pub use Rattle.oneshot_machine.specs.Noted.{Noted, saw, op_of}
 pub use Rattle.oneshot_machine.specs.Orders.{Reaches, has_row, nothing_made, InOrder, none_made, by_sender, by_receiver}
-pub use Rattle.oneshot_machine.specs.Phases.{ReceiverAt, idle, after_load, after_timeout, blocked, polled, again, full, at_once, waited, swapped, by_future, by_poll, unclosed, disconnected, resolved}
+pub use Rattle.oneshot_machine.specs.Phases.{ReceiverAt, idle, after_load, after_timeout, blocked, polled, again, full, at_once, waited, swapped, by_future}
+pub use Rattle.oneshot_machine.specs.Phases.{by_poll, overwritten, disconnected, resolved}
 pub use Rattle.oneshot_machine.specs.Phases.{receiver_moves, Share, none, empty, filled, Slots, Row, sending, dropping, SenderAt, fresh, owes, finished, found_gone, overtaken}
 pub use Rattle.oneshot_machine.specs.Phases.{no_sender, storing, stopping}
 pub use Rattle.oneshot_machine.specs.Phases.{found_closed, closed_itself, claimed, withdrew, overdue, gone, ended, no_receiver, By, sender_next, receiver_next, phase_from, sender_moves}
@@ -85,7 +86,7 @@ pub use Rattle.oneshot_word.proofs.ByRows.{is_senders, is_receivers, sender_is, 
 pub use Rattle.oneshot_word.proofs.LastOnes.{not_empty, same_start, same_last}
 pub use Rattle.oneshot_word.proofs.OneOrder.{order_is_one}
 pub use Rattle.oneshot_word.specs.OneOrder.{ends_of}
-pub use Rattle.oneshot_word.specs.Rule.{message_home, waker_home, Home, bare, has_message, Lies, lies_out, lies_bare, lies_filled, IsGiven, IsTaken, took_none, took_it, opened, dealt, runs}
+pub use Rattle.oneshot_word.specs.Rule.{message_home, waker_home, Home, bare, has_message, Lies, lies_out, lies_bare, lies_filled, IsGiven, IsTaken, took_none, took_it, opened, slot_taken, runs}
 pub use Rattle.oneshot_word.specs.Seats.{with_waker, view}
 pub use Rattle.oneshot_word.specs.declared.any_waker.AnyWaker.{AnyWaker}
 pub use Rattle.oneshot_word.specs.declared.rule.Slot.{Slot}

@@ -3,9 +3,10 @@
 -- `sender_back` and `receiver_back` prove that each code leads back to its phase, so no two phases share one.
 use Rattle.oneshot_bridge.proofs.Names.{◌≡◌, ℕ, Option, refl, get_or, sending, dropping, SenderAt, fresh, owes, finished, found_gone, overtaken, no_sender, after_load}
 use Rattle.oneshot_bridge.proofs.Names.{after_timeout, blocked, polled, again, storing}
-use Rattle.oneshot_bridge.proofs.Names.{stopping, at_once, waited, swapped, by_future, by_poll, found_closed, closed_itself, ReceiverAt, idle, claimed, withdrew, overdue, full, unclosed, disconnected}
+use Rattle.oneshot_bridge.proofs.Names.{stopping, at_once, waited, swapped, by_future, by_poll, found_closed, closed_itself, ReceiverAt, idle, claimed, withdrew}
+use Rattle.oneshot_bridge.proofs.Names.{overdue, full, overwritten, disconnected}
 use Rattle.oneshot_bridge.proofs.Names.{resolved, gone, ended, no_receiver, Coding, listed, pairs, or_none}
-use Rattle.oneshot_machine.specs.Phases.{first, waits}
+use Rattle.oneshot_machine.specs.Phases.{untouched, waits}
 use Rattle.oneshot_machine.proofs.EachPhase.{senders, receivers}
 
 abbrev sender_code : SenderAt → ℕ
@@ -33,7 +34,7 @@ sender_back (overtaken dropping) = refl
 sender_back no_sender = refl
 
 abbrev receiver_code : ReceiverAt → ℕ
-receiver_code first = 0
+receiver_code untouched = 0
 receiver_code (idle after_load) = 1
 receiver_code (idle after_timeout) = 2
 receiver_code (waits blocked) = 3
@@ -48,8 +49,8 @@ receiver_code (full (swapped storing)) = 11
 receiver_code (full (swapped stopping)) = 12
 receiver_code (full by_future) = 13
 receiver_code (full by_poll) = 14
-receiver_code (unclosed storing) = 15
-receiver_code (unclosed stopping) = 16
+receiver_code (overwritten storing) = 15
+receiver_code (overwritten stopping) = 16
 receiver_code (disconnected found_closed) = 17
 receiver_code (disconnected closed_itself) = 18
 receiver_code (resolved found_closed) = 19
@@ -58,8 +59,8 @@ receiver_code gone = 21
 receiver_code ended = 22
 receiver_code no_receiver = 23
 
-pub receiver_back : (q : ReceiverAt) → get_or receivers (receiver_code q) first ≡ q
-receiver_back first = refl
+pub receiver_back : (q : ReceiverAt) → get_or receivers (receiver_code q) untouched ≡ q
+receiver_back untouched = refl
 receiver_back (idle after_load) = refl
 receiver_back (idle after_timeout) = refl
 receiver_back (waits blocked) = refl
@@ -74,8 +75,8 @@ receiver_back (full (swapped storing)) = refl
 receiver_back (full (swapped stopping)) = refl
 receiver_back (full by_future) = refl
 receiver_back (full by_poll) = refl
-receiver_back (unclosed storing) = refl
-receiver_back (unclosed stopping) = refl
+receiver_back (overwritten storing) = refl
+receiver_back (overwritten stopping) = refl
 receiver_back (disconnected found_closed) = refl
 receiver_back (disconnected closed_itself) = refl
 receiver_back (resolved found_closed) = refl
@@ -91,4 +92,4 @@ Phases = Option (SenderAt × ReceiverAt)
 abbrev pub phases : Coding Phases
 phases =
     or_none (pairs (listed 10 sender_code senders fresh sender_back)
-    (listed 24 receiver_code receivers first receiver_back))
+    (listed 24 receiver_code receivers untouched receiver_back))

@@ -8,7 +8,7 @@ use Rattle.oneshot_bridge.proofs.Names.{sender_next, ReceiverAt, gone, no_receiv
 use Rattle.oneshot_bridge.proofs.Names.{ReceiverState, SenderState, State, Made, is_end_of_sender, only_if, or_stray, Product, Automaton, Explored, no_names, all_products, message_home, waker_home}
 use Rattle.oneshot_bridge.proofs.Names.{one_has_both, operation_of, found_it_gone}
 use Rattle.oneshot_machine.specs.declared.machine.End.TheVariants.{Sender}
-use Rattle.oneshot_machine.specs.Phases.{first}
+use Rattle.oneshot_machine.specs.Phases.{untouched}
 use Rattle.oneshot_world.specs.declared.state.ReceiverState.TheVariants as RS
 use Rattle.oneshot_world.specs.declared.state.SenderState.TheVariants as SS
 use Rattle.oneshot_bridge.proofs.PhaseCodes.{Phases, phases}
@@ -46,7 +46,7 @@ phase_reader =
       accepts = accepts_all;
       reads = reads_made;
       names = no_names;
-      first = λ place. Some (fresh, first);
+      first = λ place. Some (fresh, untouched);
     }
 
 -- WHAT IS COMPUTED: the cells of every state that a run can reach

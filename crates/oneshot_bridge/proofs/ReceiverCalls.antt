@@ -13,7 +13,7 @@ use Rattle.oneshot_world.specs.declared.script.ReceiverCall.TheVariants as Scrip
 use Rattle.oneshot_world.specs.declared.script.ReceiverLast.TheVariants as RL
 use Rattle.oneshot_world.specs.declared.state.ReceiverState.TheVariants as RS
 use Rattle.oneshot_bridge.proofs.CallsWalk.{Walks, RowsFit, fit_walks, HasAnswered, call_walks}
-use Rattle.oneshot_bridge.proofs.ReceiverStands.{After, calls, polls, Rest, calls_in, some_rest}
+use Rattle.oneshot_bridge.proofs.ReceiverStands.{After, calls, polling, Rest, calls_in, some_rest}
 
 -- WHAT IS COMPUTED: the rows of the positions of calls that leave the receiver in place
 abbrev in_place : ReceiverPos → Bool
@@ -62,7 +62,7 @@ ready_is _ e = absurd (cc e)
 -- the calls that may follow
 abbrev after_form : Form → After
 after_form as_receiver = calls
-after_form as_future = polls
+after_form as_future = polling
 
 -- The receiver has made these calls by a walk, whichever calls follow.
 record Walked (after : After) (received : List (ReceiverStart × Reply)) (ys : List Noted) : Type 0 where
@@ -123,7 +123,7 @@ module _ {T W : Type 0} where
       walked RC.AsyncTryRecv (λ rest. (AC.TryRecv ∷ rest.0, rest.1)) (λ rest. refl) refl refl made (walks_of before)
   walks_of (called {form = as_future} _ reply run before its made) = absurd (cc its)
   walks_of (became_future {calls = received} {log = ys} before) =
-      subst (Walked polls (received ++ (RC.IntoFuture, R.Future) ∷ [])) (append-nil ys)
+      subst (Walked polling (received ++ (RC.IntoFuture, R.Future) ∷ [])) (append-nil ys)
       (walked RC.IntoFuture (λ rest. ([], RL.IntoFuture (record { calls = rest.0; last = rest.1 }))) (λ rest. refl) refl
       refl (last (did {T = T} {W = W} Plain) refl refl) (walks_of before))
 

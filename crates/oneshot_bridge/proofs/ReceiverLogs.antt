@@ -8,7 +8,7 @@ use Rattle.std.specs.Prelude.{if◌then◌else◌, IsSome}
 use Rattle.oneshot_machine.specs.declared.machine.Step.TheVariants.{Word}
 use Rattle.oneshot_machine.specs.Orders.{sender_makes, receiver_makes}
 use Rattle.oneshot_machine.specs.Phases.{receiver_at}
-use Rattle.oneshot_machine.specs.Standing.{as_future, in_order}
+use Rattle.oneshot_machine.specs.Standing.{future_at, in_order}
 use Rattle.oneshot_world.specs.declared.script.ReceiverLast.TheVariants as RL
 use Rattle.oneshot_bridge.proofs.Among.{in_each, in_such, row_among}
 use Rattle.oneshot_bridge.proofs.ReceiverScripted.{Came, keeps, leads_well, nothing_onward, comes_onward, steps_on}
@@ -20,7 +20,7 @@ use Rattle.oneshot_bridge.proofs.Standpoints.{pos_of, is_met, Comes, receiver_be
 -- first call.
 abbrev kind_of : Standpoint → ReceiverPos → Standpoint
 kind_of (plainly p) = plainly
-kind_of (as_future p) = as_future
+kind_of (future_at p) = future_at
 
 abbrev row_leads : Standpoint → Outcome Standpoint → Bool
 row_leads s o = keeps s o && leads_well 6 s o
@@ -50,12 +50,12 @@ row_of s seen o = by s (row_for seen (receiver_rows (pos_of s))) refl
     by : (s : Standpoint) (row : Option (Outcome ReceiverPos)) → row_for seen (receiver_rows (pos_of s)) ≡ row
         → standpoint_row s seen ≡ Some o → RowOf s o
     by (plainly p) None is rows = absurd (cc (rw is at rows))
-    by (as_future p) None is rows = absurd (cc (rw is at rows))
+    by (future_at p) None is rows = absurd (cc (rw is at rows))
     by (plainly p) (Some row) is rows =
         let same : Some (outcome_at plainly row) ≡ Some o = rw is at rows in
         record { seen = seen; row = row; among = row_among seen (receiver_rows p) is; leads = cc same }
-    by (as_future p) (Some row) is rows =
-        let same : Some (outcome_at as_future row) ≡ Some o = rw is at rows in
+    by (future_at p) (Some row) is rows =
+        let same : Some (outcome_at future_at row) ≡ Some o = rw is at rows in
         record { seen = seen; row = row; among = row_among seen (receiver_rows p) is; leads = cc same }
 
 or_so : (b c : Bool) → (not b || c) ≡ true → b ≡ true → c ≡ true
@@ -96,7 +96,7 @@ op_is op _ e = absurd (cc e)
 
 step_is : (s : Standpoint) (op : Op) → standpoint_step s ≡ Word op → receiver_step (pos_of s) ≡ Word op
 step_is (plainly p) op e = e
-step_is (as_future p) op e = e
+step_is (future_at p) op e = e
 
 -- a standpoint of the table that a walk meets
 record Stood (ys : List Noted) (s : Standpoint) : Type 0 where
@@ -201,7 +201,7 @@ some_row s seen = by s (receiver_row (pos_of s) seen) refl
         → IsSome (standpoint_row s seen) → SomeRow s seen
     by s (Some row) is some = record { row = row; rows = is }
     by (plainly p) None is some = absurd (cc (rw is at some))
-    by (as_future p) None is some = absurd (cc (rw is at some))
+    by (future_at p) None is some = absurd (cc (rw is at some))
 
 walk_of : {xs ys : List Noted} {word : ℕ} → Reaches xs ys word
     → (r : ReceiverScript) × (at : ReceiverStand) × ReceiverWalk r ys at

@@ -3,21 +3,21 @@ use Rattle.oneshot_bridge.proofs.Names.{◌≡◌, ℕ, Bool, true, false, ◌&&
 use Rattle.oneshot_bridge.proofs.Names.{Noted, op_of, receiver_step, receiver_row, In, Standpoint, plainly, standpoint_row, standpoint_step, standpoint_follows, outcome_at, receiver_table, sights}
 use Rattle.oneshot_bridge.proofs.Names.{onward, Outcome, Goes, Answers, each_passes, may_see}
 use Rattle.std.specs.Prelude.{is_some, if◌then◌else◌}
-use Rattle.oneshot_machine.specs.Standing.{as_future}
+use Rattle.oneshot_machine.specs.Standing.{future_at}
 use Rattle.oneshot_bridge.proofs.Among.{only, AmongEach, in_each}
-use Rattle.oneshot_bridge.proofs.ReceiverStands.{After, calls, polls, nothing, Stands, IsReady, Steps, rests, goes, answers}
+use Rattle.oneshot_bridge.proofs.ReceiverStands.{After, calls, polling, nothing, Stands, IsReady, Steps, rests, goes, answers}
 use Rattle.oneshot_bridge.proofs.Standpoints.{pos_of, after_of, is_met, Comes, stays_on, stays_ready, follows}
 
 -- a step within a call does not change which calls may follow
 abbrev is_same_after : After → After → Bool
 is_same_after calls calls = true
-is_same_after polls polls = true
+is_same_after polling polling = true
 is_same_after nothing nothing = true
 is_same_after _ _ = false
 
 after_is : (a b : After) → is_same_after a b ≡ true → a ≡ b
 after_is calls calls e = refl
-after_is polls polls e = refl
+after_is polling polling e = refl
 after_is nothing nothing e = refl
 after_is _ _ e = absurd (cc e)
 
@@ -57,8 +57,8 @@ module _ {ys zs : List Noted} {seen : Seen} where
       → standpoint_row s seen ≡ Some o → keeps s o ≡ true → Came zs s o
   steps_on (plainly p) o comes steps =
       steps_by plainly (λ p. refl) (plainly p) (receiver_row p seen) o comes steps refl
-  steps_on (as_future p) o comes steps =
-      steps_by as_future (λ p. refl) (as_future p) (receiver_row p seen) o comes steps refl
+  steps_on (future_at p) o comes steps =
+      steps_by future_at (λ p. refl) (future_at p) (receiver_row p seen) o comes steps refl
 
 -- The test of each row: the steps that are no operations lead on as walks do, until the next operation.
 abbrev sees_well : (Standpoint → Outcome Standpoint → Bool) → Standpoint → Seen → Option (Outcome Standpoint) → Bool

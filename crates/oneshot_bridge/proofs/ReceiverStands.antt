@@ -12,17 +12,17 @@ use Rattle.oneshot_world.specs.declared.state.ReceiverState.TheVariants as RS
 -- which calls may follow the one under way: those of a receiver, those of a future, or none
 pub data After : Type 0 where
   calls : After
-  polls : After
+  polling : After
   nothing : After
 
 abbrev pub Rest : After → Type 0
 Rest calls = List ReceiverCall × ReceiverLast
-Rest polls = List AsyncCall × AsyncLast
+Rest polling = List AsyncCall × AsyncLast
 Rest nothing = Unit {0}
 
 abbrev pub calls_in : (after : After) → Rest after → List Call
 calls_in calls rest = receiver_calls rest.0 rest.1
-calls_in polls rest = async_calls rest.0 rest.1
+calls_in polling rest = async_calls rest.0 rest.1
 calls_in nothing rest = []
 
 -- a walk with this log is at this position, whichever calls follow
@@ -82,7 +82,7 @@ module _ {ys zs : List Noted} {p : ReceiverPos} {seen : Seen} {after : After} wh
 
 abbrev pub some_rest : (after : After) → Rest after
 some_rest calls = ([], RL.Stop)
-some_rest polls = ([], AL.Stop)
+some_rest polling = ([], AL.Stop)
 some_rest nothing = tt
 
 -- if no calls follow
@@ -131,15 +131,15 @@ module _ {ys : List Noted} (ready : IsReady ys calls) where
   drop_begins =
       call_begins ready (Of_receiver RC.Drop) (receiver_start RC.Drop) refl (λ rest. ([], RL.Drop)) (λ rest. refl)
 
-  pub future_begins : Stands ys (receiver_start RC.IntoFuture) polls
+  pub future_begins : Stands ys (receiver_start RC.IntoFuture) polling
   future_begins =
       call_begins ready (Of_receiver RC.IntoFuture) (receiver_start RC.IntoFuture) refl
       (λ rest. ([], RL.IntoFuture (record { calls = rest.0; last = rest.1 }))) (λ rest. refl)
 
 -- the same for a future
-module _ {ys : List Noted} (ready : IsReady ys polls) where
+module _ {ys : List Noted} (ready : IsReady ys polling) where
   pub poll_begins : (call : AsyncCall) (p : ReceiverPos)
-      → receiver_position RS.Ready (as_receiver_call (async_call call)) ≡ Some p → Stands ys p polls
+      → receiver_position RS.Ready (as_receiver_call (async_call call)) ≡ Some p → Stands ys p polling
   poll_begins call p at =
       call_begins ready (async_call call) p at (λ rest. (call ∷ rest.0, rest.1)) (λ rest. refl)
 

@@ -92,8 +92,8 @@ module _ {T : Type 0} (m : T) where
   sends_it : SendsOnly m (sends m)
   sends_it other is = sym (same_value is)
 
-  abbrev calls : RunsCalls m tried_call sent_log tried_log 2
-  calls =
+  abbrev both_calls : RunsCalls m tried_call sent_log tried_log 2
+  both_calls =
       record {
         sender = sends m;
         sends = sends_it;
@@ -126,8 +126,8 @@ module _ {T : Type 0} (m : T) where
           run = runs;
           right = run_to.right;
         };
-        calls = calls;
-        both = record { calls = calls; rests = refl; none_left = refl; answered = refl };
+        calls = both_calls;
+        both = record { calls = both_calls; rests = refl; none_left = refl; answered = refl };
         have_an_order = λ a b xs ys word s r came. came.order;
         no_ends = maker_before;
       }

@@ -15,9 +15,9 @@ record OrderedBy (xs ys : List Noted) (word : ℕ) (ends : List End) : Type 0 wh
   same : ends_of order ≡ ends
 
 -- a step that is no operation
-rests : {xs ys : List Noted} {word : ℕ} {ends : List End} → OrderedBy xs ys word ends
+stays_ordered : {xs ys : List Noted} {word : ℕ} {ends : List End} → OrderedBy xs ys word ends
     → OrderedBy (xs ++ []) (ys ++ []) word (ends ++ [])
-rests {xs} {ys} {word} {ends} so =
+stays_ordered {xs} {ys} {word} {ends} so =
     subst (λ xs. OrderedBy xs (ys ++ []) word (ends ++ [])) (sym (append-nil xs))
     (subst (λ ys. OrderedBy xs ys word (ends ++ [])) (sym (append-nil ys))
     (record { order = so.order; same = so.same ∙ sym (append-nil ends) }))
@@ -53,15 +53,15 @@ step_orders : (end : End) (answer : Bool) (s : State) (step : Step) {xs ys : Lis
     (word_left s.word step) (ends ++ cons_option (option_map (λ op. end) (op_of step)) [])
 step_orders Sender answer s (Word op) so = sender_operates op (seen_by answer s (Word op)) (op_sees answer s op) so
 step_orders Receiver answer s (Word op) so = receiver_operates op (seen_by answer s (Word op)) (op_sees answer s op) so
-step_orders Sender answer s _ so = rests so
-step_orders Receiver answer s _ so = rests so
+step_orders Sender answer s _ so = stays_ordered so
+step_orders Receiver answer s _ so = stays_ordered so
 
 turn_orders : {n : ℕ} {end : End} {w next : World} {entry : Entry} {xs ys : List Noted} {ends : List End}
     → Turned n w end entry next → OrderedBy xs ys w.state.word ends
     → OrderedBy (xs ++ cons_option (noted_of Sender entry) []) (ys ++ cons_option (noted_of Receiver entry) [])
     next.state.word (ends ++ cons_option (operator_of entry) [])
-turn_orders (sender_idle at) so = rests so
-turn_orders (receiver_idle at) so = rests so
+turn_orders (sender_idle at) so = stays_ordered so
+turn_orders (receiver_idle at) so = stays_ordered so
 turn_orders {w} (sender_made p row at steps) so = step_orders Sender false w.state (sender_step p) so
 turn_orders {w} (receiver_made answer p row at steps) so = step_orders Receiver answer w.state (receiver_step p) so
 

@@ -7,15 +7,15 @@ use Rattle.oneshot_bridge.proofs.Names.{receiver_step, In, head, tail, Standpoin
 use Rattle.oneshot_machine.specs.declared.machine.Reply.TheVariants as R
 use Rattle.oneshot_machine.specs.declared.machine.future.FuturePos.TheVariants.{IntoFuture}
 use Rattle.oneshot_machine.specs.declared.machine.receiver.ReceiverPos.TheVariants.{Drop}
-use Rattle.oneshot_machine.specs.Standing.{as_future}
+use Rattle.oneshot_machine.specs.Standing.{future_at}
 use Rattle.oneshot_world.specs.declared.script.AsyncCall.TheVariants as AC
 use Rattle.oneshot_world.specs.declared.script.ReceiverCall.TheVariants as Script
 use Rattle.oneshot_world.specs.declared.state.ReceiverState.TheVariants as RS
-use Rattle.oneshot_bridge.proofs.ReceiverStands.{After, calls, polls, nothing, Stands, IsReady, receive_begins, recv_begins, drop_begins, future_begins, poll_begins, async_drop_begins}
+use Rattle.oneshot_bridge.proofs.ReceiverStands.{After, calls, polling, nothing, Stands, IsReady, receive_begins, recv_begins, drop_begins, future_begins, poll_begins, async_drop_begins}
 
 abbrev pub pos_of : Standpoint → ReceiverPos
 pos_of (plainly p) = p
-pos_of (as_future p) = p
+pos_of (future_at p) = p
 
 -- the calls that may follow at a standpoint, and the standpoints that walks meet
 abbrev pub after_of : Standpoint → After
@@ -23,19 +23,19 @@ after_of (plainly (Look at)) = calls
 after_of (plainly (Try at)) = calls
 after_of (plainly (Ref at)) = calls
 after_of (plainly (Timed at)) = calls
-after_of (plainly (Future at)) = polls
-after_of (as_future (Look at)) = polls
-after_of (as_future (Try at)) = polls
-after_of (as_future (Future at)) = polls
+after_of (plainly (Future at)) = polling
+after_of (future_at (Look at)) = polling
+after_of (future_at (Try at)) = polling
+after_of (future_at (Future at)) = polling
 after_of _ = nothing
 
 abbrev pub is_met : Standpoint → Bool
 is_met (plainly (Future IntoFuture)) = true
 is_met (plainly (Future at)) = false
 is_met (plainly (AsyncDrop at)) = false
-is_met (as_future (Ref at)) = false
-is_met (as_future (Timed at)) = false
-is_met (as_future (Value at)) = false
+is_met (future_at (Ref at)) = false
+is_met (future_at (Timed at)) = false
+is_met (future_at (Value at)) = false
 is_met _ = true
 
 -- a walk with this log is at this standpoint
@@ -61,7 +61,7 @@ module _ {ys : List Noted} where
       record { met = refl; stands = drop_begins ready }
   receiver_begins ready (tail (tail (tail (tail (tail (tail (tail (tail there)))))))) = elim there [ ]
 
-  pub polls_begin : {s : Standpoint} → IsReady ys polls → In s (map as_future future_opens) → Comes ys s
+  pub polls_begin : {s : Standpoint} → IsReady ys polling → In s (map future_at future_opens) → Comes ys s
   polls_begin ready head = record { met = refl; stands = poll_begins ready (AC.Poll 0) _ refl }
   polls_begin ready (tail head) = record { met = refl; stands = poll_begins ready AC.TryRecv _ refl }
   polls_begin ready (tail (tail head)) = record { met = refl; stands = async_drop_begins ready }
@@ -73,8 +73,8 @@ is_ready RS.Ready = true
 is_ready _ = false
 
 abbrev pub stays_on : Standpoint → Reply → Bool
-stays_on (as_future (AsyncDrop at)) reply = false
-stays_on (as_future (Drop at)) reply = false
+stays_on (future_at (AsyncDrop at)) reply = false
+stays_on (future_at (Drop at)) reply = false
 stays_on s reply = is_ready (receiver_goes (receiver_step (pos_of s)) (Answers reply))
 
 is_ready_so : (s : ReceiverState) → is_ready s ≡ true → s ≡ RS.Ready
@@ -83,11 +83,11 @@ is_ready_so _ e = absurd (cc e)
 
 pub stays_ready : (s : Standpoint) (reply : Reply) → stays_on s reply ≡ true
     → receiver_goes (receiver_step (pos_of s)) (Answers reply) ≡ RS.Ready
-stays_ready (as_future (AsyncDrop at)) reply e = absurd (cc e)
-stays_ready (as_future (Drop at)) reply e = absurd (cc e)
-stays_ready (as_future (Look at)) reply e = is_ready_so _ e
-stays_ready (as_future (Try at)) reply e = is_ready_so _ e
-stays_ready (as_future _) reply e = is_ready_so _ e
+stays_ready (future_at (AsyncDrop at)) reply e = absurd (cc e)
+stays_ready (future_at (Drop at)) reply e = absurd (cc e)
+stays_ready (future_at (Look at)) reply e = is_ready_so _ e
+stays_ready (future_at (Try at)) reply e = is_ready_so _ e
+stays_ready (future_at _) reply e = is_ready_so _ e
 stays_ready (plainly p) reply e = is_ready_so _ e
 
 -- the next call after a reply
@@ -111,17 +111,17 @@ module _ {ys : List Noted} where
   follows (plainly (Value at)) reply met stays ready there = elim there [ ]
   follows (plainly (AsyncDrop at)) reply met stays ready there = elim there [ ]
   follows (plainly (Drop at)) reply met stays ready there = elim there [ ]
-  follows (as_future (Look at)) R.Done met stays ready there = elim there [ ]
-  follows (as_future (Look at)) _ met stays ready there = polls_begin ready there
-  follows (as_future (Try at)) R.Done met stays ready there = elim there [ ]
-  follows (as_future (Try at)) _ met stays ready there = polls_begin ready there
-  follows (as_future (Future at)) R.Done met stays ready there = elim there [ ]
-  follows (as_future (Future at)) _ met stays ready there = polls_begin ready there
-  follows (as_future (AsyncDrop at)) reply met stays ready there = absurd (cc stays)
-  follows (as_future (Drop at)) reply met stays ready there = absurd (cc stays)
-  follows (as_future (Ref at)) reply met stays ready there = absurd (cc met)
-  follows (as_future (Timed at)) reply met stays ready there = absurd (cc met)
-  follows (as_future (Value at)) reply met stays ready there = absurd (cc met)
+  follows (future_at (Look at)) R.Done met stays ready there = elim there [ ]
+  follows (future_at (Look at)) _ met stays ready there = polls_begin ready there
+  follows (future_at (Try at)) R.Done met stays ready there = elim there [ ]
+  follows (future_at (Try at)) _ met stays ready there = polls_begin ready there
+  follows (future_at (Future at)) R.Done met stays ready there = elim there [ ]
+  follows (future_at (Future at)) _ met stays ready there = polls_begin ready there
+  follows (future_at (AsyncDrop at)) reply met stays ready there = absurd (cc stays)
+  follows (future_at (Drop at)) reply met stays ready there = absurd (cc stays)
+  follows (future_at (Ref at)) reply met stays ready there = absurd (cc met)
+  follows (future_at (Timed at)) reply met stays ready there = absurd (cc met)
+  follows (future_at (Value at)) reply met stays ready there = absurd (cc met)
 
 -- each standpoint is in the table's list under its number
 abbrev nowhere : Standpoint
@@ -150,28 +150,28 @@ back (plainly (AsyncDrop AsyncLoad)) = refl
 back (plainly (AsyncDrop _)) = refl
 back (plainly (Drop DropSwap)) = refl
 back (plainly (Drop _)) = refl
-back (as_future (Look LookFull)) = refl
-back (as_future (Look _)) = refl
-back (as_future (Try TryLoad)) = refl
-back (as_future (Try _)) = refl
-back (as_future (Ref (StartLoad false))) = refl
-back (as_future (Ref (StartLoad true))) = refl
-back (as_future (Ref (StartWrite false))) = refl
-back (as_future (Ref (StartWrite true))) = refl
-back (as_future (Ref (StartSwap false))) = refl
-back (as_future (Ref (StartSwap true))) = refl
-back (as_future (Ref _)) = refl
-back (as_future (Timed (SumClock false))) = refl
-back (as_future (Timed (SumClock true))) = refl
-back (as_future (Timed _)) = refl
-back (as_future (Value RecvLoad)) = refl
-back (as_future (Value _)) = refl
-back (as_future (Future IntoFuture)) = refl
-back (as_future (Future _)) = refl
-back (as_future (AsyncDrop AsyncLoad)) = refl
-back (as_future (AsyncDrop _)) = refl
-back (as_future (Drop DropSwap)) = refl
-back (as_future (Drop _)) = refl
+back (future_at (Look LookFull)) = refl
+back (future_at (Look _)) = refl
+back (future_at (Try TryLoad)) = refl
+back (future_at (Try _)) = refl
+back (future_at (Ref (StartLoad false))) = refl
+back (future_at (Ref (StartLoad true))) = refl
+back (future_at (Ref (StartWrite false))) = refl
+back (future_at (Ref (StartWrite true))) = refl
+back (future_at (Ref (StartSwap false))) = refl
+back (future_at (Ref (StartSwap true))) = refl
+back (future_at (Ref _)) = refl
+back (future_at (Timed (SumClock false))) = refl
+back (future_at (Timed (SumClock true))) = refl
+back (future_at (Timed _)) = refl
+back (future_at (Value RecvLoad)) = refl
+back (future_at (Value _)) = refl
+back (future_at (Future IntoFuture)) = refl
+back (future_at (Future _)) = refl
+back (future_at (AsyncDrop AsyncLoad)) = refl
+back (future_at (AsyncDrop _)) = refl
+back (future_at (Drop DropSwap)) = refl
+back (future_at (Drop _)) = refl
 
 pub standpoint_is : (r s : Standpoint) → (standpoint_number r == standpoint_number s) ≡ true → r ≡ s
 standpoint_is = same_by standpoint_number receiver_table.positions nowhere back

@@ -190,8 +190,8 @@ ended_is _ e = absurd (cc e)
 module _ {T : Type 0} {a : SenderScript T} {b : ReceiverScript} {xs ys : List Noted} {word : ℕ} {s : SenderStand}
     {r : ReceiverStand} (come : HaveCome Reaches a b xs ys word s r)
     (found : found_it_gone (sender_at xs) ≡ true) where
-  is_over : (receiver_at ys ≡ gone) × (r.0 ≡ RS.Ended)
-  is_over =
+  left_over : (receiver_at ys ≡ gone) × (r.0 ≡ RS.Ended)
+  left_over =
       let run : RunsTo a b xs ys word s r =
       orders_run T a b xs ys word s r (order_is come.order) come.sender come.receiver in
       let w = run.now.world in
@@ -203,7 +203,7 @@ module _ {T : Type 0} {a : SenderScript T} {b : ReceiverScript} {xs ys : List No
       )
 
 pub was_dropped : (T : Type 0) → WasDropped T
-was_dropped T a b xs ys word s r come found = (is_over come found).0
+was_dropped T a b xs ys word s r come found = (left_over come found).0
 
 pub nobody_is_left : (T : Type 0) → NobodyIsLeft T
-nobody_is_left T a b xs ys word s r come found = (is_over come found).1
+nobody_is_left T a b xs ys word s r come found = (left_over come found).1

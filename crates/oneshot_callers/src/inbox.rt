@@ -31,7 +31,7 @@ impl<T: Send + Drop> Inbox<T> {
 
 impl<T: Drop> Inbox<T> {
     /// Returns the message if it is there. After the inbox is done, none comes.
-    fn look(&mut self) -> Option<T>
+    fn try_once(&mut self) -> Option<T>
         ensures { self.old.done ≡ true → IsNone result }
     {
         match self.receiver.try_recv() {
@@ -51,10 +51,10 @@ impl<T: Drop> Inbox<T> {
 #[test]
 fn an_inbox_gives_its_message_once(rt: HostRuntime) -> Result<(), Fail> {
     let (sender, mut inbox) = Inbox::new(rt.alloc())?;
-    let early = (inbox.look(), inbox.done);
+    let early = (inbox.try_once(), inbox.done);
     let sent = sender.send(19u64).is_ok();
-    let late = (inbox.look(), inbox.done);
-    let again = inbox.look();
+    let late = (inbox.try_once(), inbox.done);
+    let again = inbox.try_once();
     assert_eq!(rt;
         (early, sent, late, again),
         ((None, false), true, (Some(19), true), None)

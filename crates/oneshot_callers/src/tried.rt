@@ -19,7 +19,7 @@ use std::thread::join;
 fn try_once<T: Drop, Rt: Drop>(receiver: &mut AsyncReceiver<T, Rt>) -> Option<Result<T, RecvError>>
     ensures open { result ≡ None → IsOpen receiver.new.log }
     ensures done { result ≢ None → IsClosed receiver.new.log }
-    ensures registered { result ≡ None
+    ensures stays_registered { result ≡ None
         → is_registered (receiver_at receiver.new.log) ≡ is_registered (receiver_at receiver.old.log) }
 {
     match receiver.try_recv() {

@@ -2,11 +2,10 @@
 -- Each line re-exports a file of a crate beneath, so that a program and its proofs list this crate alone.
 -- `Ends` and `Runs` hold the idea. `Ends` is what a contract sees of a sender, a receiver or a future: its channel and
 -- its log. `Runs` defines a run, one path through the table of a call, whose operations the call appends to the log.
--- Read `Ends` first, then `Taken` (which message a receiver took), `Deadlines`, and `BetweenCalls` and `Polls` (how a
--- call leaves its end).
+-- Read `Ends` first, then `Taken` (which message a receiver took), and `BetweenCalls` and `Polls` (how a call leaves
+-- its end).
 -- `Noted`, `Logs`, `Called`, `Counts` and `Phases` define logs, and what a log shows.
 -- `Tokens`, `Woken`, `OwnWakers` and `NoLostWakeup` define what becomes of wakers.
-pub use Rattle.oneshot_ends.specs.Deadlines
 pub use Rattle.oneshot_ends.specs.Ends
 pub use Rattle.oneshot_ends.specs.Taken
 pub use Rattle.oneshot_ends.specs.NoLostWakeup

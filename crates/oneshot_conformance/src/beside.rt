@@ -27,7 +27,7 @@ pub(crate) struct Beside {
 struct Second {
     follower: Follower,
     /// Whether the thread with the sender of the first channel has the receiver of this one.
-    is_turned: bool,
+    is_swapped: bool,
 }
 
 impl Beside {
@@ -37,7 +37,7 @@ impl Beside {
         } else {
             Some(Second {
                 follower: Follower::new(scripts.begin(alloc)?),
-                is_turned: scripts.channels() != Channels::SentReceiver,
+                is_swapped: scripts.channels() != Channels::SentReceiver,
             })
         };
         Ok(Beside {
@@ -71,7 +71,7 @@ impl Beside {
             }
             (Some(text), Some(second)) => {
                 let event = event_of(text).ok_or(Differs::UnknownWord)?;
-                let told = if second.is_turned {
+                let told = if second.is_swapped {
                     event.by_other_thread()
                 } else {
                     event

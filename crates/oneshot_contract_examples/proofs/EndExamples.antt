@@ -29,14 +29,15 @@ use Rattle.oneshot_machine.specs.TableRows.{Goes, Answers}
 use Rattle.oneshot_machine.proofs.FirstSteps.{tries_once, tries_in_vain, sends_with}
 use Rattle.oneshot_word.proofs.Between.{between}
 use Rattle.oneshot_word.proofs.RuleImplies.{Is, word_between}
-use Rattle.oneshot_ends.specs.Ends.{UnnamedWaker, SenderGrew, ReceiverGrew, TimeoutRan}
+use Rattle.oneshot_ends.specs.Deadlines.{TimeoutRan}
+use Rattle.oneshot_ends.specs.Ends.{UnnamedWaker, SenderGrew, ReceiverGrew}
 use Rattle.oneshot_contract_examples.specs.EndExamples.{ran_out, EndsThatAre, EndsThatAreNot, CallsThatGrow, CallsThatDoNotGrow, CopiesThatAre}
 use Rattle.oneshot_contract_examples.specs.EndExamples.{CopiesThatAreNot, RealGroundsThatAre}
 use Rattle.oneshot_ends.specs.OwnWakers.{is_waiting}
 use Rattle.oneshot_contract_examples.specs.EndExamples.{RealGroundsThatAreNot, OrderedLogs, UnorderedLogs}
 use Rattle.oneshot_ends.proofs.CallsAnswered.{one_more, was_refused}
 use Rattle.oneshot_ends.proofs.TimeoutEnds.{with_an_end}
-use Rattle.oneshot_contract_examples.proofs.Endless.{never_runs_out}
+use Rattle.oneshot_drive.proofs.Endless.{never_runs_out}
 use Rattle.oneshot_contract_examples.proofs.ComputedRuns.{computed}
 
 module _ {T : Type 0} where
@@ -54,7 +55,7 @@ module _ (channel : TableId) where
   ends_that_are =
       record {
         new_is_open = refl;
-        looked_is_open = refl;
+        loaded_is_open = refl;
         ran_out_is_open = refl;
         received_is_closed = refl;
         found_closed_is_closed = refl;
@@ -159,7 +160,7 @@ module _ {T : Type 0} where
         forgets_its_add = λ grew. let e = grew.list in cc;
         finds_the_message_in_3 = λ grew. tries_in_vain grew.is_run grew.list;
         forgets_its_load = λ grew. let e = grew.list in cc;
-        looks_at_nothing = λ grew. tries_once grew.is_run (sym grew.list);
+        loads_nothing = λ grew. tries_once grew.is_run (sym grew.list);
         runs_out_of_no_end = λ timeout now log sum ran. never_ends ran.has_end (λ ends. sum (ran.held.0 ends)) ran.grew;
       }
 
@@ -167,7 +168,7 @@ pub ordered_logs : OrderedLogs
 ordered_logs =
     record {
       sent = ([], 4, sender_makes Add nothing_made (has_row head));
-      looked = ([], 3, receiver_makes Load nothing_made (has_row head));
+      loaded = ([], 3, receiver_makes Load nothing_made (has_row head));
     }
 
 no_order : (p : SenderAt) {word : ℕ} → Is (word_between p no_receiver) word → ⊥

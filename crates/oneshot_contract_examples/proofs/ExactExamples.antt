@@ -9,7 +9,7 @@ use Rattle.oneshot_machine.specs.declared.states.TheConstants.{RECEIVING, UNPARK
 use Rattle.oneshot_machine.specs.Exact.{IsFound, none_yet, one_more, IsAllowed}
 use Rattle.oneshot_contract_examples.specs.ExactExamples.{TablesAllow, TablesRefuse}
 use Rattle.oneshot_machine.specs.Noted.{Noted, saw, is_same_op}
-use Rattle.oneshot_machine.specs.Phases.{Row, sending, fresh, owes, first, sender_at, sender_moves, receiver_at, receiver_moves}
+use Rattle.oneshot_machine.specs.Phases.{Row, sending, fresh, owes, untouched, sender_at, sender_moves, receiver_at, receiver_moves}
 use Rattle.oneshot_machine.specs.Slots.{Held, away, vacant, held, is_away, is_held, stays_away, stays_held, gives_room, gives_thing, gets_room, gets_thing, head, tail, May, may, Finds, finds}
 use Rattle.oneshot_machine.specs.TableRows.{is_same_seen}
 use Rattle.oneshot_machine.proofs.Sameness.{each_passes}
@@ -52,7 +52,7 @@ tables_allow =
       adds = one_more 3 none_yet (finds {m = held 7} {w = away} head (gives_thing 7) stays_away);
       sends_at_last = one_more 1 (one_more 0 none_yet (finds (tail head) (stays_held 7) (gets_thing 1)))
           (finds {m = held 7} {w = vacant} head (gives_thing 7) gives_room);
-      looks = one_more 3 none_yet (finds {m = away} {w = away} head stays_away gets_room);
+      loads = one_more 3 none_yet (finds {m = away} {w = away} head stays_away gets_room);
       may_add = (held 7, away, may head (is_held 7) is_away);
       may_store = (away, held 1, may (tail (tail (tail head))) is_away (is_held 1));
       adds_over_0 = λ _. refl;
@@ -70,7 +70,7 @@ tables_refuse =
       finds_1_first = λ found. no_log receiver_moves receiver_at (Load, Word UNPARKING) refl refl found refl;
       may_swap_first = not_allowed sender_moves fresh (Swap MESSAGE) refl refl;
       may_add_again = not_allowed sender_moves (owes sending) Add refl refl;
-      may_store_first = not_allowed receiver_moves first (Swap RECEIVING) refl refl;
+      may_store_first = not_allowed receiver_moves untouched (Swap RECEIVING) refl refl;
       accepts_1 = λ so. let e = so refl in cc e;
       begins_nothing = λ exact.
           never (exact.no_more none_yet (may {m = held 7} {w = away} head (is_held 7) is_away));

@@ -26,14 +26,14 @@ logs_of_future =
       tries_over_its_copy = refl;
       is_dropped_over_a_sender_that_finishes = refl;
       is_dropped_when_it_has_finished = refl;
-      stores_without_a_look = refl;
-      takes_back_without_a_look = refl;
+      stores_without_a_load = refl;
+      takes_back_without_a_load = refl;
       blocks = refl;
       stops_by_a_swap = refl;
       is_dropped_over_its_copy = refl;
       is_dropped_twice = refl;
       is_dropped_in_its_poll = refl;
-      is_dropped_without_a_look = refl;
+      is_dropped_without_a_load = refl;
     }
 
 pub future_runs : FutureRuns

@@ -1,5 +1,5 @@
 -- Proofs of the examples of grounds and of the wakers that a call passes on.
-use Rattle.oneshot_drive.proofs.Names.{◌≡◌, ℕ, true, List, [], None, refl, sym, subst, Event, Grows, receiver_of, ReceiverAt, blocked, first, idle, after_load}
+use Rattle.oneshot_drive.proofs.Names.{◌≡◌, ℕ, true, List, [], None, refl, sym, subst, Event, Grows, receiver_of, ReceiverAt, blocked, untouched, idle, after_load}
 use Rattle.oneshot_drive.proofs.Names.{disconnected, found_closed, waits, polled, is_away, is_vacant, IsSlot, rests_new, rests_open, rests_closed}
 use Rattle.oneshot_contract_examples.proofs.RowExamples.{slots_that_are, slots_that_are_not}
 use Rattle.oneshot_drive.proofs.Names.{parks_waiting, parks_overdue, GroundState, StandsIn, receiver_slots, WritesCopies}
@@ -13,11 +13,11 @@ grounds_that_are =
       refused = record { keeps = refl; no_waker = refl };
       new_receiver =
           record {
-            at = first;
+            at = untouched;
             is_one = rests_new;
             stands = record { phase = refl; message = is_away; waker = is_away };
           };
-      has_looked =
+      has_loaded =
           record {
             at = idle after_load;
             is_one = rests_open after_load;
@@ -37,7 +37,7 @@ grounds_that_are =
           };
       asks_to_add = slots_that_are.sends;
       adds = slots_that_are.gives_its_message;
-      asks_to_look = slots_that_are.looks;
+      asks_to_load = slots_that_are.loads;
       finds_it = slots_that_are.gets_a_message;
       parks_until = parks_waiting true blocked;
       parks_on = parks_overdue;
@@ -79,7 +79,7 @@ wakers_that_are =
       its_own_copy = record { steps = _; grows = begun _; own = (tt, (tt, (refl, (tt, tt)))) };
       a_later_copy = record { steps = _; grows = begun _; own = (tt, (tt, (refl, tt))) };
       no_copy = record { steps = _; grows = begun _; own = (tt, (tt, tt)) };
-      looks_alone = record { steps = _; grows = begun _; none = refl };
+      loads_alone = record { steps = _; grows = begun _; none = refl };
     }
 
 all_its_own : (xs : List (Event ℕ ℕ)) → WritesItsCopy (log_of []) (log_of xs) → WritesCopies None xs

@@ -4,7 +4,6 @@
 -- counterexample does not.
 -- Each other file proves the examples of the file of `specs/` with its name. `NoRunExamples` has those of `RunExamples`
 -- that are no runs, and `GroundExamples` those of `DriverExamples` on grounds and wakers.
--- `Endless` proves that no run of a receive without an end replies `Timeout`.
 -- The folders follow the functions of `src/`, each of which states the examples of one crate.
 pub mod RunExamples
 pub mod NoRunExamples
@@ -27,5 +26,4 @@ pub mod OwnExamples
 pub mod TakenExamples
 pub mod TokenExamples
 pub mod ReceivedExamples
-pub mod Endless
 pub mod ComputedRuns

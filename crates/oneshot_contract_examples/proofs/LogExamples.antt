@@ -95,6 +95,6 @@ logs_that_do_not =
       gives_none = λ ran. let is : 7 ∷ [] ≡ [] = its_given ran in cc is;
       gets_another = λ ran. let is : 7 ∷ [] ≡ 8 ∷ [] = its_got ran in cc is;
       gets_none = λ ran. let is : 7 ∷ [] ≡ [] = its_got ran in cc is;
-      looks_thrice = λ grew. let few = all_added grew in omega arith;
+      loads_thrice = λ grew. let few = all_added grew in omega arith;
       forgets_its_operations = λ grew. let list = grew.list in cc list;
     }

@@ -1,6 +1,6 @@
 -- Proofs of the examples of ends that are over.
 use Rattle.std.proofs.Common.{inl, inr}
-use Rattle.oneshot_machine.specs.Over.{is_late, is_overtaken, over_finished, over_late, over_overtaken, found_message, found_unclosed, found_no_sender, left_first, left_last}
+use Rattle.oneshot_machine.specs.Over.{is_late, is_overtaken, over_finished, over_late, over_overtaken, found_message, found_overwritten, found_no_sender, left_first, left_last}
 use Rattle.oneshot_contract_examples.specs.OverExamples.{EndsThatAreOver, EndsThatAreNotOver}
 
 pub ends_that_are_over : EndsThatAreOver
@@ -12,7 +12,7 @@ ends_that_are_over =
       late_is_over = λ _. over_late;
       overtaken_is_over = λ _. over_overtaken;
       full_found_it = found_message;
-      unclosed_found_it = found_unclosed;
+      overwritten_found_it = found_overwritten;
       disconnected_found_it = found_no_sender;
       gone_has_left = left_first;
       ended_has_left = left_last;
@@ -53,7 +53,7 @@ ends_that_are_not_over =
       withdrew_has_left = λ h. elim h [ ];
       overdue_has_left = λ h. elim h [ ];
       full_has_left = λ _ h. elim h [ ];
-      unclosed_has_left = λ _ h. elim h [ ];
+      overwritten_has_left = λ _ h. elim h [ ];
       disconnected_has_left = λ _ h. elim h [ ];
       resolved_has_left = λ _ h. elim h [ ];
       no_receiver_has_left = λ h. elim h [ ];

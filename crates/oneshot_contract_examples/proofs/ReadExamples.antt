@@ -14,7 +14,7 @@ use Rattle.oneshot_machine.proofs.InOrders.{order_is as reached_in_order}
 use Rattle.oneshot_word.specs.declared.rule.Role.TheVariants.{Sender, Receiver}
 use Rattle.oneshot_word.specs.EndLogs.{sent as sent_alone}
 use Rattle.oneshot_contract_examples.specs.ReadExamples.{sent}
-use Rattle.oneshot_word.specs.ReadRule.{Owned, both_open, sent as sent_row, sender_has_it, left_for_receiver, receiver_has_it, receiver_found_it, waits_for_receiver, Ruled, maker_alone}
+use Rattle.oneshot_word.specs.ReadRule.{Owned, both_open, sender_sent, sender_has_it, left_for_receiver, receiver_has_it, receiver_found_it, waits_for_receiver, Ruled, maker_alone}
 use Rattle.oneshot_word.specs.ReadRule.{maker_with_slot_alone}
 use Rattle.oneshot_word.specs.ReadRule.{two_ends}
 use Rattle.oneshot_contract_examples.specs.SeatExamples.{keeps}
@@ -28,12 +28,12 @@ pub reads_that_are : ReadsThatAre
 reads_that_are =
     record {
       new = maker_alone;
-      dealt = maker_with_slot_alone;
+      slot_taken = maker_with_slot_alone;
       both_new = two_ends [] [] (both_open refl refl refl sender_has_it left_for_receiver);
-      was_sent = two_ends sent [] (sent_row sent_alone refl (waits_for_receiver 7) left_for_receiver);
-      was_received = two_ends sent found (sent_row sent_alone refl receiver_found_it receiver_has_it);
+      was_sent = two_ends sent [] (sender_sent sent_alone refl (waits_for_receiver 7) left_for_receiver);
+      was_received = two_ends sent found (sender_sent sent_alone refl receiver_found_it receiver_has_it);
       ordered_as_new = maker_before;
-      ordered_as_dealt = maker_with_slot_before;
+      ordered_with_slot = maker_with_slot_before;
       ordered = in_order sent found (receiver_makes Load sends (has_row (tail head)));
       is_read = λ reads. reads 7 _ _ _ ((messages_that_pass ℕ ℕ keeps).lies_there 7 7 refl);
       is_ordered = λ orders. orders 7 _ _ _ ((messages_that_pass ℕ ℕ keeps).lies_there 7 7 refl);
@@ -104,9 +104,9 @@ not_new : IsNew Maker both_out → ⊥
 not_new (inl is) = let homes : both_out ≡ both_in = is.1 in cc homes
 not_new (inr is) = let role : Maker ≡ MakerWithSlot = is.0 in cc role
 
-not_dealt : IsNew MakerWithSlot both_out → ⊥
-not_dealt (inl is) = let role : MakerWithSlot ≡ Maker = is.0 in cc role
-not_dealt (inr is) = let homes : both_out ≡ one_out = is.1 in cc homes
+not_new_with_slot : IsNew MakerWithSlot both_out → ⊥
+not_new_with_slot (inl is) = let role : MakerWithSlot ≡ Maker = is.0 in cc role
+not_new_with_slot (inr is) = let homes : both_out ≡ one_out = is.1 in cc homes
 
 not_a_sender : IsNew Sender one_out → ⊥
 not_a_sender (inl is) = let role : Sender ≡ Maker = is.0 in cc role
@@ -121,7 +121,7 @@ reads_that_are_not =
     record {
       new_word = λ ruled. let is : DISCONNECTED ∷ [] ≡ EMPTY ∷ [] = first_word ruled refl in cc is;
       new_slots = λ ruled. not_new (first_slots ruled refl);
-      dealt_slots = λ ruled. not_dealt (first_slots ruled refl);
+      two_slots_taken = λ ruled. not_new_with_slot (first_slots ruled refl);
       no_ends = λ ruled. elim ruled [ ];
       one_end = λ ruled. not_a_sender (first_slots ruled refl);
       waits_at_3 = λ ruled. states_that_are_not.waits_at_3 (has_owners ruled refl refl refl);

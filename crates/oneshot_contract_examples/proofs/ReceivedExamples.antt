@@ -29,15 +29,15 @@ module _ {T P : Type 0} (H K : Type 0) (keeps : P → T → Type 0) where
         lies_and_none_gave = λ m tied. let is = lies_given tied refl refl in cc is;
       }
 
-  looks : Reaches [] ((Load, Word EMPTY) ∷ []) EMPTY
-  looks = receiver_makes Load nothing_made (has_row head)
+  loads : Reaches [] ((Load, Word EMPTY) ∷ []) EMPTY
+  loads = receiver_makes Load nothing_made (has_row head)
 
   begins_to_wait : Reaches [] waits RECEIVING
-  begins_to_wait = receiver_makes (Swap RECEIVING) looks (has_row (tail (tail (tail head))))
+  begins_to_wait = receiver_makes (Swap RECEIVING) loads (has_row (tail (tail (tail head))))
 
   polls_and_waits : Reaches [] polled RECEIVING
   polls_and_waits =
-      receiver_makes (Exchange EMPTY RECEIVING) looks (has_row (tail (tail (tail (tail (tail (tail head)))))))
+      receiver_makes (Exchange EMPTY RECEIVING) loads (has_row (tail (tail (tail (tail (tail (tail head)))))))
 
   pub wakers_that_pass : WakersThatPass H K keeps
   wakers_that_pass =

@@ -24,14 +24,14 @@ logs_of_sender =
       ends_its_send_as_a_drop = refl;
       finds_its_waker_again = refl;
       swaps = refl;
-      does_not_look = refl;
+      does_not_see = refl;
     }
 
 pub logs_of_receiver : LogsOfReceiver
 logs_of_receiver =
     record {
       nothing_yet = refl;
-      looked_in_vain = refl;
+      loaded_in_vain = refl;
       found_it = refl;
       received = refl;
       tried_again = refl;
@@ -57,11 +57,11 @@ logs_of_receiver =
       closes_unasked = refl;
       opens_again = refl;
       goes_on_after_its_drop = refl;
-      waits_without_a_look = refl;
+      waits_without_a_load = refl;
       drops_while_it_waits = refl;
       waits_on_a_word_that_it_left = refl;
       leaves_its_late_word = refl;
-      waits_without_a_second_look = refl;
+      waits_without_a_second_load = refl;
       stops_before_it_waits = refl;
       adds = refl;
     }

@@ -32,8 +32,8 @@ slots_as_seen =
     }
 
 -- orders with these logs
-looks : Reaches [] ((Load, Word EMPTY) ∷ []) EMPTY
-looks = receiver_makes Load nothing_made (has_row head)
+loads : Reaches [] ((Load, Word EMPTY) ∷ []) EMPTY
+loads = receiver_makes Load nothing_made (has_row head)
 
 sends : Reaches ((Add, Word EMPTY) ∷ []) [] MESSAGE
 sends = sender_makes Add nothing_made (has_row head)
@@ -43,7 +43,7 @@ receives = receiver_makes Load sends (has_row (tail head))
 
 finds : Reaches claims ((Load, Word EMPTY) ∷ (Swap RECEIVING, Word EMPTY) ∷ []) UNPARKING
 finds =
-    sender_makes Add (receiver_makes (Swap RECEIVING) looks (has_row (tail (tail (tail head))))) (has_row (tail head))
+    sender_makes Add (receiver_makes (Swap RECEIVING) loads (has_row (tail (tail (tail head))))) (has_row (tail head))
 
 pub seats_that_are : SeatsThatAre
 seats_that_are =
@@ -89,7 +89,7 @@ seats_that_are =
         has = seat_of not_carried (carried (slot_held (R.Task 2) tt));
         passed = holds_no_slot;
         handed = tt;
-        ordered = (_, _, looks);
+        ordered = (_, _, loads);
       };
       has_received = record {
         role = refl;

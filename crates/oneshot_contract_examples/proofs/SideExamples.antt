@@ -7,7 +7,7 @@ use Rattle.oneshot_contract_examples.specs.SeatExamples.{sent_at_once}
 use Rattle.oneshot_contract_examples.specs.SideExamples.{SidesThatAre}
 use Rattle.oneshot_word.proofs.Names.{RECEIVING, EMPTY}
 use Rattle.oneshot_contract_examples.specs.SideExamples.{SidesThatAreNot}
-use Rattle.oneshot_contract_examples.specs.ExampleLogs.{claims, looked}
+use Rattle.oneshot_contract_examples.specs.ExampleLogs.{claims, loaded}
 
 -- a slot holds one thing
 same_waker : {j k : ℕ} → ◌≡◌ {A = Held ℕ} (held j) (held k) → Some j ≡ Some k
@@ -34,7 +34,7 @@ sides_that_are =
       may_send = slots_that_are.sends;
       may_drop = slots_that_are.drops;
       may_swap = slots_that_are.sends_at_last;
-      may_load = slots_that_are.looks;
+      may_load = slots_that_are.loads;
       may_wait = slots_that_are.stores;
       sends = record {
         about = refl;
@@ -112,7 +112,7 @@ sides_that_are_not =
       sender_has_the_waker = λ ends. let is : no_content ≡ no_slot = ends.sender_slots.1 in cc is;
       sender_has_given = λ ends. let is : Some 7 ≡ None = ends.sender_passed in cc is;
       sender_has_woken = λ ends. let is : Some 1 ≡ None = ends.sender_handed in cc is;
-      receiver_has_operated = λ ends. let is : looked ≡ [] = ends.receiver_log in cc is;
+      receiver_has_operated = λ ends. let is : loaded ≡ [] = ends.receiver_log in cc is;
       receiver_has_the_message = λ ends. let is : no_content ≡ no_slot = ends.receiver_slots.0 in cc is;
       receiver_has_the_waker = λ ends. let is : no_content ≡ no_slot = ends.receiver_slots.1 in cc is;
       receiver_has_given = λ ends. let is : Some 1 ≡ None = ends.receiver_handed in cc is;

@@ -10,7 +10,7 @@ use Rattle.oneshot_word.proofs.Names.{waker_at_home}
 use Rattle.oneshot_word.proofs.Names.{EMPTY, RECEIVING, UNPARKING, DISCONNECTED, MESSAGE}
 use Rattle.oneshot_word.specs.declared.any_waker.AnyWaker.TheVariants as R
 use Rattle.oneshot_word.specs.EndLogs.{send_found, sent as sent_alone, sent_to_it, sent_to_overdue, dropped_before_overdue, sent_overtaken, dropped_overtaken}
-use Rattle.oneshot_word.specs.ReadRule.{sent, dropped}
+use Rattle.oneshot_word.specs.ReadRule.{sender_sent, sender_dropped}
 use Rattle.oneshot_contract_examples.specs.ExampleLogs.{claims, polled, sent_over, waits}
 
 module _ {T H K : Type 0} where
@@ -21,16 +21,16 @@ module _ {T H K : Type 0} where
         waiting = λ k. waker_stored refl refl refl sender_has_it (waker_at_home k);
         claimed = waker_claimed sending send_found refl refl sender_has_it sender_has_it;
         claimed_too_late = claimed_overdue sending send_found refl refl sender_has_it sender_has_it;
-        sent_to_it = λ x. sent sent_to_it refl (waits_for_receiver x) left_for_receiver;
-        sent_too_late = λ x. sent sent_to_overdue refl (waits_for_receiver x) left_for_receiver;
-        dropped_too_late = dropped dropped_before_overdue refl left_for_receiver left_for_receiver;
+        sent_to_it = λ x. sender_sent sent_to_it refl (waits_for_receiver x) left_for_receiver;
+        sent_too_late = λ x. sender_sent sent_to_overdue refl (waits_for_receiver x) left_for_receiver;
+        dropped_too_late = sender_dropped dropped_before_overdue refl left_for_receiver left_for_receiver;
         stopped_over_the_message = written sending sent_to_it refl receiver_has_it receiver_has_it;
         gone_first = receiver_gone refl refl sender_has_it left_for_sender;
         polls = λ k. waker_stored refl refl refl sender_has_it (waker_at_home k);
         took_back = both_open refl refl refl sender_has_it receiver_has_it;
         claimed_in_a_poll = waker_claimed sending send_found refl refl sender_has_it sender_has_it;
-        sent_to_a_future = λ x. sent sent_to_it refl (waits_for_receiver x) left_for_receiver;
-        polled_too_late = sent sent_alone refl receiver_found_it receiver_has_it;
+        sent_to_a_future = λ x. sender_sent sent_to_it refl (waits_for_receiver x) left_for_receiver;
+        polled_too_late = sender_sent sent_alone refl receiver_found_it receiver_has_it;
         gone_meanwhile = claimed_gone sending send_found refl sender_has_it sender_has_it;
         sent_after_it = sender_after sending sent_overtaken refl sender_has_it sender_has_it;
         dropped_after_it = sender_after dropping dropped_overtaken refl sender_has_it sender_has_it;
@@ -95,7 +95,7 @@ module _ {T H K : Type 0} where
 
   message_lies_with_nobody : {k : Home T H K} → Owned (sent_over UNPARKING) waits MESSAGE bare k → ⊥
   message_lies_with_nobody (sender_after by made is m w) = elim made [ ]
-  message_lies_with_nobody (sent made is m w) = elim m [ ]
+  message_lies_with_nobody (sender_sent made is m w) = elim m [ ]
   message_lies_with_nobody (written by made is m w) = cc
 
   waker_is_gone : {h : Home T H K} → Owned [] waits RECEIVING h bare → ⊥
@@ -147,7 +147,7 @@ module _ {T H K : Type 0} where
   dropped_with_its_waker k (claimed_gone by found is m w) = waker_not_senders k w
   dropped_with_its_waker k (receiver_gone none is m w) = cc
   dropped_with_its_waker k (sender_after by made is m w) = elim made [ ]
-  dropped_with_its_waker k (dropped made is m w) = elim made [ ]
+  dropped_with_its_waker k (sender_dropped made is m w) = elim made [ ]
   dropped_with_its_waker k (written by made is m w) = elim made [ ]
 
   late_send_leaves_3 : {h k : Home T H K} → Owned (sent_over DISCONNECTED) left_meanwhile EMPTY h k → ⊥

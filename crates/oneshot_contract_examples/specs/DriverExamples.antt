@@ -10,7 +10,7 @@ use Rattle.oneshot_machine.specs.declared.states.Op.TheVariants.{Load, Swap, Exc
 use Rattle.oneshot_machine.specs.declared.states.TheConstants.{RECEIVING, DISCONNECTED, EMPTY, MESSAGE}
 use Rattle.oneshot_machine.specs.Logs.{Event, Log, did, handed, copied, worded}
 use Rattle.oneshot_machine.specs.Phases.{By, sending, dropping, finished, overtaken, Closing, closed_itself, found_closed, Got, Open, after_load, after_timeout, Swapping, polled, again}
-use Rattle.oneshot_machine.specs.Phases.{blocked, Waiting, first, idle, waits, claimed, withdrew, overdue, full, unclosed, disconnected, resolved, gone, ended}
+use Rattle.oneshot_machine.specs.Phases.{blocked, Waiting, untouched, idle, waits, claimed, withdrew, overdue, full, overwritten, disconnected, resolved, gone, ended}
 use Rattle.oneshot_machine.specs.Slots.{Held, away, vacant, held}
 use Rattle.oneshot_drive.specs.BetweenCalls.{IsFresh, IsError, LastLeaves, Rests, AtRest, IsClosedAt, IsOpenAt, Leaves, IsReady}
 use Rattle.oneshot_drive.specs.BetweenCalls.{send_reply, try_recv_reply, recv_reply, timed_reply, received}
@@ -24,18 +24,18 @@ message = 7
 
 -- OPEN AND CLOSED
 pub record PhasesThatAre : Type 0 where
-  pub new_is_open : IsOpenAt first
-  pub looked_is_open : (o : Open) → IsOpenAt (idle o)
+  pub new_is_open : IsOpenAt untouched
+  pub loaded_is_open : (o : Open) → IsOpenAt (idle o)
   pub registered_is_open : (w : Waiting) → IsOpenAt (waits w)
   pub claimed_is_open : IsOpenAt claimed
   pub disconnected_is_closed : (c : Closing) → IsClosedAt (disconnected c)
   pub resolved_is_closed : (c : Closing) → IsClosedAt (resolved c)
   -- between two calls: of a receiver, and of a future
-  pub new_rests : Rests first
-  pub looked_rests : Rests (idle after_load)
+  pub new_rests : Rests untouched
+  pub loaded_rests : Rests (idle after_load)
   pub ran_out_rests : Rests (idle after_timeout)
   pub received_rests : Rests (disconnected closed_itself)
-  pub new_is_polled : Polled first
+  pub new_is_polled : Polled untouched
   pub registered_is_polled : Polled (waits polled)
   pub kept_is_polled : Polled (waits again)
   pub claimed_is_polled : Polled claimed
@@ -50,8 +50,8 @@ pub record PhasesThatAreNot : Type 0 where
   pub full_is_open : (g : Got) → IsOpenAt (full g) → ⊥
   pub gone_is_open : IsOpenAt gone → ⊥
   pub ended_is_open : IsOpenAt ended → ⊥
-  pub new_is_closed : IsClosedAt first → ⊥
-  pub looked_is_closed : (o : Open) → IsClosedAt (idle o) → ⊥
+  pub new_is_closed : IsClosedAt untouched → ⊥
+  pub loaded_is_closed : (o : Open) → IsClosedAt (idle o) → ⊥
   pub registered_is_closed : (w : Waiting) → IsClosedAt (waits w) → ⊥
   pub claimed_is_closed : IsClosedAt claimed → ⊥
   pub full_is_closed : (g : Got) → IsClosedAt (full g) → ⊥
@@ -59,7 +59,7 @@ pub record PhasesThatAreNot : Type 0 where
   pub waiting_rests : (w : Waiting) → Rests (waits w) → ⊥
   pub overdue_rests : Rests overdue → ⊥
   pub full_rests : (g : Got) → Rests (full g) → ⊥
-  pub unclosed_rests : (s : Swapping) → Rests (unclosed s) → ⊥
+  pub overwritten_rests : (s : Swapping) → Rests (overwritten s) → ⊥
   -- a future between calls is in no call that blocks, and its copy is not taken back
   pub blocked_is_polled : Polled (waits blocked) → ⊥
   pub withdrawn_is_polled : Polled withdrew → ⊥
@@ -82,7 +82,7 @@ pub record CallsThatLeave : Type 0 where
   pub woke_its_task : LeavesTask claimed ⊥ ⊤
   pub stays_registered : StaysRegistered {T = ℕ} (Err E.Empty) (waits polled) (waits again)
   pub finds_its_sender : StaysRegistered {T = ℕ} (Err E.Empty) (waits again) claimed
-  pub stays_unregistered : StaysRegistered {T = ℕ} (Err E.Empty) first (idle after_load)
+  pub stays_unregistered : StaysRegistered {T = ℕ} (Err E.Empty) untouched (idle after_load)
 
 pub record CallsThatDoNot : Type 0 where
   pub takes_and_is_open : (o : Open) → Leaves R.Message (idle o) → ⊥
@@ -93,7 +93,7 @@ pub record CallsThatDoNot : Type 0 where
   pub runs_out_while_it_waits : (w : Waiting) → Leaves R.Timeout (waits w) → ⊥
   pub polls_it_and_waits : (w : Waiting) → LeavesPolled R.Message (waits w) → ⊥
   pub polls_over_nobody_and_waits : (w : Waiting) → LeavesPolled R.Disconnected (waits w) → ⊥
-  pub pends_and_never_loaded : LeavesPolled R.Pending first → ⊥
+  pub pends_and_never_loaded : LeavesPolled R.Pending untouched → ⊥
   pub pends_and_is_closed : (c : Closing) → LeavesPolled R.Pending (resolved c) → ⊥
   pub pends_with_the_message : (g : Got) → LeavesPolled R.Pending (full g) → ⊥
   pub tries_it_and_waits : (w : Waiting) → LeavesTried R.Message (waits w) → ⊥
@@ -151,13 +151,13 @@ pub record GroundsThatAre : Type 0 where
   pub fresh_sender : IsFresh (ground [] vacant away)
   pub refused : IsError (held 7) (ground (worded Add DISCONNECTED ∷ []) (held 7) vacant)
   pub new_receiver : AtRest (ground [] away away)
-  pub has_looked : AtRest (ground (worded Load EMPTY ∷ []) away vacant)
+  pub has_loaded : AtRest (ground (worded Load EMPTY ∷ []) away vacant)
   pub found_closed_word : AtRest (ground (worded Load DISCONNECTED ∷ []) vacant vacant)
   pub has_registered : IsPolled (ground registering away away)
   -- which operations they may perform, and what these find
   pub asks_to_add : SenderAsks Add (ground [] (held 7) away)
   pub adds : SenderMakes Add EMPTY (ground [] (held 7) away) (ground (worded Add EMPTY ∷ []) away away)
-  pub asks_to_look : ReceiverAsks Load (ground [] away away)
+  pub asks_to_load : ReceiverAsks Load (ground [] away away)
   pub finds_it : ReceiverMakes Load MESSAGE (ground [] away away) (ground (worded Load MESSAGE ∷ []) (held 7) vacant)
   pub parks_until : Parks true (waits blocked)
   pub parks_on : Parks false overdue
@@ -185,7 +185,7 @@ pub record WakersThatAre : Type 0 where
   pub a_later_copy : WritesItsCopy (log_of [])
       (log_of (copied (Some 5) ∷ copied (Some 6) ∷ handed WriteWaker 6 ∷ []))
   pub no_copy : WritesItsCopy (log_of []) (log_of (copied None ∷ did WakeOwn ∷ []))
-  pub looks_alone : HandsNoWaker (log_of []) (log_of (worded Load EMPTY ∷ []))
+  pub loads_alone : HandsNoWaker (log_of []) (log_of (worded Load EMPTY ∷ []))
 
 pub record WakersThatAreNot : Type 0 where
   pub another_copy : WritesItsCopy (log_of []) (log_of (copied (Some 5) ∷ handed WriteWaker 6 ∷ [])) → ⊥

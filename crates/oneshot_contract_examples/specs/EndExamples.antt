@@ -19,14 +19,15 @@ use Rattle.oneshot_machine.specs.declared.states.TheConstants.{RECEIVING, DISCON
 use Rattle.oneshot_machine.specs.Called.{as_receiver, as_future}
 use Rattle.oneshot_machine.specs.Logs.{worded}
 use Rattle.oneshot_machine.specs.Noted.{Noted}
-use Rattle.oneshot_machine.specs.Phases.{first, idle, after_load, disconnected, found_closed, gone}
+use Rattle.oneshot_machine.specs.Phases.{untouched, idle, after_load, disconnected, found_closed, gone}
 use Rattle.oneshot_machine.specs.Slots.{away, vacant, held}
 use Rattle.oneshot_word.specs.Side.{Side}
 use Rattle.oneshot_ends.specs.declared.copies.Copies.{Copies}
 use Rattle.oneshot_ends.specs.declared.copies.TaskCopy.{TaskCopy}
 use Rattle.oneshot_ends.specs.Copies.{HasMade, HasNoneOf, PollHas}
 use Rattle.oneshot_ends.specs.OwnWakers.{RealWaker}
-use Rattle.oneshot_ends.specs.Ends.{Channel, ReceiverView, FutureView, channel_at, RefusedView, SenderGrew, ReceiverGrew, TimeoutRan, HasCalls, SenderIsOrdered}
+use Rattle.oneshot_ends.specs.Ends.{Channel, ReceiverView, FutureView, channel_at, RefusedView, SenderGrew, ReceiverGrew, HasCalls, SenderIsOrdered}
+use Rattle.oneshot_ends.specs.Deadlines.{TimeoutRan}
 use Rattle.oneshot_ends.specs.Ends.{ReceiverIsOrdered, WasRefused}
 use Rattle.oneshot_ends.specs.Ends.{IsClosed, IsOpen}
 use Rattle.oneshot_ends.specs.Grounds.{channel_of, slot_of, state_of, lent, left_of, MayBeFreed, IsNewSender, IsNewReceiver}
@@ -56,7 +57,7 @@ module _ (table : TableId) where
 
   pub record EndsThatAre : Type 0 where
     pub new_is_open : IsOpen (end_with []).log
-    pub looked_is_open : IsOpen (end_with ((Load, Word EMPTY) ∷ [])).log
+    pub loaded_is_open : IsOpen (end_with ((Load, Word EMPTY) ∷ [])).log
     pub ran_out_is_open : IsOpen (end_with ran_out).log
     pub received_is_closed : IsClosed (end_with received_and_closed).log
     pub found_closed_is_closed : IsClosed (end_with ((Load, Word DISCONNECTED) ∷ [])).log
@@ -102,7 +103,7 @@ module _ (T : Type 0) where
     pub forgets_its_add : SenderGrew T Send ((Add, Word EMPTY) ∷ []) [] Sent → ⊥
     pub finds_the_message_in_3 : ReceiverGrew T TryRecv [] ((Load, Word EMPTY) ∷ []) Message → ⊥
     pub forgets_its_load : ReceiverGrew T TryRecv ((Load, Word EMPTY) ∷ []) [] Empty → ⊥
-    pub looks_at_nothing : ReceiverGrew T TryRecv [] [] Empty → ⊥
+    pub loads_nothing : ReceiverGrew T TryRecv [] [] Empty → ⊥
     -- no instant can hold the sum
     pub runs_out_of_no_end : (timeout : Duration) (now : Instant) (log : List Noted)
         → (FitsClock (instant_nanos now + as_nanos timeout) → ⊥) → TimeoutRan T timeout (Some now) [] log Timeout → ⊥
@@ -110,7 +111,7 @@ module _ (T : Type 0) where
 -- LOGS THAT HAVE AN ORDER with some log of the other end
 pub record OrderedLogs : Type 0 where
   pub sent : SenderIsOrdered ((Add, Word EMPTY) ∷ [])
-  pub looked : ReceiverIsOrdered ((Load, Word EMPTY) ∷ [])
+  pub loaded : ReceiverIsOrdered ((Load, Word EMPTY) ∷ [])
 
 pub record UnorderedLogs : Type 0 where
   pub sent_over_a_message : SenderIsOrdered ((Add, Word MESSAGE) ∷ []) → ⊥
@@ -171,7 +172,7 @@ module _ (table : TableId) where
     pub shows_a_token : (polled_state (9 ∷ []) (side_with [])).waker ≡ held (record {})
     pub shows_the_message : (polled_state (9 ∷ []) (side_with [])).message ≡ held 7
     pub frees_when_closed : MayBeFreed true (disconnected found_closed)
-    pub frees_nothing : MayBeFreed false first
+    pub frees_nothing : MayBeFreed false untouched
 
   pub record RealGroundsThatAreNot : Type 0 where
     pub frees_while_open : MayBeFreed true (idle after_load) → ⊥

@@ -5,17 +5,17 @@ use Rattle.oneshot_machine.specs.declared.states.Op.TheVariants.{Load, Swap, Exc
 use Rattle.oneshot_machine.specs.declared.states.TheConstants.{RECEIVING, EMPTY, MESSAGE}
 use Rattle.oneshot_machine.specs.Noted.{Noted}
 
--- a receive looked, and nothing was there
-abbrev pub looked : List Noted
-looked = (Load, Word EMPTY) ∷ []
+-- a receive loaded the word, and nothing was there
+abbrev pub loaded : List Noted
+loaded = (Load, Word EMPTY) ∷ []
 
 -- a call that blocks stored its waker
 abbrev pub waits : List Noted
-waits = looked ++ (Swap RECEIVING, Word EMPTY) ∷ []
+waits = loaded ++ (Swap RECEIVING, Word EMPTY) ∷ []
 
 -- a poll stored its waker
 abbrev pub polled : List Noted
-polled = looked ++ (Exchange EMPTY RECEIVING, Word EMPTY) ∷ []
+polled = loaded ++ (Exchange EMPTY RECEIVING, Word EMPTY) ∷ []
 
 -- a `send` found that the receiver waits
 abbrev pub claims : List Noted

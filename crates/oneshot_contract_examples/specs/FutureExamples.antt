@@ -53,8 +53,8 @@ pub record LogsOfFuture : Type 0 where
   pub is_dropped_when_it_has_finished :
       receiver_at (once_polled ++ (Load, Word UNPARKING) ∷ (Swap DISCONNECTED, Word MESSAGE) ∷ []) ≡ ended
   -- and logs that no future has
-  pub stores_without_a_look : receiver_at ((Exchange EMPTY RECEIVING, Word EMPTY) ∷ []) ≡ no_receiver
-  pub takes_back_without_a_look :
+  pub stores_without_a_load : receiver_at ((Exchange EMPTY RECEIVING, Word EMPTY) ∷ []) ≡ no_receiver
+  pub takes_back_without_a_load :
       receiver_at (once_polled ++ (Exchange RECEIVING EMPTY, Word RECEIVING) ∷ []) ≡ no_receiver
   pub blocks : receiver_at (once_polled ++ (Swap RECEIVING, Word RECEIVING) ∷ []) ≡ no_receiver
   pub stops_by_a_swap :
@@ -67,7 +67,7 @@ pub record LogsOfFuture : Type 0 where
   pub is_dropped_in_its_poll :
       receiver_at ((Load, Word EMPTY) ∷ (Exchange EMPTY RECEIVING, Word MESSAGE) ∷ (Swap DISCONNECTED, Word MESSAGE)
       ∷ []) ≡ no_receiver
-  pub is_dropped_without_a_look :
+  pub is_dropped_without_a_load :
       receiver_at ((Load, Word EMPTY) ∷ (Exchange EMPTY RECEIVING, Word DISCONNECTED)
       ∷ (Swap DISCONNECTED, Word DISCONNECTED) ∷ []) ≡ no_receiver
 

@@ -9,7 +9,7 @@ use Rattle.oneshot_machine.specs.declared.states.TheConstants.{RECEIVING, UNPARK
 use Rattle.oneshot_machine.specs.Counts.{sender_bound, receiver_bound, GrewWithin, MakesWithin}
 use Rattle.oneshot_contract_examples.specs.RunExamples.{sending_7, receiving_7, waking}
 use Rattle.oneshot_machine.specs.Logs.{Event, worded, words, Log, Grows, sender_of, receiver_of}
-use Rattle.oneshot_machine.specs.Phases.{sending, fresh, owes, finished, first, disconnected, closed_itself}
+use Rattle.oneshot_machine.specs.Phases.{sending, fresh, owes, finished, untouched, disconnected, closed_itself}
 use Rattle.oneshot_machine.specs.Runs.{SenderRan, ReceiverRan}
 
 -- the log of a ground, whole or not, of one channel
@@ -27,8 +27,8 @@ abbrev pub sending_words : List (Event ℕ ℕ)
 sending_words = worded Add EMPTY ∷ []
 
 -- three loads
-abbrev pub looking : List (Event ℕ ℕ)
-looking = worded Load EMPTY ∷ worded Load EMPTY ∷ worded Load EMPTY ∷ []
+abbrev pub loading : List (Event ℕ ℕ)
+loading = worded Load EMPTY ∷ worded Load EMPTY ∷ worded Load EMPTY ∷ []
 
 pub record LogsThatGrow : Type 0 where
   pub keeps_all : Grows (logged true []) (logged true sending_7) sending_7
@@ -41,20 +41,20 @@ pub record LogsThatGrow : Type 0 where
   pub new_sender : sender_of (logged true []) ≡ fresh
   pub has_sent : sender_of (logged true sending_7) ≡ finished sending
   pub owes_its_swap : sender_of (logged false (worded Add RECEIVING ∷ [])) ≡ owes sending
-  pub new_receiver : receiver_of (logged true []) ≡ first
+  pub new_receiver : receiver_of (logged true []) ≡ untouched
   pub has_received : receiver_of (logged true receiving_7) ≡ disconnected closed_itself
   -- one run, with what it was handed and what it handed out
   pub sends : SenderRan SC.Send (logged true []) (logged true sending_7) Sent (7 ∷ []) []
   pub sends_by_its_operation : SenderRan SC.Send (logged false []) (logged false sending_words) Sent (7 ∷ []) []
   pub receives : ReceiverRan RC.TryRecv (logged true []) (logged true receiving_7) Message [] (7 ∷ [])
-  pub receives_nothing : ReceiverRan RC.TryRecv (logged true looking) (logged true (looking ++ worded Load EMPTY ∷ []))
+  pub receives_nothing : ReceiverRan RC.TryRecv (logged true loading) (logged true (loading ++ worded Load EMPTY ∷ []))
       R.Empty [] []
   -- operations within a bound, or without one
   pub sends_by_two : MakesWithin (sender_bound SC.Send) (logged true []) (logged true waking)
-  pub receives_by_two : MakesWithin (receiver_bound RC.TryRecv) (logged true looking)
-      (logged true (looking ++ receiving_7))
-  pub has_no_bound : MakesWithin (receiver_bound RC.RecvRef) (logged false []) (logged false looking)
-  pub forgets_without_a_bound : GrewWithin None (words looking) []
+  pub receives_by_two : MakesWithin (receiver_bound RC.TryRecv) (logged true loading)
+      (logged true (loading ++ receiving_7))
+  pub has_no_bound : MakesWithin (receiver_bound RC.RecvRef) (logged false []) (logged false loading)
+  pub forgets_without_a_bound : GrewWithin None (words loading) []
 
 pub record LogsThatDoNot : Type 0 where
   -- a log keeps its kind, its channel, what it had and its new steps
@@ -78,5 +78,5 @@ pub record LogsThatDoNot : Type 0 where
   pub gets_another : ReceiverRan RC.TryRecv (logged true []) (logged true receiving_7) Message [] (8 ∷ []) → ⊥
   pub gets_none : ReceiverRan RC.TryRecv (logged true []) (logged true receiving_7) Message [] [] → ⊥
   -- one operation more than the bound, and a log that forgets
-  pub looks_thrice : MakesWithin (receiver_bound RC.TryRecv) (logged true []) (logged true looking) → ⊥
+  pub loads_thrice : MakesWithin (receiver_bound RC.TryRecv) (logged true []) (logged true loading) → ⊥
   pub forgets_its_operations : MakesWithin (sender_bound SC.Send) (logged false waking_words) (logged false []) → ⊥

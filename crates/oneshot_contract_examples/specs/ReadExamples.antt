@@ -13,7 +13,7 @@ use Rattle.oneshot_word.specs.Received.{both_views}
 use Rattle.oneshot_word.specs.Rule.{Home, out, bare, has_message}
 use Rattle.oneshot_contract_examples.specs.SeatExamples.{keeps}
 use Rattle.oneshot_word.specs.Seats.{view}
-use Rattle.oneshot_contract_examples.specs.ExampleLogs.{claims, looked, sent_over, waits}
+use Rattle.oneshot_contract_examples.specs.ExampleLogs.{claims, loaded, sent_over, waits}
 
 abbrev pub Homes : Type 0
 Homes = List (Home ℕ ℕ ℕ)
@@ -46,12 +46,12 @@ found = (Load, Word MESSAGE) ∷ []
 
 pub record ReadsThatAre : Type 0 where
   pub new : Ruled {P = ℕ} 7 (EMPTY ∷ []) both_in (alone Maker)
-  pub dealt : Ruled {P = ℕ} 7 (EMPTY ∷ []) one_out (alone MakerWithSlot)
+  pub slot_taken : Ruled {P = ℕ} 7 (EMPTY ∷ []) one_out (alone MakerWithSlot)
   pub both_new : Ruled {P = ℕ} 7 (EMPTY ∷ []) one_out (views [] None [] None)
   pub was_sent : Ruled {P = ℕ} 7 (MESSAGE ∷ []) message_in (views sent (Some 7) [] None)
   pub was_received : Ruled {P = ℕ} 7 (MESSAGE ∷ []) both_out (views sent (Some 7) found (Some 7))
   pub ordered_as_new : Ordered {H = ℕ} {K = ℕ} {P = ℕ} 7 (EMPTY ∷ []) (alone Maker)
-  pub ordered_as_dealt : Ordered {H = ℕ} {K = ℕ} {P = ℕ} 7 (EMPTY ∷ []) (alone MakerWithSlot)
+  pub ordered_with_slot : Ordered {H = ℕ} {K = ℕ} {P = ℕ} 7 (EMPTY ∷ []) (alone MakerWithSlot)
   pub ordered : Ordered {H = ℕ} {K = ℕ} {P = ℕ} 7 (MESSAGE ∷ []) (views sent (Some 7) found (Some 7))
   -- what both laws state of a message in the table
   pub is_read : RuleReads ℕ ℕ keeps → Ruled {P = ℕ} 7 (MESSAGE ∷ []) message_in (views sent (Some 7) [] None)
@@ -61,7 +61,7 @@ pub record ReadsThatAreNot : Type 0 where
   -- before there are ends
   pub new_word : Ruled {P = ℕ} 7 (DISCONNECTED ∷ []) both_in (alone Maker) → ⊥
   pub new_slots : Ruled {P = ℕ} 7 (EMPTY ∷ []) both_out (alone Maker) → ⊥
-  pub dealt_slots : Ruled {P = ℕ} 7 (EMPTY ∷ []) both_out (alone MakerWithSlot) → ⊥
+  pub two_slots_taken : Ruled {P = ℕ} 7 (EMPTY ∷ []) both_out (alone MakerWithSlot) → ⊥
   pub no_ends : Ruled {P = ℕ} 7 (EMPTY ∷ []) both_in [] → ⊥
   pub one_end : Ruled {P = ℕ} 7 (EMPTY ∷ []) one_out (alone Sender) → ⊥
   -- once there are ends: a state that has no row of owners
@@ -76,5 +76,5 @@ pub record ReadsThatAreNot : Type 0 where
       → Ordered {H = ℕ} {K = ℕ} {P = ℕ} 7 (word ∷ []) (views [] given found taken) → ⊥
   pub leaves_3 : {given taken : Option ℕ} → Ordered {H =
       ℕ} {K = ℕ} {P = ℕ} 7 (EMPTY
-      ∷ []) (views sent given looked taken) →
+      ∷ []) (views sent given loaded taken) →
       ⊥

@@ -2,7 +2,7 @@
 use Rattle.std.specs.Prelude.{ℕ}
 use Rattle.oneshot_machine.specs.declared.states.Op.TheVariants.{Load, Store, Swap, Exchange, Add, Xor}
 use Rattle.oneshot_machine.specs.declared.states.TheConstants.{RECEIVING, DISCONNECTED, EMPTY, MESSAGE}
-use Rattle.oneshot_machine.specs.Phases.{sending, dropping, fresh, owes, finished, found_gone, no_sender, first, idle, after_load, waits, blocked, again, claimed, full, at_once}
+use Rattle.oneshot_machine.specs.Phases.{sending, dropping, fresh, owes, finished, found_gone, no_sender, untouched, idle, after_load, waits, blocked, again, claimed, full, at_once}
 use Rattle.oneshot_machine.specs.Phases.{disconnected, found_closed}
 use Rattle.oneshot_machine.specs.Phases.{gone, no_receiver}
 use Rattle.oneshot_machine.specs.Slots.{Held, away, vacant, held, SenderMay, SenderFinds, SenderOwns, ReceiverMay, ReceiverFinds, ReceiverOwns}
@@ -24,7 +24,7 @@ pub record SlotsThatAre : Type 0 where
   pub sends : SenderMay fresh Add (has 7) no_slot
   pub drops : SenderMay fresh Xor no_content no_slot
   pub sends_at_last : SenderMay (owes sending) (Swap MESSAGE) (has 7) no_content
-  pub looks : ReceiverMay first Load no_slot no_slot
+  pub loads : ReceiverMay untouched Load no_slot no_slot
   pub stores : ReceiverMay (idle after_load) (Swap RECEIVING) no_slot (has 1)
   pub leaves : ReceiverMay claimed (Swap DISCONNECTED) no_slot no_slot
   -- and the slots before and after it
@@ -33,8 +33,8 @@ pub record SlotsThatAre : Type 0 where
   pub keeps_its_message : SenderFinds fresh Add DISCONNECTED (has 7) no_slot (has 7) vacant
   pub gives_its_room : SenderFinds fresh Xor EMPTY no_content no_slot away away
   pub keeps_its_room : SenderFinds (owes dropping) (Swap DISCONNECTED) DISCONNECTED no_content no_content vacant vacant
-  pub gets_a_message : ReceiverFinds first Load MESSAGE away no_slot (has 7) vacant
-  pub gets_its_room : ReceiverFinds first Load DISCONNECTED no_slot no_slot vacant vacant
+  pub gets_a_message : ReceiverFinds untouched Load MESSAGE away no_slot (has 7) vacant
+  pub gets_its_room : ReceiverFinds untouched Load DISCONNECTED no_slot no_slot vacant vacant
   pub stores_its_waker : ReceiverFinds (idle after_load) (Swap RECEIVING) EMPTY no_slot (has 1) away away
   pub takes_it_back : ReceiverFinds (waits blocked) (Swap EMPTY) RECEIVING no_slot away away (has 1)
   -- and the slots that are the end's at a phase, empty or filled
@@ -65,8 +65,8 @@ pub record SlotsThatAreNot : Type 0 where
   pub loses_it : SenderFinds fresh Add DISCONNECTED (has 7) no_slot away vacant → ⊥
   pub gets_no_waker : SenderFinds fresh Add RECEIVING (has 7) no_slot (has 7) vacant → ⊥
   pub sent_nothing : SenderFinds fresh Add EMPTY no_content no_slot away away → ⊥
-  pub gets_no_message : ReceiverFinds first Load MESSAGE no_slot no_slot vacant vacant → ⊥
-  pub gets_one_from_nobody : ReceiverFinds first Load DISCONNECTED away no_slot (has 7) vacant → ⊥
+  pub gets_no_message : ReceiverFinds untouched Load MESSAGE no_slot no_slot vacant vacant → ⊥
+  pub gets_one_from_nobody : ReceiverFinds untouched Load DISCONNECTED away no_slot (has 7) vacant → ⊥
   pub stores_and_keeps : ReceiverFinds (idle after_load) (Swap RECEIVING) EMPTY no_slot (has 1) away (has 1) → ⊥
   pub closes_and_loses : ReceiverFinds (full at_once) (Store DISCONNECTED) MESSAGE (has 7) no_content vacant vacant → ⊥
   pub finds_room_filled : ReceiverFinds (disconnected found_closed) Load DISCONNECTED no_content no_content (has 7)
@@ -75,7 +75,7 @@ pub record SlotsThatAreNot : Type 0 where
   pub lost_its_slot : SenderOwns fresh no_slot no_slot → ⊥
   pub lost_its_waker : SenderOwns (owes sending) (has 7) no_slot → ⊥
   pub kept_its_message : SenderOwns (finished sending) (has 7) no_slot → ⊥
-  pub kept_its_room : ReceiverOwns first no_content no_slot → ⊥
+  pub kept_its_room : ReceiverOwns untouched no_content no_slot → ⊥
   pub kept_its_waker : ReceiverOwns (waits blocked) no_slot (has 1) → ⊥
   pub of_no_sender : SenderOwns no_sender no_slot no_slot → ⊥
   pub of_no_receiver : ReceiverOwns no_receiver no_slot no_slot → ⊥

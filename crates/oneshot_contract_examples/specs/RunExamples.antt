@@ -18,9 +18,10 @@ use Rattle.oneshot_machine.specs.declared.states.Op.TheVariants.{Load, Store, Sw
 use Rattle.oneshot_machine.specs.declared.states.TheConstants.{RECEIVING, UNPARKING, DISCONNECTED, EMPTY, MESSAGE}
 use Rattle.oneshot_machine.specs.Sender.{sender_step, sender_row}
 use Rattle.oneshot_machine.specs.Receiver.{receiver_step, receiver_row}
-use Rattle.oneshot_machine.specs.Phases.{sending, dropping, fresh, owes, finished, found_gone, overtaken, no_sender, sender_at, first, idle, after_load, after_timeout, waits, blocked, overdue, full}
+use Rattle.oneshot_machine.specs.Phases.{sending, dropping, fresh, owes, finished, found_gone, overtaken, no_sender, sender_at, untouched, idle, after_load, after_timeout}
+use Rattle.oneshot_machine.specs.Phases.{waits, blocked, overdue, full}
 use Rattle.oneshot_machine.specs.Phases.{at_once, waited}
-use Rattle.oneshot_machine.specs.Phases.{swapped, storing, stopping, unclosed, disconnected, found_closed, closed_itself, gone, ended, no_receiver, receiver_at}
+use Rattle.oneshot_machine.specs.Phases.{swapped, storing, stopping, overwritten, disconnected, found_closed, closed_itself, gone, ended, no_receiver, receiver_at}
 use Rattle.oneshot_machine.specs.Logs.{Event, did, wrote, took, handed, parked, clocked, worded, words, kept, messages_given, messages_got}
 use Rattle.oneshot_machine.specs.Runs.{Run}
 
@@ -48,12 +49,12 @@ pub record LogsOfSender : Type 0 where
   pub ends_its_send_as_a_drop : sender_at ((Add, Word RECEIVING) ∷ (Swap DISCONNECTED, Word UNPARKING) ∷ []) ≡ no_sender
   pub finds_its_waker_again : sender_at ((Add, Word RECEIVING) ∷ (Swap MESSAGE, Word RECEIVING) ∷ []) ≡ no_sender
   pub swaps : sender_at ((Swap MESSAGE, Word EMPTY) ∷ []) ≡ no_sender
-  pub does_not_look : sender_at ((Add, Done) ∷ []) ≡ no_sender
+  pub does_not_see : sender_at ((Add, Done) ∷ []) ≡ no_sender
 
 -- the phases of a receiver, by its logs
 pub record LogsOfReceiver : Type 0 where
-  pub nothing_yet : receiver_at [] ≡ first
-  pub looked_in_vain : receiver_at ((Load, Word EMPTY) ∷ (Load, Word EMPTY) ∷ []) ≡ idle after_load
+  pub nothing_yet : receiver_at [] ≡ untouched
+  pub loaded_in_vain : receiver_at ((Load, Word EMPTY) ∷ (Load, Word EMPTY) ∷ []) ≡ idle after_load
   pub found_it : receiver_at ((Load, Word EMPTY) ∷ (Load, Word MESSAGE) ∷ []) ≡ full at_once
   pub received : receiver_at ((Load, Word MESSAGE) ∷ (Store DISCONNECTED, Done) ∷ []) ≡ disconnected closed_itself
   pub tried_again :
@@ -70,7 +71,7 @@ pub record LogsOfReceiver : Type 0 where
   pub found_it_by_its_swap :
       receiver_at ((Load, Word EMPTY) ∷ (Swap RECEIVING, Word MESSAGE) ∷ []) ≡ full (swapped storing)
   pub found_nobody_by_its_swap :
-      receiver_at ((Load, Word EMPTY) ∷ (Swap RECEIVING, Word DISCONNECTED) ∷ []) ≡ unclosed storing
+      receiver_at ((Load, Word EMPTY) ∷ (Swap RECEIVING, Word DISCONNECTED) ∷ []) ≡ overwritten storing
   pub ran_out :
       receiver_at ((Load, Word EMPTY) ∷ (Swap RECEIVING, Word EMPTY) ∷ (Swap EMPTY, Word RECEIVING) ∷ [])
       ≡ idle after_timeout
@@ -82,7 +83,7 @@ pub record LogsOfReceiver : Type 0 where
       ≡ full (swapped stopping)
   pub ran_out_over_a_drop :
       receiver_at ((Load, Word EMPTY) ∷ (Swap RECEIVING, Word EMPTY) ∷ (Swap EMPTY, Word DISCONNECTED) ∷ [])
-      ≡ unclosed stopping
+      ≡ overwritten stopping
   pub ran_out_too_late :
       receiver_at ((Load, Word EMPTY) ∷ (Swap RECEIVING, Word EMPTY) ∷ (Swap EMPTY, Word UNPARKING) ∷ []) ≡ overdue
   pub waited_for_the_sender :
@@ -105,7 +106,7 @@ pub record LogsOfReceiver : Type 0 where
   pub opens_again : receiver_at ((Load, Word DISCONNECTED) ∷ (Load, Word EMPTY) ∷ []) ≡ no_receiver
   pub goes_on_after_its_drop :
       receiver_at ((Swap DISCONNECTED, Word EMPTY) ∷ (Load, Word DISCONNECTED) ∷ []) ≡ no_receiver
-  pub waits_without_a_look : receiver_at ((Swap RECEIVING, Word EMPTY) ∷ []) ≡ no_receiver
+  pub waits_without_a_load : receiver_at ((Swap RECEIVING, Word EMPTY) ∷ []) ≡ no_receiver
   pub drops_while_it_waits :
       receiver_at ((Load, Word EMPTY) ∷ (Swap RECEIVING, Word EMPTY) ∷ (Swap DISCONNECTED, Word RECEIVING) ∷ [])
       ≡ no_receiver
@@ -114,7 +115,7 @@ pub record LogsOfReceiver : Type 0 where
   pub leaves_its_late_word :
       receiver_at ((Load, Word EMPTY) ∷ (Swap RECEIVING, Word EMPTY) ∷ (Swap EMPTY, Word UNPARKING)
       ∷ (Swap DISCONNECTED, Word EMPTY) ∷ []) ≡ no_receiver
-  pub waits_without_a_second_look :
+  pub waits_without_a_second_load :
       receiver_at ((Load, Word EMPTY) ∷ (Swap RECEIVING, Word EMPTY) ∷ (Swap EMPTY, Word RECEIVING)
       ∷ (Swap RECEIVING, Word EMPTY) ∷ []) ≡ no_receiver
   pub stops_before_it_waits : receiver_at ((Load, Word EMPTY) ∷ (Swap EMPTY, Word EMPTY) ∷ []) ≡ no_receiver

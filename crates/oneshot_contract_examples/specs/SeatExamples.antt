@@ -18,7 +18,7 @@ use Rattle.oneshot_word.specs.declared.rule.View.{View}
 use Rattle.oneshot_word.specs.Seats.{view, any, with_waker, Carried, message_of, waker_of, message_in, waker_in, MessageSlot, WakerSlot, Part, message_first, waker_first, carried_as, SeatOf}
 use Rattle.oneshot_word.specs.Seats.{IsAt}
 use Rattle.oneshot_word.specs.Seats.{GivesOnce, HoldsTaken, SenderSeat, ReceiverSeat, gave, took}
-use Rattle.oneshot_contract_examples.specs.ExampleLogs.{claims, looked}
+use Rattle.oneshot_contract_examples.specs.ExampleLogs.{claims, loaded}
 
 abbrev pub keeps : ℕ → ℕ → Type 0
 keeps q m = m ≡ q
@@ -123,7 +123,7 @@ pub record SeatsThatAre : Type 0 where
   pub has_sent : SenderSeat keeps (seat Sender sent_at_once (Some 7) [])
   -- a receiver: new, about to wait, and once it has the message
   pub new_receiver : ReceiverSeat keeps (seat Receiver [] None [])
-  pub about_to_wait : ReceiverSeat keeps (seat Receiver looked None with_copy)
+  pub about_to_wait : ReceiverSeat keeps (seat Receiver loaded None with_copy)
   pub has_received : ReceiverSeat keeps (seat Receiver received (Some 7) (with_message 7 ++ room 1))
 
 pub record SeatsThatAreNot : Type 0 where

@@ -9,7 +9,7 @@ use Rattle.oneshot_word.specs.declared.rule.Role.TheVariants.{Sender, Receiver}
 use Rattle.oneshot_contract_examples.specs.StateExamples.{stopped_over}
 use Rattle.oneshot_contract_examples.specs.SeatExamples.{table, seat, with_half, with_message, received, sent_at_once}
 use Rattle.oneshot_word.specs.Side.{Side, side_of, AreEnds, SenderCan, SenderDid, ReceiverCan, ReceiverDid}
-use Rattle.oneshot_contract_examples.specs.ExampleLogs.{claims, looked, waits}
+use Rattle.oneshot_contract_examples.specs.ExampleLogs.{claims, loaded, waits}
 
 -- a side at a table, of a channel about 7, whose wakers are numbers
 abbrev pub side : List Noted → Held ℕ → Held ℕ → Option ℕ → Side ℕ ℕ ℕ
@@ -51,10 +51,10 @@ pub record SidesThatAre : Type 0 where
         handed = None;
         about = 7;
       }
-  pub shows_none : side_of (table 1 2 5) (seat Receiver looked None [])
+  pub shows_none : side_of (table 1 2 5) (seat Receiver loaded None [])
       ≡ record {
         table = table 1 2 5;
-        log = looked;
+        log = loaded;
         message = away;
         waker = away;
         passed = None;
@@ -67,11 +67,11 @@ pub record SidesThatAre : Type 0 where
   pub may_drop : SenderCan new_sender Xor
   pub may_swap : SenderCan (side claims (held 7) vacant None) (Swap MESSAGE)
   pub may_load : ReceiverCan new_receiver Load
-  pub may_wait : ReceiverCan (side looked away (held 1) None) (Swap RECEIVING)
+  pub may_wait : ReceiverCan (side loaded away (held 1) None) (Swap RECEIVING)
   pub sends : SenderDid about_to_send Add EMPTY has_sent
   pub claims_a_waker :
       SenderDid about_to_send Add RECEIVING (record (side claims (held 7) (held 1) None) { handed = Some 1 })
-  pub gives_its_waker : ReceiverDid (side looked away (held 1) None) (Swap RECEIVING) EMPTY
+  pub gives_its_waker : ReceiverDid (side loaded away (held 1) None) (Swap RECEIVING) EMPTY
       (record (side waits away away None) { handed = Some 1 })
   pub takes_it_back : ReceiverDid (record (side waits away away None) { handed = Some 1 }) (Swap EMPTY) RECEIVING
       (record (side (stopped_over RECEIVING) away (held 1) None) { handed = Some 1 })
@@ -87,7 +87,7 @@ pub record SidesThatAreNot : Type 0 where
   pub sender_has_the_waker : AreEnds {P = ℕ} 7 (record new_sender { waker = vacant }) new_receiver → ⊥
   pub sender_has_given : AreEnds {P = ℕ} 7 (record new_sender { passed = Some 7 }) new_receiver → ⊥
   pub sender_has_woken : AreEnds {P = ℕ} 7 (record new_sender { handed = Some 1 }) new_receiver → ⊥
-  pub receiver_has_operated : AreEnds {P = ℕ} 7 new_sender (record new_receiver { log = looked }) → ⊥
+  pub receiver_has_operated : AreEnds {P = ℕ} 7 new_sender (record new_receiver { log = loaded }) → ⊥
   pub receiver_has_the_message : AreEnds {P = ℕ} 7 new_sender (record new_receiver { message = vacant }) → ⊥
   pub receiver_has_the_waker : AreEnds {P = ℕ} 7 new_sender (record new_receiver { waker = vacant }) → ⊥
   pub receiver_has_given : AreEnds {P = ℕ} 7 new_sender (record new_receiver { handed = Some 1 }) → ⊥
@@ -95,7 +95,7 @@ pub record SidesThatAreNot : Type 0 where
   -- operations that the side does not allow
   pub sends_nothing : SenderCan new_sender Add → ⊥
   pub sends_twice : SenderCan (side sent_at_once (held 7) away None) Add → ⊥
-  pub waits_without_a_waker : ReceiverCan (side looked away vacant None) (Swap RECEIVING) → ⊥
+  pub waits_without_a_waker : ReceiverCan (side loaded away vacant None) (Swap RECEIVING) → ⊥
   -- an operation that changes the channel or the table, is not logged, does not move its slots, or
   -- loses what passed
   pub becomes_about_another : SenderDid about_to_send Add EMPTY (record has_sent { about = 8 }) → ⊥

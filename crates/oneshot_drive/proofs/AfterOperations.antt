@@ -2,7 +2,8 @@
 use Rattle.oneshot_drive.proofs.Names.{◌≡◌, ℕ, not, List, [], ◌∷◌, true, refl, sym, ap, ◌∙◌, subst, ◌==◌, eq-eqb, WriteWaker, Withdraw, Op, Event, Log, Grows, words, sender_of, receiver_of, took}
 use Rattle.oneshot_drive.proofs.Names.{handed, worded, SenderAt, no_sender, sender_moves, sender_at, ReceiverAt, no_receiver, receiver_moves, receiver_at, Share, empty, filled, Slots, Row, next_by}
 use Rattle.oneshot_drive.proofs.Names.{vacant, held, In, head, tail, May, may, Finds, finds, saw, is_same_op, same_op, differ, leads_exactly, words_stay, sender_moved, receiver_moved, put_in, emptied}
-use Rattle.oneshot_drive.proofs.Names.{as_before, slot_after, has_row, row_of, Landing, landings, landed, Each, each, among, is_among, differs, sender_apart, receiver_apart, GroundState, StandsWith}
+use Rattle.oneshot_drive.proofs.Names.{as_before, slot_after, has_row_for, row_of, Landing, landings, landed, Each, each, among, is_among}
+use Rattle.oneshot_drive.proofs.Names.{differs, sender_apart, receiver_apart, GroundState, StandsWith}
 use Rattle.oneshot_drive.proofs.Names.{Stands, receiver_slots, SenderAsks, SenderMakes, ReceiverAsks, ReceiverMakes}
 
 -- an operation that found this word landed at one of these
@@ -92,7 +93,7 @@ module _ {At T W : Type 0} {of : Log T W → At} where
         }
 
   asks_by : {at : At} {slots : Slots} {s : GroundState T W} (moves : At → List (Row At)) (op : Op)
-      → StandsWith of at slots s → has_row op slots (moves at) ≡ true → May moves (of s.log) op s.message s.waker
+      → StandsWith of at slots s → has_row_for op slots (moves at) ≡ true → May moves (of s.log) op s.message s.waker
   asks_by {at} {slots} {s} moves op is has =
       subst (λ q. May moves q op s.message s.waker) (sym is.phase)
       (may (row_of op slots (moves at) has).row is.message is.waker)
@@ -100,11 +101,11 @@ module _ {At T W : Type 0} {of : Log T W → At} where
 module _ {T W : Type 0} where
   -- what a ground may do at its phase
   pub sender_asks : {at : SenderAt} {slots : Slots} {s : GroundState T W} (op : Op) → StandsWith sender_of at slots s
-      → has_row op slots (sender_moves at) ≡ true → SenderAsks op s
+      → has_row_for op slots (sender_moves at) ≡ true → SenderAsks op s
   sender_asks op is has = asks_by sender_moves op is has
 
   pub asks : {at : ReceiverAt} {slots : Slots} {s : GroundState T W} (op : Op) → StandsWith receiver_of at slots s
-      → has_row op slots (receiver_moves at) ≡ true → ReceiverAsks op s
+      → has_row_for op slots (receiver_moves at) ≡ true → ReceiverAsks op s
   asks op is has = asks_by receiver_moves op is has
 
   -- where an operation from a phase landed

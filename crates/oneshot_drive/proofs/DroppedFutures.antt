@@ -1,7 +1,7 @@
 -- How the drop of a future takes its copy back, and the runs of the drop.
 use Rattle.oneshot_drive.proofs.Names.{◌≡◌, ℕ, true, [], ◌∷◌, Some, refl, AsyncDrop, AsyncLoad, AsyncExchange, AsyncBack, AsyncSwap, Load, Swap, Exchange, Log, Grows, receiver_of, handed, worded}
 use Rattle.oneshot_drive.proofs.Names.{ReceiverAt, waits, again, withdrew, receiver_moves, Slots, receiver_step, receiver_row, Goes, Ran, ReceiverRan, vacant, GroundState, Stands, ReceiverAsks, Path}
-use Rattle.oneshot_drive.proofs.Names.{has_row, landings, RECEIVING, DISCONNECTED, EMPTY}
+use Rattle.oneshot_drive.proofs.Names.{has_row_for, landings, RECEIVING, DISCONNECTED, EMPTY}
 use Rattle.oneshot_machine.specs.declared.machine.Reply.TheVariants as R
 use Rattle.oneshot_machine.specs.declared.machine.Seen.TheVariants as S
 use Rattle.oneshot_machine.specs.declared.machine.Step.TheVariants as Steps
@@ -14,7 +14,7 @@ use Rattle.oneshot_drive.proofs.Stretches.{on, by_word, by_withdraw, before}
 -- after this word the exchange leads to the swap that drops the future
 abbrev Ends : ℕ → ReceiverAt → Slots → Type 0
 Ends n next after =
-    (has_row (Swap DISCONNECTED) after (receiver_moves next) ≡ true)
+    (has_row_for (Swap DISCONNECTED) after (receiver_moves next) ≡ true)
     × (receiver_row (AsyncDrop AsyncExchange) (S.Word n) ≡ Some (Goes (AsyncDrop AsyncSwap)))
 
 module _ {T W : Type 0} where

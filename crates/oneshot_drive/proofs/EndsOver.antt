@@ -1,6 +1,6 @@
 -- After its last call an end is over: by the rows of its last operation.
 use Rattle.oneshot_drive.proofs.Names.{◌≡◌, ℕ, false, List, [], ◌∷◌, refl, sym, ◌∙◌, subst, TakeWaker, Wake, Swap, Xor, Event, Log, Grows, words, sender_of, receiver_of, handed, worded, By, sending}
-use Rattle.oneshot_drive.proofs.Names.{dropping, SenderAt, fresh, owes, found_gone, no_sender, sender_moves, ReceiverAt, first, idle, after_load, after_timeout, waits, claimed}
+use Rattle.oneshot_drive.proofs.Names.{dropping, SenderAt, fresh, owes, found_gone, no_sender, sender_moves, ReceiverAt, untouched, idle, after_load, after_timeout, waits, claimed}
 use Rattle.oneshot_drive.proofs.Names.{withdrew, full, at_once, by_future}
 use Rattle.oneshot_drive.proofs.Names.{disconnected, receiver_moves, Slots, Held, In, finds, SenderFinds, leads_exactly, sender_moved, GroundState, StandsWith, SenderMakes}
 use Rattle.oneshot_drive.proofs.Names.{ReceiverMakes, EndsAt, landings}
@@ -16,7 +16,7 @@ use Rattle.oneshot_machine.proofs.RunsByRows.{next_passes}
 use Rattle.oneshot_drive.specs.Wakes.{found_receiver_waiting}
 use Rattle.oneshot_drive.specs.declared.found.Found.{Found}
 use Rattle.oneshot_drive.specs.declared.found.Found.TheVariants as F
-use Rattle.oneshot_machine.specs.Over.{IsLate, is_overtaken, SenderIsOver, over_finished, over_late, over_overtaken, FoundTheEnd, found_message, found_unclosed}
+use Rattle.oneshot_machine.specs.Over.{IsLate, is_overtaken, SenderIsOver, over_finished, over_late, over_overtaken, FoundTheEnd, found_message, found_overwritten}
 use Rattle.oneshot_drive.specs.BetweenCalls.{LastLeaves, last_finished, last_overtaken}
 use Rattle.oneshot_machine.specs.Over.{found_no_sender, HasLeft, left_first, left_last}
 use Rattle.oneshot_drive.proofs.AfterOperations.{lone, at_word, one_of, sender_lands, lands, sender_still, still}
@@ -128,7 +128,7 @@ module _ {T W : Type 0} where
 
 -- the swap of a receiver's drop
 drops : (at : ReceiverAt) → Each (λ n next after. HasLeft next) (landings (Swap DISCONNECTED) (receiver_moves at))
-drops first = (left_first, (left_last, (left_last, tt)))
+drops untouched = (left_first, (left_last, (left_last, tt)))
 drops (idle after_load) = (left_first, (left_last, (left_last, tt)))
 drops (idle after_timeout) = (left_first, (left_last, (left_last, tt)))
 drops claimed = (left_first, (left_last, (left_last, tt)))
@@ -156,5 +156,5 @@ module _ {T W : Type 0} where
   pub found : (f : Found) (s : GroundState T W) → EndsAt false f s → FoundTheEnd (receiver_of s.log)
   found F.Message s ends = subst FoundTheEnd (sym ends.2.phase) (found_message ends.0)
   found F.Closed s ends = subst FoundTheEnd (sym ends.1.phase) (found_no_sender ends.0)
-  found F.Overwritten s ends = subst FoundTheEnd (sym ends.1.phase) (found_unclosed ends.0)
+  found F.Overwritten s ends = subst FoundTheEnd (sym ends.1.phase) (found_overwritten ends.0)
   found F.Nothing s ends = let timed = ends.0 in absurd (cc)

@@ -1,6 +1,6 @@
 -- What the swap that drops a receiver finds, and the runs that it ends.
 use Rattle.oneshot_drive.proofs.Names.{◌≡◌, ℕ, [], ◌∷◌, Some, refl, sym, ap, ◌∙◌, subst, ReceiverPos, AsyncDrop, AsyncSwap, Swap, Log, Grows, receiver_of, did, worded, ReceiverAt}
-use Rattle.oneshot_drive.proofs.Names.{first, idle, after_load}
+use Rattle.oneshot_drive.proofs.Names.{untouched, idle, after_load}
 use Rattle.oneshot_drive.proofs.Names.{after_timeout, claimed, waits, blocked, withdrew, full, at_once, by_future, disconnected, receiver_moves, Share, none, empty, filled, Slots, receiver_step}
 use Rattle.oneshot_drive.proofs.Names.{receiver_row, Outcome, Goes, Answers, last, more, Ran, and_then, Held, IsSlot, ReceiverFinds, is_same_op, Each, landings, FoundSo, found_so, GroundState, Rests}
 use Rattle.oneshot_drive.proofs.Names.{rests_new, rests_open, rests_closed, AtRest, UNPARKING, DISCONNECTED, EMPTY, MESSAGE}
@@ -19,7 +19,7 @@ pub data Swapped : ℕ → Slots → Type 0 where
   swapped_closed : Swapped DISCONNECTED (empty, empty)
 
 swaps : (at : ReceiverAt) → Each (λ n next after. Swapped n after) (landings (Swap DISCONNECTED) (receiver_moves at))
-swaps first = (swapped_empty, (swapped_message, (swapped_closed, tt)))
+swaps untouched = (swapped_empty, (swapped_message, (swapped_closed, tt)))
 swaps (idle after_load) = (swapped_empty, (swapped_message, (swapped_closed, tt)))
 swaps (idle after_timeout) = (swapped_empty, (swapped_message, (swapped_closed, tt)))
 swaps claimed = (swapped_sender, (swapped_message, (swapped_closed, tt)))

@@ -3,7 +3,7 @@ use Rattle.oneshot_drive.proofs.Names.{◌≡◌, ℕ, true, false, [], ◌∷�
 use Rattle.oneshot_drive.proofs.Names.{PollBackFull, PollBackClosed, AgainCopy, AgainExchange, AgainBack, PollOwn, Exchange, Log, Grows, receiver_of, did, handed, copied, worded, ReceiverAt, idle}
 use Rattle.oneshot_drive.proofs.Names.{after_load, waits, polled, again, claimed, withdrew, full, by_future, by_poll, found_closed, disconnected, resolved, receiver_moves, Share, none, empty, filled}
 use Rattle.oneshot_drive.proofs.Names.{Slots, receiver_step, receiver_row, Outcome, Goes, Answers, Held, vacant, held, IsSlot, is_held, ReceiverMay, ReceiverFinds, GroundState, StandsWith, Stands}
-use Rattle.oneshot_drive.proofs.Names.{ReceiverMakes, Path, LeavesPolled, leaves_waiting, poll_end, EndsPoll, MayLeave, is_room, has_row, Each, landings, RECEIVING, UNPARKING, DISCONNECTED, EMPTY}
+use Rattle.oneshot_drive.proofs.Names.{ReceiverMakes, Path, LeavesPolled, leaves_waiting, poll_end, EndsPoll, MayLeave, is_room, has_row_for, Each, landings, RECEIVING, UNPARKING, DISCONNECTED, EMPTY}
 use Rattle.oneshot_drive.proofs.Names.{MESSAGE}
 use Rattle.oneshot_drive.specs.declared.found.Found.TheVariants as F
 use Rattle.oneshot_machine.specs.declared.machine.Reply.TheVariants as R
@@ -14,13 +14,13 @@ use Rattle.oneshot_drive.proofs.Stretches.{on, by_word, by_write, by_withdraw, b
 
 -- where the exchange of a copy leads, with the copy in the slot
 pub data Left : ℕ → ReceiverAt → Slots → Type 0 where
-  left_copy : Left EMPTY (waits polled) (none, none)
+  left_waiting : Left EMPTY (waits polled) (none, none)
   left_full : Left MESSAGE (full by_poll) (filled, filled)
   left_over : Left DISCONNECTED (resolved found_closed) (empty, filled)
 
 exchange_leaves : (at : ReceiverAt) → Each Left (landings (Exchange EMPTY RECEIVING) (receiver_moves at))
-exchange_leaves (idle after_load) = (left_copy, (left_full, (left_over, tt)))
-exchange_leaves withdrew = (left_copy, (left_full, (left_over, tt)))
+exchange_leaves (idle after_load) = (left_waiting, (left_full, (left_over, tt)))
+exchange_leaves withdrew = (left_waiting, (left_full, (left_over, tt)))
 exchange_leaves (waits polled) = tt
 exchange_leaves (full by_poll) = tt
 exchange_leaves _ = tt
@@ -54,7 +54,7 @@ module _ {T W : Type 0} where
 
   -- `leave`: it may store a copy if the slot is empty
   pub may_leave : {at : ReceiverAt} {share : Share} {s : GroundState T W} → StandsWith receiver_of at (share, empty) s
-      → has_row (Exchange EMPTY RECEIVING) (share, filled) (receiver_moves at) ≡ true → MayLeave s
+      → has_row_for (Exchange EMPTY RECEIVING) (share, filled) (receiver_moves at) ≡ true → MayLeave s
   may_leave {s} is has =
       record {
         room = is_room is.waker;
@@ -80,11 +80,11 @@ module _ {T W : Type 0} where
 
   waits_with : {at : ReceiverAt} {slots : Slots} {s : GroundState T W} → Left EMPTY at slots
       → StandsWith receiver_of at slots s → EndsPoll F.Nothing s
-  waits_with left_copy is = record { at = waits polled; is_one = leaves_waiting; stands = is }
+  waits_with left_waiting is = record { at = waits polled; is_one = leaves_waiting; stands = is }
 
   phase_with : {at : ReceiverAt} {slots : Slots} {s : GroundState T W} → Left EMPTY at slots
       → StandsWith receiver_of at slots s → receiver_of s.log ≡ waits polled
-  phase_with left_copy is = is.phase
+  phase_with left_waiting is = is.phase
 
   full_with : {at : ReceiverAt} {slots : Slots} {s : GroundState T W} → Left MESSAGE at slots
       → StandsWith receiver_of at slots s → StandsWith receiver_of (full by_poll) (filled, filled) s
@@ -93,13 +93,13 @@ module _ {T W : Type 0} where
   over_with : {n : ℕ} {at : ReceiverAt} {slots : Slots} {s : GroundState T W} → Left n at slots
       → StandsWith receiver_of at slots s → ¬ (n ≡ EMPTY) → ¬ (n ≡ MESSAGE)
       → Lone receiver_of n s (DISCONNECTED, resolved found_closed, (empty, filled))
-  over_with left_copy is a b = absurd (a refl)
+  over_with left_waiting is a b = absurd (a refl)
   over_with left_full is a b = absurd (b refl)
   over_with left_over is a b = record { word = refl; stands = is }
 
   there_with : {n : ℕ} {at : ReceiverAt} {slots : Slots} {s : GroundState T W} → Left n at slots
       → StandsWith receiver_of at slots s → ¬ (n ≡ EMPTY) → IsSlot filled s.waker
-  there_with left_copy is a = absurd (a refl)
+  there_with left_waiting is a = absurd (a refl)
   there_with left_full is a = is.waker
   there_with left_over is a = is.waker
 

@@ -2,13 +2,13 @@
 -- receiver or its future. Each operation of the run moves the phase by the phases' table.
 use Rattle.oneshot_drive.proofs.Names.{◌≡◌, Bool, true, false, List, Option, Result, Ok, Err, refl, sym, ap, ◌∙◌, subst, Ready, Pending, RecvError, RecvTimeoutError, TryRecvError, Reply, TryRecv}
 use Rattle.oneshot_drive.proofs.Names.{ReceiverPos, Take, CloseOnly, StartLoad, StartSwap, SumClock, Clock, EndBack, RecvLoad, RecvFreeGone, PollLoad, PollCopy, PollBackClosed, AgainCopy, PollOwn}
-use Rattle.oneshot_drive.proofs.Names.{AsyncTryLoad, Log, words, receiver_of, ReceiverAt, first, idle, after_load, after_timeout, waits, polled, claimed, overdue, unclosed, disconnected}
+use Rattle.oneshot_drive.proofs.Names.{AsyncTryLoad, Log, words, receiver_of, ReceiverAt, untouched, idle, after_load, after_timeout, waits, polled, claimed, overdue, overwritten, disconnected}
 use Rattle.oneshot_drive.proofs.Names.{closed_itself, resolved, no_receiver, receiver_at, receiver_next, receiver_step, receiver_rows, ReceiverRan, Rests, rests_new, rests_open, rests_closed}
 use Rattle.oneshot_drive.proofs.Names.{IsClosedAt, IsReady, GroundState, StandsIn, Polled, unpolled, left_copy, kept_copy, found_sender, has_resolved, LeavesPolled, leaves_resolved, leaves_over}
 use Rattle.oneshot_drive.proofs.Names.{leaves_gone, leaves_uncopied, leaves_waiting, leaves_its_copy, leaves_claimed, LeavesTried, tried_received, tried_resolved, tried_closed, tried_uncopied}
-use Rattle.oneshot_drive.proofs.Names.{tried_its_copy, tried_claimed, is_disconnected, Try, Ref, Timed, Value, Future, AsyncDrop}
+use Rattle.oneshot_drive.proofs.Names.{AsyncTryRecv, is_registered, tried_its_copy, tried_claimed, is_disconnected, Try, Ref, Timed, Value, Future, AsyncDrop}
 use Rattle.std.proofs.lemmas.Bool.{and_parts}
-use Rattle.std.specs.Prelude.{◌&&◌, ◌||◌, IsErr}
+use Rattle.std.specs.Prelude.{◌&&◌, ◌||◌, not, IsErr}
 use Rattle.std.specs.List.{list_all}
 use Rattle.futures.specs.declared.task.Poll.{Poll}
 use Rattle.oneshot_errors.specs.declared.recv_timeout.RecvTimeoutError.TheVariants as Timeouts
@@ -24,8 +24,8 @@ use Rattle.oneshot_machine.proofs.EachPhase.{receivers, at_each_receiver}
 use Rattle.oneshot_machine.proofs.GrownLogs.{phase_from-append, words_after}
 use Rattle.oneshot_machine.proofs.RunsByRows.{carries, by_tests}
 use Rattle.oneshot_drive.specs.BetweenCalls.{is_closed_at, Leaves, leaves_received, leaves_closed, leaves_empty, leaves_late, try_recv_reply, recv_reply, timed_reply}
-use Rattle.oneshot_drive.specs.Polls.{poll_reply, IsDisconnected}
-use Rattle.oneshot_drive.specs.Polls.{leaves_received as polled_received}
+use Rattle.oneshot_drive.specs.Polls.{poll_reply, IsDisconnected, StaysRegistered}
+use Rattle.oneshot_drive.specs.Polls.{leaves_message}
 use Rattle.oneshot_machine.specs.declared.machine.receiver.ReceiverPos.TheVariants.{Look, Drop}
 
 -- the cases that the law tells apart
@@ -35,15 +35,17 @@ pub data Case : Type 0 where
   -- a poll
   polling : Case
   -- a receive or a poll that begins closed
-  closed : Case
+  closed_before : Case
+  -- `try_recv` of a future, which begins registered or not
+  keeping : Bool → Case
 
 abbrev pub is_nowhere : ReceiverAt → Bool
 is_nowhere no_receiver = true
 is_nowhere _ = false
 
-abbrev is_unclosed : ReceiverAt → Bool
-is_unclosed (unclosed by) = true
-is_unclosed _ = false
+abbrev is_overwritten : ReceiverAt → Bool
+is_overwritten (overwritten by) = true
+is_overwritten _ = false
 
 -- the phases with which a call may reply that nothing came yet
 abbrev is_unsent : ReceiverAt → Bool
@@ -53,10 +55,17 @@ is_unsent claimed = true
 is_unsent overdue = true
 is_unsent _ = false
 
+-- whether the second is as the first
+abbrev pub is_so : Bool → Bool → Bool
+is_so true b = b
+is_so false b = not b
+
 -- whether a call of this case may end at this phase with this reply
 abbrev pub is_left : Case → Reply → ReceiverAt → Bool
-is_left closed R.Disconnected at = true
-is_left closed reply at = false
+is_left closed_before R.Disconnected at = true
+is_left closed_before reply at = false
+is_left (keeping is) R.Empty at = is_so is (is_registered at)
+is_left (keeping is) reply at = true
 is_left case R.Message (disconnected closed_itself) = true
 is_left case R.Message (resolved closed_itself) = true
 is_left case R.Disconnected (disconnected c) = true
@@ -79,11 +88,14 @@ is_first _ = false
 
 -- whether a call of this case may be at this position in this phase
 abbrev is_at : Case → ReceiverPos → ReceiverAt → Bool
-is_at closed (Value RecvFreeGone) at = true
-is_at closed p at = is_first p && is_closed_at at
+is_at closed_before (Value RecvFreeGone) at = true
+is_at closed_before p at = is_first p && is_closed_at at
+is_at (keeping is) (Future AsyncTryLoad) at = is_so is (is_registered at)
+is_at (keeping is) (Try TryLoad) at = false
+is_at (keeping is) p at = true
 is_at case (Try Take) at = is_left case R.Message at
-is_at case (Try CloseOnly) at = is_unclosed at
-is_at case (Ref BackClosed) at = is_unclosed at
+is_at case (Try CloseOnly) at = is_overwritten at
+is_at case (Ref BackClosed) at = is_overwritten at
 is_at case (Timed EndBack) at = is_left case R.Timeout at
 is_at trying (Future AsyncTryLoad) at = true
 is_at trying (Future p) at = false
@@ -109,7 +121,11 @@ abbrev all_carry : Case → ReceiverPos → Bool
 all_carry case p =
     list_all (carries (stands case) (ends case) receiver_step receiver_rows receiver_next p) receivers
 
-each_carries : (p : ReceiverPos) → (all_carry trying p && (all_carry polling p && all_carry closed p)) ≡ true
+abbrev all_keep : ReceiverPos → Bool
+all_keep p = all_carry (keeping true) p && all_carry (keeping false) p
+
+each_carries : (p : ReceiverPos)
+    → (all_carry trying p && (all_carry polling p && (all_carry closed_before p && all_keep p))) ≡ true
 each_carries (Try TryLoad) = refl
 each_carries (Ref (StartSwap false)) = refl
 each_carries (Timed Clock) = refl
@@ -117,12 +133,19 @@ each_carries (Value RecvLoad) = refl
 each_carries (Future PollLoad) = refl
 each_carries _ = refl
 
+after_polls : (p : ReceiverPos) → (all_carry closed_before p && all_keep p) ≡ true
+after_polls p = (and_parts (all_carry polling p) _ (and_parts (all_carry trying p) _ (each_carries p)).1).1
+
+keeps_each : (p : ReceiverPos) → all_keep p ≡ true
+keeps_each p = (and_parts (all_carry closed_before p) (all_keep p) (after_polls p)).1
+
 case_carries : (case : Case) (p : ReceiverPos) → all_carry case p ≡ true
 case_carries trying p = (and_parts (all_carry trying p) _ (each_carries p)).0
 case_carries polling p =
     (and_parts (all_carry polling p) _ (and_parts (all_carry trying p) _ (each_carries p)).1).0
-case_carries closed p =
-    (and_parts (all_carry polling p) _ (and_parts (all_carry trying p) _ (each_carries p)).1).1
+case_carries closed_before p = (and_parts (all_carry closed_before p) (all_keep p) (after_polls p)).0
+case_carries (keeping true) p = (and_parts (all_carry (keeping true) p) _ (keeps_each p)).0
+case_carries (keeping false) p = (and_parts (all_carry (keeping true) p) _ (keeps_each p)).1
 
 -- between two calls, and once it found the end, an end is at a phase other than `no_receiver`
 pub polled_somewhere : {at : ReceiverAt} → Polled at → is_nowhere at ≡ false
@@ -146,7 +169,7 @@ leaves_so _ _ e = absurd (cc e)
 
 polled_so : {T : Type 0} (result : Poll (Result T RecvError)) {at : ReceiverAt} → Polled at
     → is_left polling (poll_reply result) at ≡ true → LeavesPolled (poll_reply result) at
-polled_so (Ready (Ok x)) (unpolled (rests_closed closed_itself)) e = polled_received
+polled_so (Ready (Ok x)) (unpolled (rests_closed closed_itself)) e = leaves_message
 polled_so (Ready (Ok x)) (has_resolved closed_itself) e = leaves_resolved
 polled_so (Ready (Err d)) (unpolled (rests_closed c)) e = leaves_over c
 polled_so (Ready (Err d)) (has_resolved c) e = leaves_gone c
@@ -192,7 +215,7 @@ polled_over _ e = absurd (cc e)
 over_closed : {at : ReceiverAt} → Leaves R.Disconnected at → IsClosedAt at
 over_closed (leaves_closed c) = refl
 
-disconnected_so : (reply : Reply) (at : ReceiverAt) → is_left closed reply at ≡ true → reply ≡ R.Disconnected
+disconnected_so : (reply : Reply) (at : ReceiverAt) → is_left closed_before reply at ≡ true → reply ≡ R.Disconnected
 disconnected_so R.Disconnected at e = refl
 disconnected_so _ at e = absurd (cc e)
 
@@ -213,7 +236,7 @@ module _ {T W : Type 0} (call : ReceiverStart) {before after : Log T W} {given g
       somewhere (is_left case reply (receiver_of after)) (is_nowhere (receiver_of after)) is
       (subst (λ at. ends case reply at ≡ true)
       (sym (ap receiver_at (words_after ran.run ran.grows)
-      ∙ phase_from-append receiver_next first (words before.list) (words ran.run)))
+      ∙ phase_from-append receiver_next untouched (words before.list) (words ran.run)))
       (by_tests (stands case) (ends case) receiver_step receiver_rows receiver_next
       (λ p. at_each_receiver (carries (stands case) (ends case) receiver_step receiver_rows receiver_next p)
       (case_carries case p))
@@ -239,8 +262,29 @@ module _ {T W : Type 0} (call : ReceiverStart) {before after : Log T W} {given g
       polled_so result rests (left polling (poll_reply result) ran begins (polled_somewhere rests))
 
   pub stays_closed : {reply : Reply} → ReceiverRan call before after reply given got
-      → Begins closed call (receiver_of before) → is_nowhere (receiver_of after) ≡ false → reply ≡ R.Disconnected
-  stays_closed {reply} ran begins is = disconnected_so reply (receiver_of after) (left closed reply ran begins is)
+      → Begins closed_before call (receiver_of before) → is_nowhere (receiver_of after) ≡ false → reply ≡ R.Disconnected
+  stays_closed {reply} ran begins is =
+      disconnected_so reply (receiver_of after) (left closed_before reply ran begins is)
+
+so_itself : (b : Bool) → (is_so b b || false) ≡ true
+so_itself true = refl
+so_itself false = refl
+
+so_same : (b c : Bool) → is_so b c ≡ true → c ≡ b
+so_same true c e = e
+so_same false true e = absurd (cc e)
+so_same false false e = refl
+
+-- After a `try_recv` of a future that found nothing, the future is registered if and only if it was before.
+pub stays_registered : {T W : Type 0} (result : Result T TryRecvError) {before after : Log T W} {given got : List T}
+    → ReceiverRan AsyncTryRecv before after (try_recv_reply result) given got → Polled (receiver_of before)
+    → Polled (receiver_of after) → StaysRegistered result (receiver_of before) (receiver_of after)
+stays_registered result {before} {after} {given} {got} ran begins rests empty =
+    let was = is_registered (receiver_of before) in
+    so_same was (is_registered (receiver_of after))
+    (left AsyncTryRecv (keeping was) R.Empty
+    (subst (λ reply. ReceiverRan AsyncTryRecv before after reply given got) (ap try_recv_reply empty) ran)
+    (ap (λ nowhere. is_so was was || nowhere) (polled_somewhere begins) ∙ so_itself was) (polled_somewhere rests))
 
 -- After a `try_recv`, which leaves the hand as it is, the hand is ready if it was before.
 pub ready_still : {T W V : Type 0} {hand : Option V} {reply : Reply} {before after : Log T W} {given got : List T}

@@ -6,8 +6,8 @@
 -- The sender: `SenderCalls` proves what each call requires of its ground, `EndsOver` that its end is over afterwards,
 -- and `SenderRuns` that its steps are a run.
 -- Receives that never block: `RestLoads` for `try_recv`, `LastSwap` for both drops.
--- Receives that block: `StoredWaker` proves their steps up to the wait, `Waits` the wait, and `Receives` the steps
--- after it.
+-- Receives that block: `StoredWaker` proves their steps up to the wait, `Waits` the wait, `Receives` the steps after
+-- it, and `Endless` that one without an end never runs out.
 -- `LeftPhases` leads from the run of a receiver's or a future's call to the phase after it, and `LeftReceivers` from
 -- there to whether it is open or closed. No driver states these. The proofs of the ends cite both.
 -- Futures: `PollLoads` proves the load of a poll, `LeftCopies` how it leaves a copy of its waker, and `OwnCopies` that
@@ -24,6 +24,7 @@ pub mod LastSwap
 pub mod StoredWaker
 pub mod Waits
 pub mod Receives
+pub mod Endless
 pub mod LeftPhases
 pub mod LeftReceivers
 pub mod PollLoads

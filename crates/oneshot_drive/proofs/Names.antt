@@ -19,16 +19,16 @@ pub use Rattle.oneshot_errors.specs.declared.try_recv.TryRecvError.{TryRecvError
 pub use Rattle.oneshot_machine.proofs.CallBounds.{drop_few, send_few, async_try_recv_few, poll_few, drop_async_few, drop_receiver_few, try_recv_few}
 pub use Rattle.oneshot_machine.proofs.Exactness.{leads_exactly, differ}
 pub use Rattle.oneshot_machine.proofs.GrownLogs.{receiver_moved, and_then, sender_moved, words_stay}
-pub use Rattle.oneshot_machine.proofs.Landings.{is_room, has_row, Each, landings, found_so, is_in, put_in, as_before, slot_after, message_kept, landings_of}
+pub use Rattle.oneshot_machine.proofs.Landings.{is_room, has_row_for, Each, landings, found_so, is_in, put_in, as_before, slot_after, message_kept, landings_of}
 pub use Rattle.oneshot_machine.proofs.Landings.{landed, each, sender_apart, FoundSo, emptied}
 pub use Rattle.oneshot_machine.proofs.Landings.{row_of, Landing, among, is_among, differs, receiver_apart, waker_kept}
 pub use Rattle.oneshot_machine.proofs.Sameness.{same_op}
 pub use Rattle.oneshot_machine.specs.Logs.{Log, Grows, receiver_of, did, took, clocked, worded, Event, handed, copied, wrote, sender_of, kept, parked, when_written, when_taken, messages_given}
 pub use Rattle.oneshot_machine.specs.Logs.{messages_got, words}
 pub use Rattle.oneshot_machine.specs.Noted.{is_same_op, saw}
-pub use Rattle.oneshot_machine.specs.Phases.{after_timeout, ReceiverAt, idle, full, Got, at_once, waited, swapped, by_future, by_poll, unclosed, Swapping, Closing, closed_itself, disconnected}
+pub use Rattle.oneshot_machine.specs.Phases.{after_timeout, ReceiverAt, idle, full, Got, at_once, waited, swapped, by_future, by_poll, overwritten, Swapping, Closing, closed_itself, disconnected}
 pub use Rattle.oneshot_machine.specs.Phases.{receiver_moves, receiver_next, empty, filled, after_load, waits, again, claimed, found_closed, resolved, word_of, blocked, withdrew, polled, Share, none}
-pub use Rattle.oneshot_machine.specs.Phases.{Slots, By, sending, dropping, SenderAt, fresh, owes, found_gone, no_sender, sender_moves, storing, first, overdue, stopping, sender_at}
+pub use Rattle.oneshot_machine.specs.Phases.{Slots, By, sending, dropping, SenderAt, fresh, owes, found_gone, no_sender, sender_moves, storing, untouched, overdue, stopping, sender_at}
 pub use Rattle.oneshot_machine.specs.Phases.{no_receiver, receiver_at}
 pub use Rattle.oneshot_machine.specs.Phases.{Row, next_by}
 pub use Rattle.oneshot_machine.specs.Receiver.{receiver_step, receiver_row, receiver_rows}

@@ -5,7 +5,7 @@ use Rattle.oneshot_drive.proofs.Names.{again, claimed, full, Got}
 use Rattle.oneshot_drive.proofs.Names.{at_once, waited, swapped, by_future, by_poll, Closing, found_closed, closed_itself, disconnected, resolved, receiver_next, receiver_moves, empty, word_of}
 use Rattle.oneshot_drive.proofs.Names.{receiver_step, receiver_row, Outcome, Goes, Answers, last, more, ReceiverRan, and_then, GroundState, StandsWith, Stands, StandsIn, receiver_slots, ReceiverAsks}
 use Rattle.oneshot_drive.proofs.Names.{ReceiverMakes, Path, rests_new, rests_open, rests_closed, IsClosedAt, Polled, unpolled, left_copy, kept_copy, found_sender, has_resolved, IsPolled, LeavesPolled}
-use Rattle.oneshot_drive.proofs.Names.{leaves_uncopied, leaves_waiting, leaves_its_copy, leaves_claimed, EndsPoll, has_row, Each, landings, RECEIVING}
+use Rattle.oneshot_drive.proofs.Names.{leaves_uncopied, leaves_waiting, leaves_its_copy, leaves_claimed, EndsPoll, has_row_for, Each, landings, RECEIVING}
 use Rattle.oneshot_drive.proofs.Names.{UNPARKING, DISCONNECTED, EMPTY, MESSAGE}
 use Rattle.oneshot_drive.specs.declared.found.Found.TheVariants as F
 use Rattle.oneshot_machine.specs.declared.machine.Reply.TheVariants as R
@@ -16,13 +16,13 @@ use Rattle.oneshot_drive.proofs.AfterOperations.{Came, came, asks, lands}
 use Rattle.oneshot_drive.proofs.Stretches.{on, by_word, by_own, ran}
 
 -- it may load
-polled_loads : {at : ReceiverAt} → Polled at → has_row Load (receiver_slots at) (receiver_moves at) ≡ true
+polled_loads : {at : ReceiverAt} → Polled at → has_row_for Load (receiver_slots at) (receiver_moves at) ≡ true
 polled_loads (unpolled (rests_open after_load)) = refl
 polled_loads _ = refl
 
 -- a receiver at this phase may be dropped
 abbrev pub Drops : ReceiverAt → Type 0
-Drops at = has_row (Swap DISCONNECTED) (receiver_slots at) (receiver_moves at) ≡ true
+Drops at = has_row_for (Swap DISCONNECTED) (receiver_slots at) (receiver_moves at) ≡ true
 
 -- the word that its load finds, and where that leads
 pub data Met : ℕ → ReceiverAt → Type 0 where

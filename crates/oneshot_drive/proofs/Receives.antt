@@ -1,11 +1,11 @@
 -- The obligations of each receive that blocks after the word that decides it, and the runs that its steps make.
 use Rattle.oneshot_drive.proofs.Names.{◌≡◌, ℕ, Bool, true, false, List, [], ◌∷◌, Option, refl, sym, subst, Found, Reply, ReceiverPos, Try, Ref, Timed}
 use Rattle.oneshot_drive.proofs.Names.{Value, Close, Take, CloseOnly, StartLoad, SumClock, RecvLoad, RecvTake, RecvFreeGot, RecvFreeGone, Recv, RecvTimeout, Store, Log, Grows, receiver_of, did, took}
-use Rattle.oneshot_drive.proofs.Names.{clocked, worded, after_timeout, ReceiverAt, idle, full, Got, at_once, unclosed, Swapping, Closing, closed_itself, disconnected}
+use Rattle.oneshot_drive.proofs.Names.{clocked, worded, after_timeout, ReceiverAt, idle, full, Got, at_once, overwritten, Swapping, Closing, closed_itself, disconnected}
 use Rattle.oneshot_drive.proofs.Names.{receiver_moves, receiver_next, empty}
 use Rattle.oneshot_drive.proofs.Names.{filled, receiver_step, receiver_row, Goes, last, more, Ran, ReceiverRan, vacant, receiver_moved, and_then, GroundState, StandsWith, Stands, receiver_slots}
 use Rattle.oneshot_drive.proofs.Names.{ReceiverAsks, ReceiverMakes, Path, value_end, EndsAt, AtRest, rests_open, IsClosedAt}
-use Rattle.oneshot_drive.proofs.Names.{IsReady, is_room, has_row, Each}
+use Rattle.oneshot_drive.proofs.Names.{IsReady, is_room, has_row_for, Each}
 use Rattle.oneshot_drive.proofs.Names.{landings, DISCONNECTED}
 use Rattle.oneshot_drive.specs.declared.found.Found.TheVariants as F
 use Rattle.oneshot_machine.specs.declared.machine.Reply.TheVariants as R
@@ -15,7 +15,7 @@ use Rattle.oneshot_drive.proofs.AfterOperations.{lone, asks, lands, one_of, stan
 use Rattle.oneshot_drive.proofs.Stretches.{by_clock, ran, before}
 
 -- a receiver that found the message, in any way, may close the channel, and still has the message then
-stores_full : (g : Got) → has_row (Store DISCONNECTED) (receiver_slots (full g)) (receiver_moves (full g)) ≡ true
+stores_full : (g : Got) → has_row_for (Store DISCONNECTED) (receiver_slots (full g)) (receiver_moves (full g)) ≡ true
 stores_full at_once = refl
 stores_full _ = refl
 
@@ -70,7 +70,7 @@ module _ {T W : Type 0} where
       (and_then (worded (Store DISCONNECTED) n ∷ []) _ s t) refl refl
 
   -- or the sender is gone
-  pub shut : {by : Swapping} {b a : GroundState T W} (n : ℕ) → Stands (unclosed by) b
+  pub shut : {by : Swapping} {b a : GroundState T W} (n : ℕ) → Stands (overwritten by) b
       → ReceiverMakes (Store DISCONNECTED) n b a
       → Grows b.log a.log (worded (Store DISCONNECTED) n ∷ []) → Stands (disconnected closed_itself) a
   shut {b} n is made grows = (lone (lands b (Store DISCONNECTED) n is.phase made grows)).stands

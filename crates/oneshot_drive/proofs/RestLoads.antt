@@ -3,16 +3,17 @@ use Rattle.oneshot_drive.proofs.Names.{◌≡◌, ℕ, true, false, [], ◌∷�
 use Rattle.oneshot_drive.proofs.Names.{ReceiverAt, idle, after_load, after_timeout, full, at_once, Closing, found_closed, closed_itself, disconnected, resolved, receiver_moves}
 use Rattle.oneshot_drive.proofs.Names.{empty, filled, last, more}
 use Rattle.oneshot_drive.proofs.Names.{ReceiverRan, Held, ReceiverFinds, is_same_op, and_then, GroundState, StandsWith, Stands, receiver_slots, ReceiverAsks, ReceiverMakes, Rests, rests_new}
-use Rattle.oneshot_drive.proofs.Names.{rests_open, rests_closed, AtRest, IsClosedAt, has_row, Each, landings, found_so, DISCONNECTED, EMPTY, MESSAGE}
+use Rattle.oneshot_drive.proofs.Names.{rests_open, rests_closed, AtRest, IsClosedAt, has_row_for, Each, landings, found_so, DISCONNECTED, EMPTY, MESSAGE}
 use Rattle.oneshot_machine.specs.declared.machine.Reply.TheVariants as R
 use Rattle.oneshot_drive.proofs.AfterOperations.{lone, Came, came, asks, lands}
 
 -- it may load, and may be dropped
-rests_load : {at : ReceiverAt} → Rests at → has_row Load (receiver_slots at) (receiver_moves at) ≡ true
+rests_load : {at : ReceiverAt} → Rests at → has_row_for Load (receiver_slots at) (receiver_moves at) ≡ true
 rests_load (rests_open after_load) = refl
 rests_load _ = refl
 
-rests_swap : {at : ReceiverAt} → Rests at → has_row (Swap DISCONNECTED) (receiver_slots at) (receiver_moves at) ≡ true
+rests_swap : {at : ReceiverAt} → Rests at
+    → has_row_for (Swap DISCONNECTED) (receiver_slots at) (receiver_moves at) ≡ true
 rests_swap (rests_open after_load) = refl
 rests_swap _ = refl
 

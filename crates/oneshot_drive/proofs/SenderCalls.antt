@@ -5,7 +5,7 @@ use Rattle.oneshot_drive.proofs.Names.{IsSlot, is_away, is_vacant}
 use Rattle.oneshot_drive.proofs.Names.{is_held, SlotChange, stays_away, stays_vacant, stays_held, gives_room, gives_thing, gets_room, gets_thing, finds, SenderMay, SenderFinds}
 use Rattle.oneshot_drive.proofs.Names.{and_then}
 use Rattle.oneshot_drive.proofs.Names.{GroundState, StandsWith, SenderMakes, IsFresh, IsError, IsLate, is_late, Owes, LastFinds, finds_waiting, finds_overdue, finds_gone}
-use Rattle.oneshot_drive.proofs.Names.{Finishes, IsOvertaken, is_in, is_room, put_in, as_before, slot_after, has_row, landings_of, landed, Each, each, found_so, RECEIVING, DISCONNECTED}
+use Rattle.oneshot_drive.proofs.Names.{Finishes, IsOvertaken, is_in, is_room, put_in, as_before, slot_after, has_row_for, landings_of, landed, Each, each, found_so, RECEIVING, DISCONNECTED}
 use Rattle.oneshot_drive.proofs.Names.{EMPTY, MESSAGE}
 use Rattle.oneshot_machine.specs.Phases.{finished}
 use Rattle.oneshot_drive.proofs.AfterOperations.{Lone, lone, unlisted, at_word, not_at, sender_asks, sender_lands, sender_still}
@@ -116,7 +116,7 @@ module _ {T W : Type 0} where
           (not_at RECEIVING not_0 (not_at EMPTY not_3 (sender_lands b Xor n is.phase made grows))))
 
     owed : {at : SenderAt} {share : Share} (word : ℕ) → ¬ (share ≡ none) → StandsWith sender_of at (share, filled) a
-        → has_row (Swap word) (share, empty) (sender_moves at) ≡ true → Owes word a
+        → has_row_for (Swap word) (share, empty) (sender_moves at) ≡ true → Owes word a
     owed word own stands has =
         let k = is_in stands.waker in
         record {

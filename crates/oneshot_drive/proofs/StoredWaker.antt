@@ -1,6 +1,6 @@
 -- What a receive that blocks does before it waits: its load, its waker in the slot, and its first swap.
 use Rattle.oneshot_drive.proofs.Names.{◌≡◌, ℕ, Bool, true, false, [], ◌∷◌, Option, Some, None, refl, ap, ◌∙◌, subst, Found, ReceiverPos, Ref, Value, StartSwap, RecvSwap, Load, Swap, Log, Grows}
-use Rattle.oneshot_drive.proofs.Names.{receiver_of, handed, worded, ReceiverAt, idle, after_load, waits, blocked, swapped, storing, unclosed, receiver_moves, none, empty, filled, receiver_step}
+use Rattle.oneshot_drive.proofs.Names.{receiver_of, handed, worded, ReceiverAt, idle, after_load, waits, blocked, swapped, storing, overwritten, receiver_moves, none, empty, filled, receiver_step}
 use Rattle.oneshot_drive.proofs.Names.{receiver_row, Outcome, Goes, Held, vacant, held, IsSlot, ReceiverFinds, GroundState, StandsWith, Stands, ReceiverAsks, ReceiverMakes, IsReady, Path, ReceiveBy}
 use Rattle.oneshot_drive.proofs.Names.{by_ref, by_value, load_of, write_of, wait_of, end_of, EndsAt, landings, RECEIVING, DISCONNECTED, EMPTY}
 use Rattle.oneshot_drive.proofs.Names.{MESSAGE}
@@ -78,7 +78,7 @@ module _ {T W : Type 0} where
         subst (λ share. IsSlot share s.waker) there.is_so there.stands.waker
 
     stored_over : ¬ (n ≡ EMPTY) → ¬ (n ≡ MESSAGE)
-        → Lone receiver_of n s (DISCONNECTED, unclosed storing, (empty, filled))
+        → Lone receiver_of n s (DISCONNECTED, overwritten storing, (empty, filled))
     stored_over no_empty no_message = lone (not_at MESSAGE no_message (not_at EMPTY no_empty found))
 
     pub over_word : ¬ (n ≡ EMPTY) → ¬ (n ≡ MESSAGE) → n ≡ DISCONNECTED

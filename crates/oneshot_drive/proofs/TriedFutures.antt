@@ -1,12 +1,12 @@
 -- What `try_recv` of a future finds by its load, how it leaves the future, and its runs.
-use Rattle.oneshot_drive.proofs.Names.{◌≡◌, ℕ, [], ◌∷◌, Some, refl, sym, ap, ◌∙◌, Try, Future, Close, AsyncTryLoad, AsyncTryRecv, Load, Store, Log, Grows}
-use Rattle.oneshot_drive.proofs.Names.{receiver_of, took, worded, ReceiverAt, after_load, after_timeout}
-use Rattle.oneshot_drive.proofs.Names.{receiver_moves, receiver_row, Goes, Answers, ReceiverRan, and_then, GroundState, ReceiverMakes, rests_new}
-use Rattle.oneshot_drive.proofs.Names.{rests_open, rests_closed, Polled, unpolled, left_copy, kept_copy, found_sender, has_resolved, IsPolled, is_registered, HandsNoWaker, Each, landings}
+use Rattle.oneshot_drive.proofs.Names.{◌≡◌, ℕ, [], ◌∷◌, Some, refl, Try, Future, Close, AsyncTryLoad, AsyncTryRecv, Load, Store, Log, Grows}
+use Rattle.oneshot_drive.proofs.Names.{took, worded, ReceiverAt, after_load}
+use Rattle.oneshot_drive.proofs.Names.{receiver_row, Goes, Answers, ReceiverRan, and_then, GroundState}
+use Rattle.oneshot_drive.proofs.Names.{rests_open, rests_closed, Polled, unpolled, kept_copy, found_sender, IsPolled, HandsNoWaker}
 use Rattle.oneshot_drive.proofs.Names.{DISCONNECTED, MESSAGE}
 use Rattle.oneshot_machine.specs.declared.machine.Reply.TheVariants as R
 use Rattle.oneshot_machine.specs.declared.machine.Seen.TheVariants as S
-use Rattle.oneshot_drive.proofs.AfterOperations.{Came, lands, one_of}
+use Rattle.oneshot_drive.proofs.AfterOperations.{Came}
 use Rattle.oneshot_drive.proofs.Stretches.{whole, by_word}
 use Rattle.oneshot_drive.proofs.Receives.{full_ran}
 use Rattle.oneshot_drive.proofs.PollLoads.{Met, met_empty, met_message, met_closed, met_copy, met_sender, loaded_to}
@@ -28,32 +28,9 @@ empty_row (met_closed c) a b = absurd (b refl)
 empty_row met_copy a b = refl
 empty_row met_sender a b = refl
 
--- after its load it is registered if and only if it was before
-abbrev Unmoved : ReceiverAt → ℕ → ReceiverAt → Type 0
-Unmoved at n next = ¬ (n ≡ MESSAGE) → ¬ (n ≡ DISCONNECTED) → is_registered next ≡ is_registered at
-
-unmoved : {at : ReceiverAt} → Polled at → Each (λ n next after. Unmoved at n next) (landings Load (receiver_moves at))
-unmoved (unpolled rests_new) = (λ a b. refl, (λ a b. refl, (λ a b. refl, tt)))
-unmoved (unpolled (rests_open after_load)) = (λ a b. refl, (λ a b. refl, (λ a b. refl, tt)))
-unmoved (unpolled (rests_open after_timeout)) = (λ a b. refl, (λ a b. refl, (λ a b. refl, tt)))
-unmoved (unpolled (rests_closed c)) = (λ a b. refl, tt)
-unmoved left_copy = (λ a b. refl, (λ a b. refl, (λ a b. absurd (a refl), (λ a b. absurd (b refl), tt))))
-unmoved kept_copy = (λ a b. refl, (λ a b. refl, (λ a b. absurd (a refl), (λ a b. absurd (b refl), tt))))
-unmoved found_sender = (λ a b. refl, (λ a b. absurd (a refl), (λ a b. absurd (b refl), tt)))
-unmoved (has_resolved c) = (λ a b. refl, tt)
-
 module _ {T W : Type 0} where
   pub met_rests : {n : ℕ} {s : GroundState T W} → Came Met n s → ¬ (n ≡ MESSAGE) → IsPolled s
   met_rests found a = record { at = found.at; is_one = met_polled found.is_so a; stands = found.stands }
-
-  pub stays_registered : {b a : GroundState T W} (n : ℕ) → IsPolled b → ReceiverMakes Load n b a
-      → Grows b.log a.log (worded Load n ∷ []) → ¬ (n ≡ MESSAGE) → ¬ (n ≡ DISCONNECTED)
-      → is_registered (receiver_of a.log) ≡ is_registered (receiver_of b.log)
-  stays_registered {b} n is made grows not_sent not_over =
-      let found =
-      one_of (λ n next after. Unmoved is.at n next) (unmoved is.is_one)
-      (lands b Load n is.stands.phase made grows) in
-      ap is_registered found.stands.phase ∙ found.is_so not_sent not_over ∙ sym (ap is_registered is.stands.phase)
 
   -- its runs
   pub taken_ran : {l k j z : Log T W} (n r : ℕ) (x : T) → n ≡ MESSAGE → Grows l k (worded Load n ∷ [])

@@ -4,7 +4,7 @@ use Rattle.oneshot_drive.proofs.Names.{LatePark, LateLoad, RecvPark, RecvParkLoa
 use Rattle.oneshot_drive.proofs.Names.{after_timeout, waits, blocked}
 use Rattle.oneshot_drive.proofs.Names.{overdue, waited, swapped, stopping, found_closed, receiver_moves, none, filled, receiver_row, receiver_rows, receiver_step, Outcome, Goes, row_for, vacant}
 use Rattle.oneshot_drive.proofs.Names.{GroundState, StandsWith, Stands, receiver_slots, ReceiverAsks, ReceiverMakes, Path, ReceiveBy, by_ref, by_value, wait_of, asked_of, ref_end, end_of, EndsAt}
-use Rattle.oneshot_drive.proofs.Names.{Parks, parks_waiting, parks_overdue, has_row, landings, RECEIVING, UNPARKING, DISCONNECTED, EMPTY, MESSAGE}
+use Rattle.oneshot_drive.proofs.Names.{Parks, parks_waiting, parks_overdue, has_row_for, landings, RECEIVING, UNPARKING, DISCONNECTED, EMPTY, MESSAGE}
 use Rattle.oneshot_drive.specs.declared.found.Found.TheVariants as F
 use Rattle.oneshot_machine.specs.declared.machine.Seen.TheVariants as S
 use Rattle.oneshot_machine.specs.declared.machine.Step.TheVariants as Steps
@@ -88,7 +88,7 @@ module _ {T W : Type 0} where
     has_parked : Stands at k
     has_parked = stands_on (parked woken ∷ []) refl is park message waker
 
-    pub parked_asks : has_row Load (receiver_slots at) (receiver_moves at) ≡ true → ReceiverAsks Load k
+    pub parked_asks : has_row_for Load (receiver_slots at) (receiver_moves at) ≡ true → ReceiverAsks Load k
     parked_asks has = asks Load has_parked has
 
     -- where the load landed
@@ -203,7 +203,7 @@ module _ {T W : Type 0} where
 
   -- `wait_late`: each word that its load may find
   module _ {n : ℕ} {s : GroundState T W} (found : Lands receiver_of n s (landings Load (receiver_moves overdue))) where
-    pub ended_at : {word : ℕ} {f : Found} → Decides word f → n ≡ word → EndsAt true f s
+    pub ended_at : {word : ℕ} {f : Found} → Decides word f → n ≡ word → EndsAt false f s
     ended_at by_message e = (waited, refl, (lone (at_word MESSAGE e found)).stands)
     ended_at by_end e = (found_closed, (lone (at_word DISCONNECTED e found)).stands)
 
@@ -213,6 +213,17 @@ module _ {T W : Type 0} where
     -- it found no other word
     pub ended_none : {X : Type 0} → ¬ (n ≡ DISCONNECTED) → ¬ (n ≡ EMPTY) → ¬ (n ≡ MESSAGE) → X
     ended_none a b c = unlisted (not_at MESSAGE c (not_at EMPTY b (not_at DISCONNECTED a found)))
+
+  -- a receive whose deadline ends nothing more, ends as one with a deadline may
+  pub ends_late : (f : Found) (s : GroundState T W) → EndsAt false f s → EndsAt true f s
+  ends_late F.Message s ends = ends
+  ends_late F.Closed s ends = ends
+  ends_late F.Overwritten s ends = ends
+  ends_late F.Nothing s ends = absurd (cc ends.0)
+
+  pub ends_by_word : (f : Found) (s : GroundState T W) → EndsAt false f s → f ≡ F.Nothing → ⊥
+  ends_by_word F.Nothing s ends e = cc ends.0
+  ends_by_word _ s ends e = cc e
 
   pub late_to : {l k j z : Log T W} (o : Outcome ReceiverPos) (n found : ℕ)
       → receiver_row (Timed LateLoad) (S.Word found) ≡ Some o → n ≡ found

@@ -11,7 +11,7 @@ use Rattle.oneshot_machine.specs.declared.machine.Step.TheVariants.{TakeWaker, W
 use Rattle.oneshot_machine.specs.declared.states.Op.TheVariants.{Swap}
 use Rattle.oneshot_machine.specs.declared.states.TheConstants.{UNPARKING, DISCONNECTED, EMPTY}
 use Rattle.oneshot_machine.specs.Logs.{Event, Log, Grows, sender_of, handed, worded}
-use Rattle.oneshot_machine.specs.Phases.{By, SenderAt, fresh, finished, overtaken, Closing, closed_itself, Open, after_load, after_timeout, ReceiverAt, first, idle, waits, claimed}
+use Rattle.oneshot_machine.specs.Phases.{By, SenderAt, fresh, finished, overtaken, Closing, closed_itself, Open, after_load, after_timeout, ReceiverAt, untouched, idle, waits, claimed}
 use Rattle.oneshot_machine.specs.Phases.{disconnected, resolved}
 use Rattle.oneshot_machine.specs.Slots.{Held, away, vacant, held, SenderMay}
 use Rattle.oneshot_drive.specs.Grounds.{GroundState, SenderStands, StandsIn}
@@ -64,7 +64,7 @@ pub record IsOvertaken {T W : Type 0} (before after : GroundState T W) : Type 0 
 
 -- the phases of a receiver between two calls
 pub data Rests : ReceiverAt → Type 0 where
-  rests_new : Rests first
+  rests_new : Rests untouched
   rests_open : (o : Open) → Rests (idle o)
   rests_closed : (c : Closing) → Rests (disconnected c)
 
@@ -82,7 +82,7 @@ abbrev pub IsClosedAt : ReceiverAt → Type 0
 IsClosedAt at = IsTrue (is_closed_at at)
 
 abbrev pub is_open_at : ReceiverAt → Bool
-is_open_at first = true
+is_open_at untouched = true
 is_open_at (idle o) = true
 -- a future, with its copy in the slot, or with the sender about to finish
 is_open_at (waits w) = true

@@ -14,7 +14,7 @@ use Rattle.oneshot_machine.specs.declared.machine.Seen.TheVariants.{Done}
 use Rattle.oneshot_machine.specs.declared.states.Op.TheVariants.{Store}
 use Rattle.oneshot_machine.specs.declared.states.TheConstants.{DISCONNECTED}
 use Rattle.oneshot_machine.specs.Logs.{Event, Log, Grows, messages_given, messages_got}
-use Rattle.oneshot_machine.specs.Phases.{Closing, closed_itself, Got, Swapping, Waiting, after_timeout, ReceiverAt, idle, waits, overdue, full, unclosed, disconnected, receiver_next}
+use Rattle.oneshot_machine.specs.Phases.{Closing, closed_itself, Got, Swapping, Waiting, after_timeout, ReceiverAt, idle, waits, overdue, full, overwritten, disconnected, receiver_next}
 use Rattle.oneshot_machine.specs.Receiver.{receiver_step, receiver_row}
 use Rattle.oneshot_machine.specs.TableRows.{Outcome, Goes, Answers}
 use Rattle.oneshot_drive.specs.Grounds.{GroundState, Stands}
@@ -83,7 +83,7 @@ abbrev pub EndsAt : {T W : Type 0} → Bool → Found → GroundState T W → Ty
 EndsAt timed F.Message s =
     (g : Got) × (receiver_next (full g) (Store DISCONNECTED) Done ≡ disconnected closed_itself) × Stands (full g) s
 EndsAt timed F.Closed s = (c : Closing) × Stands (disconnected c) s
-EndsAt timed F.Overwritten s = (by : Swapping) × Stands (unclosed by) s
+EndsAt timed F.Overwritten s = (by : Swapping) × Stands (overwritten by) s
 EndsAt timed F.Nothing s = (timed ≡ true) × Stands (idle after_timeout) s
 
 -- How it may park: with a deadline or without while it waits, and without once its deadline is over.

@@ -43,7 +43,7 @@ IsPolled = StandsIn Polled
 
 -- How a poll leaves the future, by its reply: closed after the message or the disconnected error, otherwise open.
 pub data LeavesPolled : Reply → ReceiverAt → Type 0 where
-  leaves_received : LeavesPolled R.Message (disconnected closed_itself)
+  leaves_message : LeavesPolled R.Message (disconnected closed_itself)
   leaves_resolved : LeavesPolled R.Message (resolved closed_itself)
   leaves_over : (c : Closing) → LeavesPolled R.Disconnected (disconnected c)
   leaves_gone : (c : Closing) → LeavesPolled R.Disconnected (resolved c)

@@ -1,7 +1,6 @@
 //! The drivers of the receives that block.
 
-ghost use Rattle.std.specs.Prelude.{◌≡◌, Err, IfOk, false, []};
-ghost use Rattle.oneshot_errors.specs.declared.recv_timeout.RecvTimeoutError.TheVariants.{Timeout};
+ghost use Rattle.std.specs.Prelude.{◌≡◌, IfOk, []};
 ghost use Rattle.oneshot_machine.specs.declared.machine.receiver.ReceiverPos.TheVariants.{Ref};
 ghost use Rattle.oneshot_machine.specs.declared.machine.by_ref.RefPos.TheVariants.{StartLoad};
 ghost use Rattle.oneshot_machine.specs.declared.machine.receiver.ReceiverStart.TheVariants.{Recv, RecvRef, RecvDeadline, RecvTimeout};
@@ -97,7 +96,6 @@ pub fn recv_timeout<T, W: Drop, G: BlockGround<T, W>>(
     ensures rests { AtRest (G.state g.new) }
     ensures ready { IsReady hand.new (receiver_of (G.state g.new).log) }
     ensures has { G.has g.new hand.new }
-    ensures endless { representable ≡ false → ¬ (result ≡ Err Timeout) }
     ensures given { IfOk result (λ message. G.gives g.old message) }
     ensures had { IfOk result (λ message. G.had g.new message) }
     ensures keeps { G.keeps g.old g.new }
@@ -122,7 +120,6 @@ fn receive<T, W: Drop, G: BlockGround<T, W>>(
     ensures rests { AtRest (G.state g.new) }
     ensures ready { IsReady hand.new (receiver_of (G.state g.new).log) }
     ensures has { G.has g.new hand.new }
-    ensures endless { timed ≡ false → ¬ (result ≡ Err Timeout) }
     ensures given { IfOk result (λ message. G.gives g.old message) }
     ensures had { IfOk result (λ message. G.had g.new message) }
     ensures keeps { G.keeps g.old g.new }

@@ -19,7 +19,7 @@ ghost use Rattle.oneshot_drive.specs.Blocking.{Path};
 ghost use Rattle.oneshot_machine.specs.Over.{HasLeft};
 ghost use Rattle.oneshot_drive.specs.BetweenCalls.{try_recv_reply, received};
 ghost use Rattle.oneshot_drive.specs.Grounds.{Stands, ReceiverAsks};
-ghost use Rattle.oneshot_drive.specs.Polls.{IsPolled, StaysRegistered, poll_reply, poll_received, poll_end, EndsPoll, MayLeave, WroteCopies, WritesItsCopy};
+ghost use Rattle.oneshot_drive.specs.Polls.{IsPolled, poll_reply, poll_received, poll_end, EndsPoll, MayLeave, WroteCopies, WritesItsCopy};
 ghost use Rattle.oneshot_drive.specs.Polls.{HandsNoWaker, LeavesTask};
 
 use crate::found::Found;
@@ -171,8 +171,6 @@ pub fn async_try_recv<T, W, G: ReceiverGround<T, W>>(g: &mut G) -> Result<T, Try
         (try_recv_reply result) [] (received result) }
     ensures rests { IsPolled (G.state g.new) }
     ensures bounded { MakesWithin (receiver_bound C.AsyncTryRecv) (G.state g.old).log (G.state g.new).log }
-    ensures registered { StaysRegistered result (receiver_of (G.state g.old).log)
-        (receiver_of (G.state g.new).log) }
     ensures wakers { HandsNoWaker (G.state g.old).log (G.state g.new).log }
     ensures given { IfOk result (λ message. G.gives g.old message) }
     ensures had { IfOk result (λ message. G.had g.new message) }

@@ -1,6 +1,6 @@
 //! How a receive that blocks waits for the word that decides it.
 
-ghost use Rattle.std.specs.Prelude.{◌≡◌, true, Some, None};
+ghost use Rattle.std.specs.Prelude.{◌≡◌, true, false, Some, None};
 ghost use Rattle.oneshot_machine.specs.declared.machine.receiver.ReceiverPos.TheVariants.{Timed};
 ghost use Rattle.oneshot_machine.specs.declared.machine.timed.TimedPos.TheVariants.{EndSwap, LatePark};
 ghost use Rattle.oneshot_machine.specs.Logs.{receiver_of};
@@ -148,8 +148,7 @@ fn wait_late<T, W, G: BlockGround<T, W>>(g: &mut G, rt: &impl Wait) -> Found
     requires late { Stands overdue (G.state g.old) }
     requires has { G.has g.old None }
     ensures path { Path (Timed LatePark) (ref_end result) (G.state g.old).log (G.state g.new).log }
-    ensures ends { EndsAt true result (G.state g.new) }
-    ensures sent { ¬ (result ≡ F.Nothing) }
+    ensures ends { EndsAt false result (G.state g.new) }
     ensures keeps { G.keeps g.old g.new }
 {
     for _ in rt.forever() {

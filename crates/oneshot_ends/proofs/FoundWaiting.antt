@@ -10,7 +10,7 @@ use Rattle.oneshot_machine.specs.declared.states.Op.{Op}
 use Rattle.oneshot_machine.specs.declared.states.TheConstants.{RECEIVING}
 use Rattle.oneshot_machine.specs.Noted.{Noted, saw}
 use Rattle.oneshot_machine.specs.Orders.{Reaches, nothing_made, sender_makes, receiver_makes, has_row}
-use Rattle.oneshot_machine.specs.Phases.{Share, none, filled, Slots, Row, SenderAt, fresh, sender_moves, sender_at, ReceiverAt, first, waits, claimed, overdue, receiver_at, receiver_next}
+use Rattle.oneshot_machine.specs.Phases.{Share, none, filled, Slots, Row, SenderAt, fresh, sender_moves, sender_at, ReceiverAt, untouched, waits, claimed, overdue, receiver_at, receiver_next}
 use Rattle.oneshot_machine.specs.Phases.{receiver_moves}
 use Rattle.oneshot_machine.specs.Slots.{In}
 use Rattle.oneshot_machine.specs.TableRows.{is_same_seen}
@@ -75,7 +75,7 @@ on_receiver ys {op} {before} {after} {word} row left =
     (if_so (is_waiting (receiver_next q op (saw op word)))
     (is_put before.1 after.1 || (is_waiting q && is_out before.1 after.1))
     (in_each_receiver_row left_by refl q row)
-    (sym (ap is_waiting (phase_from-snoc receiver_next first ys (op, saw op word))) ∙ left))
+    (sym (ap is_waiting (phase_from-snoc receiver_next untouched ys (op, saw op word))) ∙ left))
 
 pub finds_it_waiting : {xs ys : List Noted} {word : ℕ} → Reaches xs ys word → is_waiting (receiver_at ys) ≡ true
     → has_made xs ≡ true → found_receiver_waiting xs ≡ true

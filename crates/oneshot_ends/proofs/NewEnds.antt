@@ -1,7 +1,7 @@
 -- The sides of a new channel are new, and their grounds stand at the first phase.
 use Rattle.std.proofs.Common.{◌≡◌, List, [], sym, ap, subst}
 use Rattle.oneshot_machine.specs.Logs.{Log, words}
-use Rattle.oneshot_machine.specs.Phases.{first, receiver_at, none, empty, Slots}
+use Rattle.oneshot_machine.specs.Phases.{untouched, receiver_at, none, empty, Slots}
 use Rattle.oneshot_machine.specs.Slots.{IsSlot, is_away, is_vacant}
 use Rattle.oneshot_machine.specs.Noted.{Noted}
 use Rattle.oneshot_drive.specs.BetweenCalls.{AtRest, rests_new}
@@ -43,4 +43,4 @@ module _ {T W P : Type 0} where
   pub rests_at_new : (s now : Side T W P) → now ≡ s → IsNewReceiver s → AtRest (state_of now)
   rests_at_new s now is new =
       subst (λ now. AtRest (state_of now)) (sym is)
-      (record { at = first; is_one = rests_new; stands = new_stands receiver_at s new })
+      (record { at = untouched; is_one = rests_new; stands = new_stands receiver_at s new })

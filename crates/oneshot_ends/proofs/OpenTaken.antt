@@ -8,7 +8,7 @@ use Rattle.oneshot_machine.specs.declared.machine.Seen.TheVariants.{Word}
 use Rattle.oneshot_machine.specs.declared.states.Op.{Op}
 use Rattle.oneshot_machine.specs.declared.states.TheConstants.{MESSAGE}
 use Rattle.oneshot_machine.specs.Noted.{Noted, saw, is_same_op}
-use Rattle.oneshot_machine.specs.Phases.{Row, ReceiverAt, first, idle, waits, claimed, withdrew, overdue, no_receiver, receiver_moves, receiver_next, next_by, phase_from, receiver_at}
+use Rattle.oneshot_machine.specs.Phases.{Row, ReceiverAt, untouched, idle, waits, claimed, withdrew, overdue, no_receiver, receiver_moves, receiver_next, next_by, phase_from, receiver_at}
 use Rattle.oneshot_machine.specs.TableRows.{is_same_seen}
 use Rattle.oneshot_drive.specs.BetweenCalls.{is_open_at}
 use Rattle.oneshot_ends.specs.Taken.{has_found, TookAsFound}
@@ -17,7 +17,7 @@ use Rattle.oneshot_machine.proofs.RunsByRows.{seens_are_same, next_passes}
 
 -- the phases of a receiver that may have found the message
 abbrev past : ReceiverAt → Bool
-past first = false
+past untouched = false
 past (idle o) = false
 past (waits w) = false
 past claimed = false
@@ -73,7 +73,7 @@ found_past at (x ∷ xs) e =
     by false is false sees e = or_right (past (receiver_next at x.0 x.1)) (has_found xs) e
 
 not_past : (at : ReceiverAt) → is_open_at at ≡ true → past at ≡ false
-not_past first e = refl
+not_past untouched e = refl
 not_past (idle o) e = refl
 not_past (waits w) e = refl
 not_past claimed e = refl
@@ -83,4 +83,4 @@ pub open_took_none : {T : Type 0} (took : Option T) (log : List Noted) → TookA
     → is_open_at (receiver_at log) ≡ true → took ≡ None
 open_took_none None log so open_at = refl
 open_took_none (Some m) log so open_at =
-    absurd (true≢false (sym (found_past first log (sym so)) ∙ not_past (receiver_at log) open_at))
+    absurd (true≢false (sym (found_past untouched log (sym so)) ∙ not_past (receiver_at log) open_at))

@@ -2,7 +2,7 @@
 use Rattle.std.proofs.Common.{◌≡◌, false, List, inl, inr, refl, sym, ap, ◌∙◌, subst}
 use Rattle.oneshot_machine.specs.Logs.{sender_of, receiver_of}
 use Rattle.oneshot_machine.specs.Noted.{Noted}
-use Rattle.oneshot_machine.specs.Over.{IsLate, is_late, is_overtaken, SenderIsOver, over_late, over_overtaken, FoundTheEnd, found_message, found_unclosed, found_no_sender, HasLeft, left_first}
+use Rattle.oneshot_machine.specs.Over.{IsLate, is_late, is_overtaken, SenderIsOver, over_late, over_overtaken, FoundTheEnd, found_message, found_overwritten, found_no_sender, HasLeft, left_first}
 use Rattle.oneshot_machine.specs.Over.{left_last, ReceiverIsOver}
 use Rattle.oneshot_machine.specs.Phases.{By, SenderAt, sender_at, ReceiverAt, receiver_at}
 use Rattle.oneshot_drive.specs.BetweenCalls.{AtRest, Rests, rests_new, rests_open, rests_closed}
@@ -29,7 +29,7 @@ module _ {T W P : Type 0} (s : Side T W P) {log : List Noted} (logs : s.log ≡ 
 
 found_idle : {at : ReceiverAt} → FoundTheEnd at → is_waiting at ≡ false
 found_idle (found_message got) = refl
-found_idle (found_unclosed by) = refl
+found_idle (found_overwritten by) = refl
 found_idle (found_no_sender closing) = refl
 
 left_idle : {at : ReceiverAt} → HasLeft at → is_waiting at ≡ false

@@ -9,7 +9,7 @@ use Rattle.oneshot_machine.proofs.GrownLogs.{phase_from-snoc}
 use Rattle.oneshot_machine.proofs.EachPhase.{in_each_receiver_row, if_so}
 use Rattle.oneshot_machine.specs.declared.states.Op.{Op}
 use Rattle.oneshot_machine.specs.Noted.{saw}
-use Rattle.oneshot_machine.specs.Phases.{Share, none, Row, ReceiverAt, first, after_load, after_timeout, receiver_at, receiver_next, receiver_moves}
+use Rattle.oneshot_machine.specs.Phases.{Share, none, Row, ReceiverAt, untouched, after_load, after_timeout, receiver_at, receiver_next, receiver_moves}
 use Rattle.oneshot_machine.specs.Slots.{IsSlot, is_away, is_vacant, Held, away, vacant, held, Finds, finds, SlotChange, stays_away, stays_held, gives_thing, gets_thing}
 use Rattle.oneshot_drive.specs.BetweenCalls.{AtRest, Rests, rests_new, rests_open, rests_closed}
 use Rattle.oneshot_drive.specs.Grounds.{receiver_slots}
@@ -86,7 +86,7 @@ module _ {W : Type 0} (own : W → Type 0) where
       → WaitsBy own s → WaitsBy own next
   after_op {T} {P} s next {op} {word} did owned =
       changed {T = T} {P = P} s next (receiver_at s.log) {op = op} {word = word} refl
-      (ap receiver_at did.list ∙ phase_from-snoc receiver_next first s.log (op, saw op word)) did.finds did.handed
+      (ap receiver_at did.list ∙ phase_from-snoc receiver_next untouched s.log (op, saw op word)) did.finds did.handed
       did.gets owned
 
   -- with another waker in its slot, or none

@@ -7,14 +7,14 @@ use Rattle.oneshot_errors.specs.declared.try_recv.TryRecvError.{TryRecvError}
 use Rattle.oneshot_errors.specs.declared.try_recv.TryRecvError.TheVariants as Tried
 use Rattle.oneshot_drive.specs.BetweenCalls.{IsClosedAt, IsOpenAt, try_recv_reply}
 use Rattle.oneshot_drive.specs.Polls.{LeavesPolled, leaves_resolved, leaves_over, leaves_gone, leaves_uncopied, LeavesTried, tried_received, tried_resolved, tried_closed, tried_uncopied}
-use Rattle.oneshot_drive.specs.Polls.{StaysRegistered, is_registered, poll_reply, leaves_received as polled_received}
+use Rattle.oneshot_drive.specs.Polls.{StaysRegistered, is_registered, poll_reply, leaves_message}
 use Rattle.oneshot_machine.specs.Noted.{Noted}
 use Rattle.oneshot_machine.specs.Phases.{ReceiverAt, receiver_at}
 
 module _ {T : Type 0} where
   pub closed_polled : {at : ReceiverAt} (result : Poll (Result T RecvError)) → LeavesPolled (poll_reply result) at
       → result ≢ Pending → IsClosedAt at
-  closed_polled (Ready (Ok x)) polled_received ready = refl
+  closed_polled (Ready (Ok x)) leaves_message ready = refl
   closed_polled (Ready (Ok x)) leaves_resolved ready = refl
   closed_polled (Ready (Err e)) (leaves_over c) ready = refl
   closed_polled (Ready (Err e)) (leaves_gone c) ready = refl

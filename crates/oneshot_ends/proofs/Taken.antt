@@ -215,31 +215,31 @@ module _ {T : Type 0} {log next : List Noted} {before after : Option T} (by : Ta
         | inr closed ↦ absurd (not_closed closed)
       ]
 
-  takes : {E : Type 0} (result : Result T E) → has_found next ≡ (has_found log || is_answer result)
+  result_takes : {E : Type 0} (result : Result T E) → has_found next ≡ (has_found log || is_answer result)
       → (IsClosedAt (receiver_at log) → IsErr result) → IfOk result (λ x. after ≡ Some x) → Takes result before after
-  takes {E} (Ok x) grew closed had = (none_before (λ is_closed. not_error E x (closed is_closed)), had)
-  takes (Err e) grew closed had = takes_none grew
+  result_takes {E} (Ok x) grew closed had = (none_before (λ is_closed. not_error E x (closed is_closed)), had)
+  result_takes (Err e) grew closed had = takes_none grew
 
   pub tried_takes : (call : ReceiverStart) → begins call ≡ true → (result : Result T TryRecvError)
       → ReceiverGrew T call log next (try_recv_reply result)
       → (IsClosedAt (receiver_at log) → result ≡ Err E.Disconnected)
       → IfOk result (λ x. after ≡ Some x) → Takes result before after
   tried_takes call e result grew closed =
-      takes result (grew_found call e grew ∙ ap (λ b. has_found log || b) (told_tried result))
+      result_takes result (grew_found call e grew ∙ ap (λ b. has_found log || b) (told_tried result))
       (λ is_closed. is_error (closed is_closed))
 
   pub recv_takes : (call : ReceiverStart) → begins call ≡ true → (result : Result T RecvError)
       → ReceiverGrew T call log next (recv_reply result) → (IsClosedAt (receiver_at log) → IsErr result)
       → IfOk result (λ x. after ≡ Some x) → Takes result before after
   recv_takes call e result grew =
-      takes result (grew_found call e grew ∙ ap (λ b. has_found log || b) (told_recv result))
+      result_takes result (grew_found call e grew ∙ ap (λ b. has_found log || b) (told_recv result))
 
   pub timed_takes : (call : ReceiverStart) → begins call ≡ true → (result : Result T RecvTimeoutError)
       → ReceiverGrew T call log next (timed_reply result)
       → (IsClosedAt (receiver_at log) → result ≡ Err Timeouts.Disconnected)
       → IfOk result (λ x. after ≡ Some x) → Takes result before after
   timed_takes call e result grew closed =
-      takes result (grew_found call e grew ∙ ap (λ b. has_found log || b) (told_timed result))
+      result_takes result (grew_found call e grew ∙ ap (λ b. has_found log || b) (told_timed result))
       (λ is_closed. is_error (closed is_closed))
 
   pub poll_takes : (result : Poll (Result T RecvError)) → ReceiverGrew T RC.Poll log next (poll_reply result)

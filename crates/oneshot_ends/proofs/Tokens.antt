@@ -30,36 +30,36 @@ has taken (suc zero) at = subst (Has false _ 1) (some-injective _ _ at) taken_wa
 has _ _ at = absurd (some-ne-none _ (sym at))
 
 -- the split
-divides : {x : Bool} {vs : List Half} {id : ℕ} → Has x vs id Both
+divide_case : {x : Bool} {vs : List Half} {id : ℕ} → Has x vs id Both
     → TokenIs x (set vs id (Parking false) ++ Waking false ∷ [])
-divides undivided_has = to_come
+divide_case undivided_has = to_come
 
 pub halved : (id : ℕ) (v : Half) → v ≡ Both → Forks TokenIs id v (Parking false) (Waking false)
-halved id v is x views kept at = divides (subst (Has x views id) is (has kept id at))
+halved id v is x views kept at = divide_case (subst (Has x views id) is (has kept id at))
 
 -- a park that finds the token, or none
 abbrev pub MayTake : Half → Bool → Bool → Half → Type 0
 MayTake before was now after = (was ≡ true → took before ≡ false) × (after ≡ Parking (was || took before))
 
-takes : {x : Bool} {vs : List Half} {id : ℕ} {t : Bool} → Has x vs id (Parking t)
+take_case : {x : Bool} {vs : List Half} {id : ℕ} {t : Bool} → Has x vs id (Parking t)
     → (w : Half) × TokenIs false (set vs id w) × ((x ≡ true → t ≡ false) × (w ≡ Parking (x || t)))
-takes to_come_parking = (Parking false, to_come, (λ _. refl, refl))
-takes there_parking = (Parking true, taken, (λ _. refl, refl))
-takes taken_parking = (Parking true, taken, (λ e. absurd (cc), refl))
+take_case to_come_parking = (Parking false, to_come, (λ _. refl, refl))
+take_case there_parking = (Parking true, taken, (λ _. refl, refl))
+take_case taken_parking = (Parking true, taken, (λ e. absurd (cc), refl))
 
 pub can_take : (id : ℕ) (v : Half) → v ≡ Parking (took v) → Turns TokenIs id v (λ _. false) MayTake
-can_take id v is x views kept at = takes (subst (Has x views id) is (has kept id at))
+can_take id v is x views kept at = take_case (subst (Has x views id) is (has kept id at))
 
 -- the wake
 abbrev pub Gives : Half → Bool → Bool → Half → Type 0
 Gives before was now after = after ≡ Waking true
 
-gives : {x : Bool} {vs : List Half} {id : ℕ} → Has x vs id (Waking false)
+give_case : {x : Bool} {vs : List Half} {id : ℕ} → Has x vs id (Waking false)
     → (w : Half) × TokenIs true (set vs id w) × (w ≡ Waking true)
-gives to_come_waking = (Waking true, there, refl)
+give_case to_come_waking = (Waking true, there, refl)
 
 pub can_give : (id : ℕ) (v : Half) → v ≡ Waking false → Turns TokenIs id v (λ _. true) Gives
-can_give id v is x views kept at = gives (subst (Has x views id) is (has kept id at))
+can_give id v is x views kept at = give_case (subst (Has x views id) is (has kept id at))
 
 -- the waking half's number
 waking_number : {x : Bool} {vs : List Half} {id : ℕ} {gave : Bool} → Has x vs id (Waking gave) → id ≡ 1

@@ -1,14 +1,11 @@
 -- What a contract sees of an end: the channel that it belongs to, and the log of its operations on the word.
-use Rattle.std.specs.Prelude.{◌≡◌, ◌↔◌, ℕ, Bool, List, [], ◌∷◌, ◌++◌, ◌⊎◌, true, Option, Some, None, IsSomeAnd, IsTrue}
-use Rattle.std.specs.declared.time.Duration.{Duration}
-use Rattle.std.specs.declared.time.Instant.{Instant}
+use Rattle.std.specs.Prelude.{◌≡◌, ℕ, Bool, List, [], ◌∷◌, ◌++◌, ◌⊎◌, true, Option, Some, None, IsSomeAnd, IsTrue}
 use Rattle.atomic_table.specs.Seated.{TableId}
 use Rattle.futures.specs.declared.task.context.Context.{Context}
 use Rattle.futures.specs.declared.task.waker.Waker.{Waker}
 use Rattle.oneshot_machine.specs.declared.machine.Reply.{Reply}
 use Rattle.oneshot_machine.specs.declared.machine.Reply.TheVariants.{Refused}
 use Rattle.oneshot_machine.specs.declared.machine.receiver.ReceiverStart.{ReceiverStart}
-use Rattle.oneshot_machine.specs.declared.machine.receiver.ReceiverStart.TheVariants.{RecvTimeout}
 use Rattle.oneshot_machine.specs.declared.machine.sender.SenderCall.{SenderCall}
 use Rattle.oneshot_machine.specs.declared.machine.sender.SenderCall.TheVariants.{Send}
 use Rattle.oneshot_machine.specs.Called.{Form, stays, ReceiverCalled, SenderCalled}
@@ -24,7 +21,6 @@ use Rattle.oneshot_drive.specs.Polls.{is_registered}
 use Rattle.oneshot_word.specs.declared.any_waker.AnyWaker.{AnyWaker}
 use Rattle.oneshot_word.specs.declared.any_waker.AnyWaker.TheVariants.{Task}
 use Rattle.oneshot_word.specs.Side.{Side}
-use Rattle.oneshot_ends.specs.Deadlines.{HasEnd}
 use Rattle.oneshot_ends.specs.OwnWakers.{IsCopyFor}
 
 -- a waker in a run; contracts leave open which one
@@ -88,15 +84,6 @@ pub record ReceiverGrew (T : Type 0) (call : ReceiverStart) (before after : List
   pub run : List (Event T UnnamedWaker)
   pub is_run : Run receiver_step receiver_row (receiver_start call) run reply
   pub list : after ≡ before ++ words run
-
--- The same of a receive with this timeout after this reading of the clock, which may have failed. It waits without an
--- end exactly if no instant can hold the sum. Public clauses name no reading: a receive without an end has the log and
--- the reply of one with an end, so they state `RecvTimeout true` of every timeout (`says_no_less` of the examples).
-pub record TimeoutRan (T : Type 0) (timeout : Duration) (reading : Option Instant) (before after : List Noted)
-    (reply : Reply) : Type 0 where
-  pub has_end : Bool
-  pub held : IsTrue has_end ↔ HasEnd timeout reading
-  pub grew : ReceiverGrew T (RecvTimeout has_end) before after reply
 
 -- The log of a receiver or a future between two calls is that of some calls that have returned.
 abbrev pub HasCalls : (T : Type 0) → Form → List Noted → Type 0

@@ -3,7 +3,7 @@ use Rattle.std.specs.Prelude.{◌≡◌, ⊤, ℕ, Bool, true, false, List, [], 
 use Rattle.atomic_table.specs.Seated.{TableId}
 use Rattle.oneshot_machine.specs.declared.machine.Step.TheVariants.{Word}
 use Rattle.oneshot_machine.specs.Logs.{Event}
-use Rattle.oneshot_machine.specs.Phases.{fresh, ReceiverAt, first, receiver_owns, Slots}
+use Rattle.oneshot_machine.specs.Phases.{fresh, ReceiverAt, untouched, receiver_owns, Slots}
 use Rattle.oneshot_machine.specs.Slots.{Held, away, vacant, held, IsSlot}
 use Rattle.oneshot_machine.specs.Noted.{Noted}
 use Rattle.oneshot_drive.specs.Grounds.{GroundState, sender_slots, receiver_slots}
@@ -77,4 +77,4 @@ module _ {T W P : Type 0} where
   IsNewSender = IsNew (sender_slots fresh)
 
   abbrev pub IsNewReceiver : Side T W P → Type 0
-  IsNewReceiver = IsNew (receiver_slots first)
+  IsNewReceiver = IsNew (receiver_slots untouched)

@@ -3,15 +3,15 @@
 -- call appends the operations of one run of its table. `Grounds` shows an end's side of the shared table as the state
 -- of a ground, so that what the drivers prove of any ground holds of real ends.
 -- Of these files the contracts of the public calls name `Ends` and `Taken` alone. `Taken` states which message a
--- receiver took. `Ends` takes `HasEnd` from `Deadlines`, which states when a deadline is over, and `IsCopyFor` from
--- `OwnWakers`. Read beneath them:
+-- receiver took. `Ends` takes `IsCopyFor` from `OwnWakers`. Read beneath them:
 -- 1. The grounds: `Grounds`, and for a poll `Polling` and `Copies`. `Keeps` states what a receiver's ground keeps from
 -- step to step (`Stays` has lemmas about this), and `Invariants` what always holds between two calls.
 -- 2. The wakers: `Tokens` is the rule of a parker's token, `Woken` states what a used waker leaves behind, and
 -- `OwnWakers` whose wakers a receiver gives.
 -- 3. The laws of both ends together: `Moments` defines a moment at which both are seen, and `NoLostWakeup` states the
 -- law.
--- 4. The wait: `Patience` states how long a receive spins and sleeps. `PatienceExamples` and `DeadlineExamples` have
+-- 4. The wait: `Deadlines` states when a deadline is over, and what a receive with a timeout appends to the log.
+-- `Patience` states how long a receive spins and sleeps. `PatienceExamples` and `DeadlineExamples` have
 -- examples of types that no other crate can name.
 pub mod Grounds
 pub mod Polling

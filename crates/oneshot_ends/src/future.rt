@@ -17,7 +17,7 @@ ghost use Rattle.oneshot_ends.specs.Grounds.{state_of};
 ghost use Rattle.oneshot_ends.specs.Taken.{TookAsFound, Takes, TakesReady};
 
 use crate::copies::Copies;
-use crate::ground::{Polling, SharedReceiver};
+use crate::ground::{Polling, ReceiverBackend};
 use crate::token::WakingHalf;
 use futures::Future;
 use futures::task::{Context, Poll, Source, Waker};
@@ -46,7 +46,7 @@ use std::marker::{Model, PhantomData};
 ///
 /// It may go to another thread between two polls where `T` and `Rt` are `Send`. Two threads may not share it.
 pub struct AsyncReceiver<T, Rt, P: Promise<T> = ()> {
-    pub(crate) ground: SharedReceiver<T, WakingHalf, Waker, P>,
+    pub(crate) ground: ReceiverBackend<T, WakingHalf, Waker, P>,
     source: Source,
     // Copies of wakers that are not in the channel.
     copies: Copies<Waker>,
@@ -75,7 +75,7 @@ impl<T, Rt, P: Promise<T>> Model for AsyncReceiver<T, Rt, P> {
 
 impl<T, Rt, P: Promise<T>> AsyncReceiver<T, Rt, P> {
     pub(crate) fn new(
-        ground: SharedReceiver<T, WakingHalf, Waker, P>,
+        ground: ReceiverBackend<T, WakingHalf, Waker, P>,
         source: Source,
         rt: Rt,
     ) -> AsyncReceiver<T, Rt, P>
@@ -112,7 +112,7 @@ impl<T: Drop, Rt: Drop, P: Promise<T>> AsyncReceiver<T, Rt, P> {
     /// Receives the message if it is there. It never blocks and does not allocate. The Rust crate has no
     /// `try_recv` of a future: this one follows that of a `Receiver`.
     ///
-    /// After `Empty` a registered task is still registered, as clause `registered` states, by the same waker
+    /// After `Empty` a registered task is still registered, as clause `stays_registered` states, by the same waker
     /// (`same_waker`). The law `no_wakeup_is_lost` states that a later `send`, or the sender's drop, then uses it.
     ///
     /// - `Ok`: the message. The future is closed from then on.
@@ -128,7 +128,7 @@ impl<T: Drop, Rt: Drop, P: Promise<T>> AsyncReceiver<T, Rt, P> {
         ensures closes { result ≢ Err Tried.Empty → IsClosed self.new.log }
         ensures stays_open { result ≡ Err Tried.Empty → IsOpen self.new.log }
         ensures stays_closed { IsClosed self.old.log → result ≡ Err Tried.Disconnected }
-        ensures registered { StaysRegistered result (receiver_at self.old.log) (receiver_at self.new.log) }
+        ensures stays_registered { StaysRegistered result (receiver_at self.old.log) (receiver_at self.new.log) }
         ensures same_waker { result ≡ Err Tried.Empty → self.new.registered ≡ self.old.registered }
         ensures bounded { GrewWithin (receiver_bound C.AsyncTryRecv) self.old.log self.new.log }
         ensures promise { IfOk result (λ message. P.keeps self.old.channel.about message) }

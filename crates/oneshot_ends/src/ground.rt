@@ -8,7 +8,7 @@ mod task;
 mod thread;
 
 pub(crate) use error::Refused;
-pub(crate) use receiver::{ChannelReceiver, SharedReceiver};
+pub(crate) use receiver::{ChannelReceiver, ReceiverBackend};
 pub(crate) use sender::{SenderBackend, Unsent};
 pub(crate) use task::Polling;
 pub(crate) use thread::Blocking;

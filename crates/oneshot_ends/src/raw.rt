@@ -9,7 +9,8 @@ use std::marker::Model;
 
 /// An opaque sender, which `Sender::from_raw` turns back. The Rust crate has a pointer here.
 ///
-/// Dropping it drops the sender: it wakes a waiting receiver, and no message comes. The drop never blocks.
+/// Dropping it drops the sender: it wakes a waiting receiver, and no message comes. The drop never blocks. To wake a
+/// task, it takes the lock of the queue of that task's executor, as `send` does.
 ///
 /// A contract sees it as the sender that it owns. It may go to another thread where `T` is `Send`.
 pub struct RawSender<T, P: Promise<T> = ()> {

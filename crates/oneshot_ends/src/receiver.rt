@@ -8,14 +8,15 @@ ghost use Rattle.oneshot_machine.specs.declared.machine.receiver.ReceiverStart.T
 ghost use Rattle.oneshot_machine.specs.Counts.{receiver_bound, GrewWithin};
 ghost use Rattle.oneshot_machine.specs.Phases.{receiver_at};
 ghost use Rattle.oneshot_drive.specs.BetweenCalls.{Leaves, try_recv_reply, recv_reply, timed_reply};
-ghost use Rattle.oneshot_ends.specs.Ends.{ReceiverGrew, TimeoutRan, IsClosed, IsOpen, channel_at};
+ghost use Rattle.oneshot_ends.specs.Deadlines.{TimeoutRan};
+ghost use Rattle.oneshot_ends.specs.Ends.{ReceiverGrew, IsClosed, IsOpen, channel_at};
 ghost use Rattle.oneshot_ends.specs.Grounds.{IsNewReceiver};
 ghost use Rattle.oneshot_ends.specs.OwnWakers.{IsHalfOf};
 ghost use Rattle.oneshot_ends.specs.Taken.{Takes};
 
 use crate::deadline::{Deadline, Reading, read};
 use crate::future::AsyncReceiver;
-use crate::ground::{Blocking, ChannelReceiver, SharedReceiver};
+use crate::ground::{Blocking, ChannelReceiver, ReceiverBackend};
 use crate::message::Message;
 use crate::patience::Patience;
 use crate::token::{ParkingHalf, WakingHalf};
@@ -46,7 +47,7 @@ use std::time::{Clock, Duration, Instant};
 ///
 /// It may go to another thread where `T` and `Rt` are `Send`. Two threads may not share it.
 pub struct Receiver<T, Rt, P: Promise<T> = ()> {
-    pub(crate) ground: SharedReceiver<T, WakingHalf, Waker, P>,
+    pub(crate) ground: ReceiverBackend<T, WakingHalf, Waker, P>,
     // The parker's waking half, unless the sender took it to wake the receiver.
     hand: Option<ChannelWaker>,
     // A parker is not `Sync`, so only one thread at a time has the receiver.
@@ -85,7 +86,7 @@ impl<T, Rt, P: Promise<T>> Receiver<T, Rt, P> {
         ensures took { result.took ≡ side.passed }
     {
         Receiver {
-            ground: SharedReceiver::new(side),
+            ground: ReceiverBackend::new(side),
             hand: Some(half),
             parker,
             source: Source::new(),

@@ -53,8 +53,8 @@ runs_another : {now : Scene ℕ} → HasRun sends tries (M.Sender ∷ []) (E.Idl
 runs_another run = let made = ap (option_map (λ (t : Entry × World). t.0)) (is_run run) in cc made
 
 -- the sender's step puts the message into its cell
-stays : HasRun sends tries (M.Sender ∷ []) (writes ∷ []) (record before { count = 1 }) → ⊥
-stays run =
+never_stays : HasRun sends tries (M.Sender ∷ []) (writes ∷ []) (record before { count = 1 }) → ⊥
+never_stays run =
     let last : Some (Some P.InCell) ≡ Some ((last_of before.world run.worlds).state.message) =
     ap (option_map (λ (t : Entry × World). t.1.state.message)) (is_run run) in
     let here : (last_of before.world run.worlds).state.message ≡ Some P.NotSent =
@@ -75,12 +75,12 @@ pub steps_that_are_not : StepsThatAreNot
 steps_that_are_not =
     record {
       runs_another = runs_another;
-      stays_where_it_was = stays;
+      stays_where_it_was = never_stays;
       counts_none = counts;
       has_another = λ run. let is : Some 8 ≡ Some 7 = run.message in cc is;
       has_none = λ run. let is : None ≡ Some 7 = run.message in cc is;
       goes_on_idle = λ goes. runs_another (goes sends tries [] [] begins);
-      goes_nowhere = λ goes. stays (goes sends tries [] [] begins);
+      goes_nowhere = λ goes. never_stays (goes sends tries [] [] begins);
       goes_uncounted = λ goes. counts (goes sends tries [] [] begins);
       goes_by_the_other = λ goes. by_the_other (goes sends tries [] [] begins);
     }

@@ -103,9 +103,10 @@ lone_calls (m ∷ ms) lone p =
 nameless : Nameless lone_law
 nameless = nameless_of lone_law refl (λ k n g. (refl, refl)) (λ n g a b. (refl, refl))
 
-explored : LawExplored lone_law
-explored = record { found = all_past lone_law; all = refl }
+lone_explored : LawExplored lone_law
+lone_explored = record { found = all_past lone_law; all = refl }
 
 pub lone_calls_right : {T : Type 0} → EachRun T are_lone_calls_right
 lone_calls_right =
-    holds_by lone_law nameless (passed lone_law refl explored) are_lone_calls_right (λ place ms. lone_calls ms Nobody)
+    holds_by lone_law nameless (passed lone_law refl lone_explored) are_lone_calls_right
+    (λ place ms. lone_calls ms Nobody)

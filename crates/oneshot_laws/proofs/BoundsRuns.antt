@@ -5,7 +5,8 @@ use Rattle.oneshot_laws.proofs.Names.{is_bounded, are_calls_bounded}
 use Rattle.oneshot_laws.proofs.PastLaws.{Passes, Nameless, of_call, LawExplored, all_past, passed, holds_by}
 use Rattle.oneshot_laws.proofs.PastViews.{past_of}
 use Rattle.oneshot_laws.proofs.ProductRuns.{EachRun}
-use Rattle.oneshot_laws.proofs.Budgets.{Left, Resting, Unbounded, Counted, counted, begun, under_way, is_resting, can, spend, may_make, spent, left_then, Budget, left_by, left_at, fits, budget_then}
+use Rattle.oneshot_laws.proofs.Budgets.{Allowance, Resting, Unbounded, Counted, counted, begun, under_way, is_resting, can, spend, may_make, spent, left_then, Budget}
+use Rattle.oneshot_laws.proofs.Budgets.{left_by, left_at, fits, budget_then}
 use Rattle.oneshot_laws.proofs.Budgets.{at_rest, budget_law}
 
 -- one more mark of a call
@@ -20,11 +21,11 @@ pay test (suc n) m later h k =
     ] k
 
 -- what is left of a call covers the call's marks from here on
-abbrev covers : Left → List Mark → Bool
+abbrev covers : Allowance → List Mark → Bool
 covers (Counted n) own = at_most n operates own
 covers _ own = true
 
-abbrev stands : Left → List Mark → Bool
+abbrev stands : Allowance → List Mark → Bool
 stands Resting [] = true
 stands Resting (m ∷ later) = covers (begun m.call) (m ∷ later)
 stands Unbounded own = true
@@ -33,7 +34,7 @@ stands (Counted n) own = at_most n operates own
 pub no_more : (n : ℕ) (test : Mark → Bool) → at_most n test [] ≡ true
 no_more n test = refl
 
-covered : (left : Left) (m : Mark) (later : List Mark) → may_make left m.entry ≡ true
+covered : (left : Allowance) (m : Mark) (later : List Mark) → may_make left m.entry ≡ true
     → stands (until_reply m.entry.reply (spent left m.entry) Resting) later ≡ true
     → covers left (m ∷ until_reply m.entry.reply later []) ≡ true
 covered Resting m later h k = refl
@@ -45,7 +46,7 @@ covered (Counted n) m later h k =
       | Some r ↦ λ k. pay operates n m [] h (no_more (spend n (operates m)) operates)
     ] k
 
-stood : (left : Left) (m : Mark) (later : List Mark) → covers (under_way m.call left) (m ∷ later) ≡ true
+stood : (left : Allowance) (m : Mark) (later : List Mark) → covers (under_way m.call left) (m ∷ later) ≡ true
     → stands left (m ∷ later) ≡ true
 stood Resting m later h = h
 stood Unbounded m later h = refl
@@ -77,7 +78,7 @@ either Receiver Sender m ms x h k = k
 either Receiver Receiver m ms x h k =
     stood x.receiver m (until_reply m.entry.reply (call_marks Receiver ms) []) (here Receiver m ms x h k)
 
-nothing_left : (left : Left) → stands left [] ≡ true
+nothing_left : (left : Allowance) → stands left [] ≡ true
 nothing_left Resting = refl
 nothing_left Unbounded = refl
 nothing_left (Counted n) = refl
@@ -93,7 +94,7 @@ within : (bound : Option ℕ) (own : List Mark) → covers (counted bound) own �
 within None own h = refl
 within (Some limit) own h = h
 
-begins_at_rest : (begins : Bool) (call : Call) (left : Left) (own : List Mark)
+begins_at_rest : (begins : Bool) (call : Call) (left : Allowance) (own : List Mark)
     → is_same_flag begins (is_resting left) ≡ true → covers (under_way call left) own ≡ true
     → (not begins || is_within (bound_of call) own) ≡ true
 begins_at_rest false call left own h k = refl
@@ -121,28 +122,28 @@ each (m ∷ ms) x p =
 
 -- the law reads no name and no number
 module _ (k : Classes) where
-  may_as : (left : Left) (e : Made) → may_make left (as_made k e) ≡ may_make left e
+  may_as : (left : Allowance) (e : Made) → may_make left (as_made k e) ≡ may_make left e
   may_as Resting e = refl
   may_as Unbounded e = refl
   may_as (Counted n) e = refl
 
-  spent_as : (left : Left) (e : Made) → spent left (as_made k e) ≡ spent left e
+  spent_as : (left : Allowance) (e : Made) → spent left (as_made k e) ≡ spent left e
   spent_as Resting e = refl
   spent_as Unbounded e = refl
   spent_as (Counted n) e = refl
 
-  under_as : (call : Call) (left : Left) → under_way (as_call k call) left ≡ under_way call left
+  under_as : (call : Call) (left : Allowance) → under_way (as_call k call) left ≡ under_way call left
   under_as call Resting = of_call k begun (λ a b. refl) call
   under_as call Unbounded = refl
   under_as call (Counted n) = refl
 
-  fits_as : (left : Left) (begins : Bool) (call : Call) (e : Made)
+  fits_as : (left : Allowance) (begins : Bool) (call : Call) (e : Made)
       → fits left begins (as_call k call) (as_made k e) ≡ fits left begins call e
   fits_as left begins call e =
       ap (λ l. is_same_flag begins (is_resting left) && may_make l (as_made k e)) (under_as call left)
       ∙ ap (λ b. is_same_flag begins (is_resting left) && b) (may_as (under_way call left) e)
 
-  then_as : (left : Left) (call : Call) (e : Made)
+  then_as : (left : Allowance) (call : Call) (e : Made)
       → left_then left (as_call k call) (as_made k e) ≡ left_then left call e
   then_as left call e =
       ap (λ l. until_reply e.reply (spent l (as_made k e)) Resting) (under_as call left)
@@ -156,9 +157,10 @@ nameless =
       sees_same = λ k n g. ap (λ left. left_at g.entry.side left n) (then_as k (left_by g.entry.side n) g.call g.entry);
     }
 
-explored : LawExplored budget_law
-explored = record { found = all_past budget_law; all = refl }
+budget_explored : LawExplored budget_law
+budget_explored = record { found = all_past budget_law; all = refl }
 
 pub calls_bounded : {T : Type 0} → EachRun T are_calls_bounded
 calls_bounded =
-    holds_by budget_law nameless (passed budget_law refl explored) are_calls_bounded (λ place ms. each ms at_rest)
+    holds_by budget_law nameless (passed budget_law refl budget_explored) are_calls_bounded
+    (λ place ms. each ms at_rest)

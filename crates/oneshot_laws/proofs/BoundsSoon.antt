@@ -178,10 +178,10 @@ nameless =
       sees_same = λ k x g. rest_as k g.entry.side g.entry x;
     }
 
-explored : LawExplored rest_law
-explored = record { found = all_past rest_law; all = refl }
+rest_explored : LawExplored rest_law
+rest_explored = record { found = all_past rest_law; all = refl }
 
 pub soon_answered : {T : Type 0} → EachRun T is_soon_answered
 soon_answered =
-    holds_by rest_law nameless (passed rest_law refl explored) is_soon_answered
+    holds_by rest_law nameless (passed rest_law refl rest_explored) is_soon_answered
     (λ place ms. soon_after_last ms (whole false))

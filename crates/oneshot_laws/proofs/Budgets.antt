@@ -7,24 +7,24 @@ use Rattle.oneshot_laws.proofs.PastViews.{PastView}
 use Rattle.oneshot_laws.proofs.Product.{no_names}
 
 -- what an end's call has left: no call is under way, or it has no bound, or so many operations
-pub data Left : Type 0 where
-  Resting : Left
-  Unbounded : Left
-  Counted : ℕ → Left
+pub data Allowance : Type 0 where
+  Resting : Allowance
+  Unbounded : Allowance
+  Counted : ℕ → Allowance
 
 -- what a call that begins has left, by its bound
-abbrev pub counted : Option ℕ → Left
+abbrev pub counted : Option ℕ → Allowance
 counted None = Unbounded
 counted (Some limit) = Counted limit
 
-abbrev pub begun : Call → Left
+abbrev pub begun : Call → Allowance
 begun call = counted (bound_of call)
 
-abbrev pub under_way : Call → Left → Left
+abbrev pub under_way : Call → Allowance → Allowance
 under_way call Resting = begun call
 under_way call left = left
 
-abbrev pub is_resting : Left → Bool
+abbrev pub is_resting : Allowance → Bool
 is_resting Resting = true
 is_resting _ = false
 
@@ -36,32 +36,32 @@ abbrev pub spend : ℕ → Bool → ℕ
 spend zero b = zero
 spend (suc n) b = if b then n else suc n
 
-abbrev pub may_make : Left → Made → Bool
+abbrev pub may_make : Allowance → Made → Bool
 may_make (Counted n) e = can n (is_word e.step)
 may_make _ e = true
 
-abbrev pub spent : Left → Made → Left
+abbrev pub spent : Allowance → Made → Allowance
 spent (Counted n) e = Counted (spend n (is_word e.step))
 spent left e = left
 
-abbrev pub left_then : Left → Call → Made → Left
+abbrev pub left_then : Allowance → Call → Made → Allowance
 left_then left call e = until_reply e.reply (spent (under_way call left) e) Resting
 
 -- what both ends have left
 pub record Budget : Type 0 where
-  pub sender : Left
-  pub receiver : Left
+  pub sender : Allowance
+  pub receiver : Allowance
 
-abbrev pub left_by : End → Budget → Left
+abbrev pub left_by : End → Budget → Allowance
 left_by Sender x = x.sender
 left_by Receiver x = x.receiver
 
-abbrev pub left_at : End → Left → Budget → Budget
+abbrev pub left_at : End → Allowance → Budget → Budget
 left_at Sender left x = record { sender = left; receiver = x.receiver }
 left_at Receiver left x = record { sender = x.sender; receiver = left }
 
 -- a call begins exactly when none is under way, and keeps to what it has left
-abbrev pub fits : Left → Bool → Call → Made → Bool
+abbrev pub fits : Allowance → Bool → Call → Made → Bool
 fits left begins call e = is_same_flag begins (is_resting left) && may_make (under_way call left) e
 
 abbrev goes_on_within : Budget → PastView → Bool
@@ -70,22 +70,22 @@ goes_on_within x g = fits (left_by g.entry.side x) g.begins g.call g.entry
 abbrev pub budget_then : Budget → PastView → Budget
 budget_then x g = left_at g.entry.side (left_then (left_by g.entry.side x) g.call g.entry) x
 
-abbrev left_parts : Left → Option (Option ℕ)
+abbrev left_parts : Allowance → Option (Option ℕ)
 left_parts Resting = None
 left_parts Unbounded = Some None
 left_parts (Counted n) = Some (Some n)
 
-abbrev left_of : Option (Option ℕ) → Left
+abbrev left_of : Option (Option ℕ) → Allowance
 left_of None = Resting
 left_of (Some None) = Unbounded
 left_of (Some (Some n)) = Counted n
 
-pub left_back : (left : Left) → left_of (left_parts left) ≡ left
+pub left_back : (left : Allowance) → left_of (left_parts left) ≡ left
 left_back Resting = refl
 left_back Unbounded = refl
 left_back (Counted n) = refl
 
-abbrev lefts : Coding Left
+abbrev lefts : Coding Allowance
 lefts = by_parts left_parts left_of left_back (or_none (or_none (numbers_below 5)))
 
 abbrev pub at_rest : Budget

@@ -9,7 +9,7 @@ use Rattle.oneshot_machine.specs.declared.machine.sender.SenderCall.TheVariants 
 use Rattle.oneshot_world.specs.declared.trace.Entry.TheVariants.{Idle, Made as Made_entry}
 use Rattle.oneshot_laws.proofs.PastViews.{PastView, past_of, past_at, pasts}
 use Rattle.oneshot_laws.proofs.HistoryReader.{kind, Watch, Reader, due, hit, hits, owes_then, object_by, watch_at, has_reply, accepts_call, reads}
-use Rattle.oneshot_laws.proofs.HistoryOwed.{Accepted, Goes_on, answer_from, answer_pays, pays_in, answer_says, says_in}
+use Rattle.oneshot_laws.proofs.HistoryOwed.{AcceptedFrom, Goes_on, answer_from, answer_pays, pays_in, answer_says, says_in}
 use Rattle.oneshot_laws.proofs.Product.{left_after}
 use Rattle.oneshot_laws.proofs.HistoryEntries.{any_more, owed_is, FollowsAt, EntryRight}
 use Rattle.oneshot_laws.proofs.HistoryCalls.{local_right}
@@ -100,7 +100,7 @@ past_with e call begins last o next =
 
 abbrev Claim : List Entry → Type 0
 Claim es =
-    (m : Reader) (s r : Reading) (n : ℕ) → Follows m s r → Accepted m s.left r.left es
+    (m : Reader) (s r : Reading) (n : ℕ) → Follows m s r → AcceptedFrom m s.left r.left es
     → AllRight (marks_from s r n m.object es)
     × (map past_of (marks_from s r n m.object es) ≡ pasts m s.left r.left es)
 

@@ -8,14 +8,14 @@ use Rattle.oneshot_laws.proofs.HistoryReader.{histories, Kind, Acts_first, Recei
 use Rattle.oneshot_laws.proofs.HistoryReader.{may_owe, has_reply, accepts_as, accepts_call, accepts, reads, hits}
 use Rattle.oneshot_laws.proofs.Product.{Accepts, left_after}
 
-abbrev pub Accepted : Reader → Unanswered → Unanswered → List Entry → Type 0
-Accepted m s r entries = Accepts histories m s r entries
+abbrev pub AcceptedFrom : Reader → Unanswered → Unanswered → List Entry → Type 0
+AcceptedFrom m s r entries = Accepts histories m s r entries
 
 -- an entry of this end is accepted, and so are those after it
 abbrev pub Goes_on : End → Made → List Entry → Reader → Unanswered → Unanswered → Type 0
 Goes_on d e es m s r =
     (accepts d (call_under_way (by_end d s r)) e m ≡ true)
-    × Accepted (reads d (call_under_way (by_end d s r)) e m) (left_after d Sender e.reply s)
+    × AcceptedFrom (reads d (call_under_way (by_end d s r)) e m) (left_after d Sender e.reply s)
     (left_after d Receiver e.reply r) es
 
 -- a call's reply from an entry on, by the end's later entries
@@ -67,7 +67,7 @@ paid (Some r) later y now after = now
 
 abbrev Pays_in : End → List Entry → Reply → Type 0
 Pays_in d es y =
-    (m : Reader) (s r : Unanswered) → (watch_at d m).owes ≡ Some y → Accepted m s r es
+    (m : Reader) (s r : Unanswered) → (watch_at d m).owes ≡ Some y → AcceptedFrom m s r es
     → agrees (reply_among (to_reply d es)) (Some y) ≡ true
 
 -- the reply from an entry on at which it is owed
@@ -142,7 +142,7 @@ said call (Some r) later now after h = now r refl h
 
 abbrev Says_in : End → List Entry → Call → Type 0
 Says_in d es call =
-    (m : Reader) (s r : Unanswered) → call_under_way (by_end d s r) ≡ call → Accepted m s r es
+    (m : Reader) (s r : Unanswered) → call_under_way (by_end d s r) ≡ call → AcceptedFrom m s r es
     → is_nothing_yet (reply_among (to_reply d es)) ≡ true
     → agrees (reply_among (to_reply d es)) (nothing_yet_of call) ≡ true
 

@@ -183,20 +183,20 @@ abbrev read_to : End → Object → Watch → Reader → Reader
 read_to Sender o x m = record { object = o; sender = x; receiver = m.receiver }
 read_to Receiver o x m = record { object = o; sender = m.sender; receiver = x }
 
-reads_alike : (k : Classes) (side : End) (call : Call) (e : Made) (m : Reader)
+reads_by_class : (k : Classes) (side : End) (call : Call) (e : Made) (m : Reader)
     → reads side (as_call k call) (as_made k e) m ≡ reads side call e m
-reads_alike k Sender (Poll number) e m =
+reads_by_class k Sender (Poll number) e m =
     ap (λ o. read_to Sender o (watch_then (Poll number) e m.object m.sender) m)
     (object_as k (hits Receives e m.sender) number m.object)
-reads_alike k Sender (Of_sender SC.Send) e m = refl
-reads_alike k Sender (Of_receiver RC.Recv) e m = refl
-reads_alike k Sender _ e m = refl
-reads_alike k Receiver (Poll number) e m =
+reads_by_class k Sender (Of_sender SC.Send) e m = refl
+reads_by_class k Sender (Of_receiver RC.Recv) e m = refl
+reads_by_class k Sender _ e m = refl
+reads_by_class k Receiver (Poll number) e m =
     ap (λ o. read_to Receiver o (watch_then (Poll number) e m.object m.receiver) m)
     (object_as k (hits Receives e m.receiver) number m.object)
-reads_alike k Receiver (Of_sender SC.Send) e m = refl
-reads_alike k Receiver (Of_receiver RC.Recv) e m = refl
-reads_alike k Receiver _ e m = refl
+reads_by_class k Receiver (Of_sender SC.Send) e m = refl
+reads_by_class k Receiver (Of_receiver RC.Recv) e m = refl
+reads_by_class k Receiver _ e m = refl
 
 pub histories_nameless : NamelessReader histories
-histories_nameless = record { accepts_same = accepts_alike; reads_same = reads_alike }
+histories_nameless = record { accepts_same = accepts_alike; reads_same = reads_by_class }

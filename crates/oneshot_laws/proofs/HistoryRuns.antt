@@ -5,22 +5,23 @@ use Rattle.oneshot_laws.proofs.HistoryReader.{new_reader, new_watch, histories, 
 use Rattle.oneshot_laws.proofs.HistoryEntries.{FollowsAt}
 use Rattle.oneshot_laws.proofs.HistoryAccepted.{MarksRight, all_right, legal}
 use Rattle.oneshot_laws.proofs.PastViews.{pasts}
-use Rattle.oneshot_laws.proofs.HistoryOwed.{Accepted}
+use Rattle.oneshot_laws.proofs.HistoryOwed.{AcceptedFrom}
 use Rattle.oneshot_laws.proofs.Product.{Explored, all_products, alike}
 use Rattle.oneshot_laws.proofs.ProductRuns.{all_classed, accepted_run}
 
-explored : Explored histories
-explored = record { found = all_products histories; all = refl }
+histories_explored : Explored histories
+histories_explored = record { found = all_products histories; all = refl }
 
 new_follows : (left : Unanswered) → FollowsAt (call_under_way left) new_watch []
 new_follows left = record { begun = refl; acted = refl; worked = refl }
 
 run_accepted : {T : Type 0} (s : SenderScript T) (r : ReceiverScript) (worlds : List World) (moves : List Move)
     (entries : List Entry) → IsRun (opening s r) worlds moves entries
-    → Accepted new_reader (opening s r).sender (opening s r).receiver entries
+    → AcceptedFrom new_reader (opening s r).sender (opening s r).receiver entries
 run_accepted s r worlds moves entries is_run =
     alike histories histories_nameless all_alike entries new_reader (opening s r).sender (opening s r).receiver
-    (accepted_run histories all_alike (all_classed histories refl) explored s r worlds moves entries refl is_run)
+    (accepted_run histories all_alike (all_classed histories refl) histories_explored s r worlds moves entries refl
+    is_run)
 
 -- the marks of a run are right, and their pasts are those that the reader sees
 pub marks_run : {T : Type 0} (s : SenderScript T) (r : ReceiverScript) (worlds : List World) (moves : List Move)

@@ -17,8 +17,8 @@ uses g = is_word g.entry.step || is_on_a_cell g.entry.step || is_free g.entry.st
 abbrev is_freeing : PastView → Bool
 is_freeing g = is_free g.entry.step
 
-abbrev lets_go : PastView → Bool
-lets_go g = is_freeing g || (g.last && is_here (other g.entry.side) g.object)
+abbrev gives_up : PastView → Bool
+gives_up g = is_freeing g || (g.last && is_here (other g.entry.side) g.object)
 
 -- only a holder uses the block, and only the last one frees it
 abbrev is_used_by_holder : Holders → PastView → Bool
@@ -28,8 +28,8 @@ is_used_by_holder h g =
 abbrev then_held : Holders → PastView → Holders
 then_held h g =
     record {
-      sender = h.sender && not (by_end g.entry.side (lets_go g) false);
-      receiver = h.receiver && not (by_end g.entry.side false (lets_go g));
+      sender = h.sender && not (by_end g.entry.side (gives_up g) false);
+      receiver = h.receiver && not (by_end g.entry.side false (gives_up g));
     }
 
 abbrev holdings : Coding Holders
@@ -48,15 +48,15 @@ held_law =
           both_hold;
     }
 
-held : (ms : List Mark) (h : Holders) → Passes held_law h (map past_of ms) → is_held h ms ≡ true
-held [] h p = refl
-held (m ∷ ms) h p = both _ _ p.0 (held ms _ p.1)
+held_by_marks : (ms : List Mark) (h : Holders) → Passes held_law h (map past_of ms) → is_held h ms ≡ true
+held_by_marks [] h p = refl
+held_by_marks (m ∷ ms) h p = both _ _ p.0 (held_by_marks ms _ p.1)
 
 held_nameless : Nameless held_law
 held_nameless = nameless_of held_law refl (λ k n g. (refl, refl)) (λ n g a b. (refl, refl))
 
 held_run : {T : Type 0} → Passed held_law T → EachRun T (is_held both_hold)
-held_run each = holds_by held_law held_nameless each (is_held both_hold) (λ place ms. held ms both_hold)
+held_run each = holds_by held_law held_nameless each (is_held both_hold) (λ place ms. held_by_marks ms both_hold)
 
 -- nothing uses the block after a free
 abbrev leaves_alone : PastView → Bool

@@ -16,12 +16,12 @@ stays state g = false
 abbrev pub put_law : Law Bool
 put_law = record { coding = flags; passes = puts; sees = stays; names = no_names; first = λ place. false }
 
-put : (ms : List Mark) (state : Bool) → Passes put_law state (map past_of ms) → is_message_put ms ≡ true
-put [] state p = refl
-put (m ∷ ms) state p = both _ _ p.0 (put ms false p.1)
+put_by_marks : (ms : List Mark) (state : Bool) → Passes put_law state (map past_of ms) → is_message_put ms ≡ true
+put_by_marks [] state p = refl
+put_by_marks (m ∷ ms) state p = both _ _ p.0 (put_by_marks ms false p.1)
 
 nameless : Nameless put_law
 nameless = nameless_of put_law refl (λ k n g. (refl, refl)) (λ n g a b. (refl, refl))
 
 pub message_put : {T : Type 0} → Passed put_law T → EachRun T is_message_put
-message_put each = holds_by put_law nameless each is_message_put (λ place ms. put ms false)
+message_put each = holds_by put_law nameless each is_message_put (λ place ms. put_by_marks ms false)

@@ -17,19 +17,20 @@ use Rattle.oneshot_laws.proofs.Product.{no_names}
 abbrev moves_of : List Mark → List (Place × Place)
 moves_of ms = filter_map (λ m. m.entry.message) ms
 
-shown : (es : List Entry) (s r : Reading) (n : ℕ) (o : Object) → message_moves es ≡ moves_of (marks_from s r n o es)
-shown [] s r n o = refl
-shown (Idle side ∷ es) s r n o = shown es s r (n + 1) o
-shown (Made_entry e ∷ es) s r n o = ap (cons_option e.message) (shown es _ _ _ _)
+moves_shown : (es : List Entry) (s r : Reading) (n : ℕ) (o : Object)
+    → message_moves es ≡ moves_of (marks_from s r n o es)
+moves_shown [] s r n o = refl
+moves_shown (Idle side ∷ es) s r n o = moves_shown es s r (n + 1) o
+moves_shown (Made_entry e ∷ es) s r n o = ap (cons_option e.message) (moves_shown es _ _ _ _)
 
 -- a message moves from its place, and without a message nothing moves
-abbrev may_move : Option Place → Option (Place × Place) → Bool
-may_move place None = true
-may_move None (Some move) = false
-may_move (Some place) (Some move) = is_same_place move.0 place && is_message_move move.0 move.1
+abbrev may_go : Option Place → Option (Place × Place) → Bool
+may_go place None = true
+may_go None (Some move) = false
+may_go (Some place) (Some move) = is_same_place move.0 place && is_message_move move.0 move.1
 
 abbrev moves_rightly : Option Place → PastView → Bool
-moves_rightly place g = may_move place g.entry.message
+moves_rightly place g = may_go place g.entry.message
 
 abbrev place_then : Option Place → PastView → Option Place
 place_then None g = None
@@ -53,21 +54,21 @@ or_not_sent (Some place) = place
 abbrev IsPath : Bool → Place → List (Place × Place) → Type 0
 IsPath has place moves = is_path is_same_place (λ from to. has && is_message_move from to) place moves ≡ true
 
-no_move : (x : Option (Place × Place)) (later : List (Place × Place)) → may_move None x ≡ true
+no_move : (x : Option (Place × Place)) (later : List (Place × Place)) → may_go None x ≡ true
     → IsPath false NotSent later → IsPath false NotSent (cons_option x later)
 no_move None later h k = k
 no_move (Some move) later h k = cc
 
-one_move : (x : Option (Place × Place)) (place : Place) (later : List (Place × Place)) → may_move (Some place) x ≡ true
+one_move : (x : Option (Place × Place)) (place : Place) (later : List (Place × Place)) → may_go (Some place) x ≡ true
     → IsPath true (message_goes_to place x) later → IsPath true place (cons_option x later)
 one_move None place later h k = k
 one_move (Some move) place later h k = both _ _ h k
 
-path : (ms : List Mark) (place : Option Place) → Passes path_law place (map past_of ms)
+path_of_marks : (ms : List Mark) (place : Option Place) → Passes path_law place (map past_of ms)
     → IsPath (is_some place) (or_not_sent place) (moves_of ms)
-path [] place p = refl
-path (m ∷ ms) None p = no_move m.entry.message (moves_of ms) p.0 (path ms None p.1)
-path (m ∷ ms) (Some place) p = one_move m.entry.message place (moves_of ms) p.0 (path ms _ p.1)
+path_of_marks [] place p = refl
+path_of_marks (m ∷ ms) None p = no_move m.entry.message (moves_of ms) p.0 (path_of_marks ms None p.1)
+path_of_marks (m ∷ ms) (Some place) p = one_move m.entry.message place (moves_of ms) p.0 (path_of_marks ms _ p.1)
 
 -- whether the scripts have a message
 sends_after_looks : (n : ℕ) (calls : List Call)
@@ -96,11 +97,11 @@ pub message_followed : {T : Type 0} → Passed path_law T
     → (s : SenderScript T) (r : ReceiverScript) (worlds : List World) (moves : List Move) (entries : List Entry)
     → IsRun (opening s r) worlds moves entries → is_message_followed (calls_of s r) entries ≡ true
 message_followed each s r worlds moves entries is_run =
-    let at_marks = path (marks (calls_of s r) entries) (opening_place s.last)
+    let at_marks = path_of_marks (marks (calls_of s r) entries) (opening_place s.last)
     (passes_run path_law path_nameless each s r worlds moves entries is_run) in
     let at_entries : IsPath (is_some (opening_place s.last)) (or_not_sent (opening_place s.last))
     (message_moves entries) =
-    subst (IsPath _ _) (sym (shown entries _ _ 1 _)) at_marks in
+    subst (IsPath _ _) (sym (moves_shown entries _ _ 1 _)) at_marks in
     let from_start : IsPath (is_some (opening_place s.last)) NotSent (message_moves entries) =
     subst (λ place. IsPath (is_some (opening_place s.last)) place (message_moves entries)) (begins_there s.last)
     at_entries in
@@ -166,7 +167,7 @@ pub message_ended : {T : Type 0} → Passed (kept sending_ending) T
 message_ended each s r worlds moves entries is_run =
     let last =
     place_after (marks (calls_of s r) entries) not_sent_yet
-    ∙ sym (ap (last_place NotSent) (shown entries _ _ 1 _)) in
+    ∙ sym (ap (last_place NotSent) (moves_shown entries _ _ 1 _)) in
     if_both (all_ended (marks (calls_of s r) entries)) (list_any (λ m. is_send m.call) (marks (calls_of s r) entries))
     (is_message_end (last_message_place entries))
     (subst (λ begun. only_if (all_ended (marks (calls_of s r) entries))

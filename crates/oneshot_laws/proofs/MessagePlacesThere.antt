@@ -17,12 +17,13 @@ there_law =
       first = λ place. NotSent;
     }
 
-there : (ms : List Mark) (place : Place) → Passes there_law place (map past_of ms) → are_replies_placed place ms ≡ true
-there [] place p = refl
-there (m ∷ ms) place p = both _ _ p.0 (there ms (message_goes_to place m.entry.message) p.1)
+there_by_marks : (ms : List Mark) (place : Place) → Passes there_law place (map past_of ms)
+    → are_replies_placed place ms ≡ true
+there_by_marks [] place p = refl
+there_by_marks (m ∷ ms) place p = both _ _ p.0 (there_by_marks ms (message_goes_to place m.entry.message) p.1)
 
 nameless : Nameless there_law
 nameless = nameless_of there_law refl (λ k n g. (refl, refl)) (λ n g a b. (refl, refl))
 
 pub message_there : {T : Type 0} → Passed there_law T → EachRun T is_message_there
-message_there each = holds_by there_law nameless each is_message_there (λ place ms. there ms NotSent)
+message_there each = holds_by there_law nameless each is_message_there (λ place ms. there_by_marks ms NotSent)

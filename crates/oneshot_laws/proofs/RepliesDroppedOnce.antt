@@ -11,17 +11,17 @@ use Rattle.oneshot_laws.proofs.ProductRuns.{EachRun}
 
 -- how the message was dropped so far
 pub data Drops : Type 0 where
-  Never : Drops
+  Not_yet : Drops
   By_receiver : Drops
   Wrongly : Drops
 
 abbrev one_more : Bool → Drops → Drops
-one_more by_receiver Never = if by_receiver then By_receiver else Wrongly
+one_more by_receiver Not_yet = if by_receiver then By_receiver else Wrongly
 one_more by_receiver By_receiver = Wrongly
 one_more by_receiver Wrongly = Wrongly
 
 abbrev is_by_receiver : Drops → Bool
-is_by_receiver Never = false
+is_by_receiver Not_yet = false
 is_by_receiver By_receiver = true
 is_by_receiver Wrongly = false
 
@@ -55,12 +55,12 @@ abbrev goes_well : Story → PastView → Bool
 goes_well story g = is_well (story_then story g)
 
 abbrev drops_code : Drops → ℕ
-drops_code Never = 0
+drops_code Not_yet = 0
 drops_code By_receiver = 1
 drops_code Wrongly = 2
 
-pub drops_back : (d : Drops) → get_or (Never ∷ By_receiver ∷ Wrongly ∷ []) (drops_code d) Never ≡ d
-drops_back Never = refl
+pub drops_back : (d : Drops) → get_or (Not_yet ∷ By_receiver ∷ Wrongly ∷ []) (drops_code d) Not_yet ≡ d
+drops_back Not_yet = refl
 drops_back By_receiver = refl
 drops_back Wrongly = refl
 
@@ -69,10 +69,10 @@ stories =
     by_parts (λ x. (x.sent, (x.got, (x.done, x.drops))))
     (λ p. record { sent = p.0; got = p.1.0; done = p.1.1.0; drops = p.1.1.1 }) (λ x. refl)
     (pairs flags (pairs flags
-    (pairs flags (listed 3 drops_code (Never ∷ By_receiver ∷ Wrongly ∷ []) Never drops_back))))
+    (pairs flags (listed 3 drops_code (Not_yet ∷ By_receiver ∷ Wrongly ∷ []) Not_yet drops_back))))
 
 abbrev no_input : Story
-no_input = record { sent = false; got = false; done = false; drops = Never }
+no_input = record { sent = false; got = false; done = false; drops = Not_yet }
 
 abbrev pub story_law : Law Story
 story_law =
@@ -87,14 +87,14 @@ stays_wrong : (ms : List Mark) → drops_of Wrongly ms ≡ Wrongly
 stays_wrong [] = refl
 stays_wrong (m ∷ ms) = stays_wrong ms
 
-one_by_receiver : (ms : List Mark) → is_by_receiver (drops_of Never ms) ≡ true → is_one_by_receiver ms ≡ true
+one_by_receiver : (ms : List Mark) → is_by_receiver (drops_of Not_yet ms) ≡ true → is_one_by_receiver ms ≡ true
 one_by_receiver [] h = h
 one_by_receiver (m ∷ []) h =
-    elim (is_drop_of_receiver m.call) as (λ b. is_by_receiver (one_more b Never) ≡ true → b ≡ true)
+    elim (is_drop_of_receiver m.call) as (λ b. is_by_receiver (one_more b Not_yet) ≡ true → b ≡ true)
     [ true ↦ λ h. refl | false ↦ λ h. h ] h
 one_by_receiver (m ∷ n ∷ ms) h =
-    let wrong : (one_more (is_drop_of_receiver n.call) (one_more (is_drop_of_receiver m.call) Never)) ≡ Wrongly =
-    elim (is_drop_of_receiver m.call) as (λ b. one_more (is_drop_of_receiver n.call) (one_more b Never) ≡ Wrongly)
+    let wrong : (one_more (is_drop_of_receiver n.call) (one_more (is_drop_of_receiver m.call) Not_yet)) ≡ Wrongly =
+    elim (is_drop_of_receiver m.call) as (λ b. one_more (is_drop_of_receiver n.call) (one_more b Not_yet) ≡ Wrongly)
     [ true ↦ refl | false ↦ refl ]
     in absurd (cc (h, wrong, stays_wrong ms))
 
@@ -146,7 +146,7 @@ ends_well (m ∷ ms) story well p =
 nameless : Nameless story_law
 nameless = nameless_of story_law refl (λ k n g. (refl, refl)) (λ n g a b. (refl, refl))
 
-with_drops : (dropped : Bool) (ms : List Mark) → only_if dropped (is_by_receiver (drops_of Never ms)) ≡ true
+with_drops : (dropped : Bool) (ms : List Mark) → only_if dropped (is_by_receiver (drops_of Not_yet ms)) ≡ true
     → only_if dropped (is_one_by_receiver ms) ≡ true
 with_drops true ms h = one_by_receiver ms h
 with_drops false ms h = refl

@@ -51,13 +51,13 @@ next_gets [] seen p = never_asked seen
 next_gets (m ∷ ms) seen p =
     next_at seen (answers_receive (past_of m)) (full (past_of m)) _ _ p.0 (next_gets ms _ p.1)
 
-got : (ms : List Mark) (seen : Bool) → Passes next_law seen (map past_of ms) → is_got_after_full ms ≡ true
-got [] seen p = refl
-got (m ∷ ms) seen p =
-    both _ _ (full_now seen (answers_receive (past_of m)) (full (past_of m)) _ (next_gets ms _ p.1)) (got ms _ p.1)
+got_next : (ms : List Mark) (seen : Bool) → Passes next_law seen (map past_of ms) → is_got_after_full ms ≡ true
+got_next [] seen p = refl
+got_next (m ∷ ms) seen p =
+    both _ _ (full_now seen (answers_receive (past_of m)) (full (past_of m)) _ (next_gets ms _ p.1)) (got_next ms _ p.1)
 
 nameless : Nameless next_law
 nameless = nameless_of next_law refl (λ k n g. (refl, refl)) (λ n g a b. (refl, refl))
 
 pub got_after_full : {T : Type 0} → Passed next_law T → EachRun T is_got_after_full
-got_after_full each = holds_by next_law nameless each is_got_after_full (λ place ms. got ms false)
+got_after_full each = holds_by next_law nameless each is_got_after_full (λ place ms. got_next ms false)

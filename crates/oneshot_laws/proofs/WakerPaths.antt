@@ -85,11 +85,12 @@ module _ (k : Classes) (name this : WakerName) (names : Names WakerPlace) (follo
       (followed.same_name other) h)
       (subst (λ same. IsPath name (if same then to else place) later) (followed.same_name other) p)
 
-  path : (ms : List Mark) (place : WakerPlace)
+  path_of_waker : (ms : List Mark) (place : WakerPlace)
       → Asked (moves_of_one this names) place (map (as_past k) (map past_of ms)) → IsPath name place (shown_by ms)
-  path [] place p = refl
-  path (m ∷ ms) place p =
-      one_move m.entry.waker place (shown_by ms) p.0 (path ms (place_then this place (as_past k (past_of m))) p.1)
+  path_of_waker [] place p = refl
+  path_of_waker (m ∷ ms) place p =
+      one_move m.entry.waker place (shown_by ms) p.0
+      (path_of_waker ms (place_then this place (as_past k (past_of m))) p.1)
 
   -- its place at the end
   last_if : (same : Bool) (from to place : WakerPlace) (later : List WakerMove)
@@ -126,7 +127,7 @@ module _ {T : Type 0} (s : SenderScript T) (r : ReceiverScript) (entries : List 
         (map (as_past k) (map past_of MarksOfRun)) → is_waker_followed entries name ≡ true
     name_followed p =
         subst (λ ms. IsPath name (first_waker_place name) ms) (sym same_moves)
-        (path k name this names followed MarksOfRun (first_waker_place name) p)
+        (path_of_waker k name this names followed MarksOfRun (first_waker_place name) p)
 
     pub name_ended : only_if (all_ended MarksOfRun)
         (is_waker_end this (own_after (place_then this) (first_waker_place name)

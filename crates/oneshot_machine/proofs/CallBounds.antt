@@ -79,28 +79,28 @@ receiver_pays _ = refl
 
 module _ {T W : Type 0} {reply : Reply} where
   -- the operations of a run
-  sender_makes : (p : SenderPos) (limit : ℕ) → sender_most p ≡ Some limit
+  sender_makes_few : (p : SenderPos) (limit : ℕ) → sender_most p ≡ Some limit
       → (xs : List (Event T W)) → Run sender_step sender_row p xs reply → length (words xs) ≤ limit
-  sender_makes p limit is xs run =
+  sender_makes_few p limit is xs run =
       at_most sender_step sender_rows sender_most sender_pays p xs reply limit is run
 
-  receiver_makes : (p : ReceiverPos) (limit : ℕ) → receiver_most p ≡ Some limit
+  receiver_makes_few : (p : ReceiverPos) (limit : ℕ) → receiver_most p ≡ Some limit
       → (xs : List (Event T W)) → Run receiver_step receiver_row p xs reply → length (words xs) ≤ limit
-  receiver_makes p limit is xs run =
+  receiver_makes_few p limit is xs run =
       at_most receiver_step receiver_rows receiver_most receiver_pays p xs reply limit is run
 
   -- the operations of each call
   pub try_recv_makes : (xs : List (Event T W)) → Run receiver_step receiver_row (receiver_start C.TryRecv) xs reply
       → length (words xs) ≤ 2
-  try_recv_makes = receiver_makes (Try TryLoad) 2 refl
+  try_recv_makes = receiver_makes_few (Try TryLoad) 2 refl
 
   pub poll_makes : (xs : List (Event T W)) → Run receiver_step receiver_row (receiver_start C.Poll) xs reply
       → length (words xs) ≤ 4
-  poll_makes = receiver_makes (Future PollLoad) 4 refl
+  poll_makes = receiver_makes_few (Future PollLoad) 4 refl
 
   pub async_try_recv_makes : (xs : List (Event T W))
       → Run receiver_step receiver_row (receiver_start C.AsyncTryRecv) xs reply → length (words xs) ≤ 2
-  async_try_recv_makes = receiver_makes (Future AsyncTryLoad) 2 refl
+  async_try_recv_makes = receiver_makes_few (Future AsyncTryLoad) 2 refl
 
   module _ {given got : List T} {before after : Log T W} where
     -- and of the ground that ran it
@@ -111,10 +111,10 @@ module _ {T W : Type 0} {reply : Reply} where
         record { added = words ran.run; list = words_after ran.run ran.grows; few = makes ran.run ran.is_run }
 
     pub send_few : SenderRan S.Send before after reply given got → MakesWithin (sender_bound S.Send) before after
-    send_few ran = ran_few (sender_makes SendWrite 2 refl) ran
+    send_few ran = ran_few (sender_makes_few SendWrite 2 refl) ran
 
     pub drop_few : SenderRan S.Drop before after reply given got → MakesWithin (sender_bound S.Drop) before after
-    drop_few ran = ran_few (sender_makes DropXor 2 refl) ran
+    drop_few ran = ran_few (sender_makes_few DropXor 2 refl) ran
 
     pub try_recv_few : ReceiverRan C.TryRecv before after reply given got
         → MakesWithin (receiver_bound C.TryRecv) before after
@@ -129,8 +129,8 @@ module _ {T W : Type 0} {reply : Reply} where
 
     pub drop_receiver_few : ReceiverRan C.Drop before after reply given got
         → MakesWithin (receiver_bound C.Drop) before after
-    drop_receiver_few ran = ran_few (receiver_makes (Drop DropSwap) 1 refl) ran
+    drop_receiver_few ran = ran_few (receiver_makes_few (Drop DropSwap) 1 refl) ran
 
     pub drop_async_few : ReceiverRan C.DropAsync before after reply given got
         → MakesWithin (receiver_bound C.DropAsync) before after
-    drop_async_few ran = ran_few (receiver_makes (AsyncDrop AsyncLoad) 3 refl) ran
+    drop_async_few ran = ran_few (receiver_makes_few (AsyncDrop AsyncLoad) 3 refl) ran

@@ -20,10 +20,10 @@ abbrev cost : Option Op → ℕ
 cost None = 0
 cost (Some op) = 1
 
-abbrev one_more : ℕ → Op → Seen → ℕ
-one_more n op seen = n + 1
+abbrev count_one : ℕ → Op → Seen → ℕ
+count_one n op seen = n + 1
 
-counted : (n : ℕ) (xs : List Noted) → phase_from one_more n xs ≡ n + length xs
+counted : (n : ℕ) (xs : List Noted) → phase_from count_one n xs ≡ n + length xs
 counted n [] = omega arith
 counted n (x ∷ xs) = let e = counted (n + 1) xs in omega (arith, e)
 
@@ -59,13 +59,13 @@ module _ {P : Type 0} (step : P → Step) (rows : P → Rows P) (most : P → Op
     Afforded reply made = made ≤ total
 
     after_step : (op : Option Op) (seen : Seen) (made : ℕ)
-        → moved_by one_more op seen made ≡ made + cost op
+        → moved_by count_one op seen made ≡ made + cost op
     after_step None seen made = omega arith
     after_step (Some op) seen made = refl
 
     paid : (all_pay : (p : P) → pays p ≡ true) (p : P) (made : ℕ) (seen : Seen) (o : Outcome P) → Affords p made
         → row_for seen (rows p) ≡ Some o
-        → Leads Affords Afforded o (moved_by one_more (op_of (step p)) seen made)
+        → Leads Affords Afforded o (moved_by count_one (op_of (step p)) seen made)
     paid all_pay p made seen (Goes next) affords row =
         let pays =
         row_passes (row_pays p affords.0) (rows p) seen (Goes next)
@@ -84,7 +84,7 @@ module _ {P : Type 0} (step : P → Step) (rows : P → Rows P) (most : P → Op
   pub at_most : ((p : P) → pays p ≡ true) → {T W : Type 0} (p : P) (xs : List (Event T W)) (r : Reply) (limit : ℕ)
       → most p ≡ Some limit → Run step (λ p seen. row_for seen (rows p)) p xs r → length (words xs) ≤ limit
   at_most all_pay p xs r limit is run =
-      let within = by_rows (Affords limit) (Afforded limit) step rows one_more (paid limit all_pay) p 0 xs r
+      let within = by_rows (Affords limit) (Afforded limit) step rows count_one (paid limit all_pay) p 0 xs r
       (limit, is, omega arith) run in
       let count = counted 0 (words xs) in
       omega (arith, within, count)

@@ -2,9 +2,9 @@
 use Rattle.std.proofs.Common.{◌≡◌, ℕ, zero, suc, Bool, true, false, List, [], ◌∷◌, drop}
 use Rattle.std.specs.Prelude.{if◌then◌else◌}
 use Rattle.std.specs.List.{list_all}
-use Rattle.oneshot_machine.specs.Phases.{sending, dropping, SenderAt, fresh, owes, finished, found_gone, overtaken, no_sender, ReceiverAt, first, idle, after_load, after_timeout}
+use Rattle.oneshot_machine.specs.Phases.{sending, dropping, SenderAt, fresh, owes, finished, found_gone, overtaken, no_sender, ReceiverAt, untouched, idle, after_load, after_timeout}
 use Rattle.oneshot_machine.specs.Phases.{waits, blocked, polled, again}
-use Rattle.oneshot_machine.specs.Phases.{claimed, withdrew, overdue, full, at_once, waited, swapped, storing, stopping, by_future, by_poll, unclosed, disconnected, found_closed, closed_itself}
+use Rattle.oneshot_machine.specs.Phases.{claimed, withdrew, overdue, full, at_once, waited, swapped, storing, stopping, by_future, by_poll, overwritten, disconnected, found_closed, closed_itself}
 use Rattle.oneshot_machine.specs.Phases.{resolved, gone, ended, no_receiver, Row, sender_moves, receiver_moves}
 use Rattle.oneshot_machine.specs.Slots.{In, head, tail}
 use Rattle.oneshot_machine.proofs.Sameness.{each_passes}
@@ -17,10 +17,10 @@ senders =
 
 abbrev pub receivers : List ReceiverAt
 receivers =
-    first ∷ idle after_load ∷ idle after_timeout ∷ waits blocked ∷ waits polled ∷ waits again ∷ claimed ∷ withdrew
+    untouched ∷ idle after_load ∷ idle after_timeout ∷ waits blocked ∷ waits polled ∷ waits again ∷ claimed ∷ withdrew
     ∷ overdue
     ∷ full at_once ∷ full waited ∷ full (swapped storing) ∷ full (swapped stopping) ∷ full by_future ∷ full by_poll
-    ∷ unclosed storing ∷ unclosed stopping ∷ disconnected found_closed ∷ disconnected closed_itself
+    ∷ overwritten storing ∷ overwritten stopping ∷ disconnected found_closed ∷ disconnected closed_itself
     ∷ resolved found_closed ∷ resolved closed_itself ∷ gone ∷ ended ∷ no_receiver ∷ []
 
 behind : {X : Type 0} {x : X} {xs : List X} (n : ℕ) → In x (drop n xs) → In x xs
@@ -41,7 +41,7 @@ is_sender (overtaken dropping) = behind 8 head
 is_sender no_sender = behind 9 head
 
 is_receiver : (q : ReceiverAt) → In q receivers
-is_receiver first = head
+is_receiver untouched = head
 is_receiver (idle after_load) = behind 1 head
 is_receiver (idle after_timeout) = behind 2 head
 is_receiver (waits blocked) = behind 3 head
@@ -56,8 +56,8 @@ is_receiver (full (swapped storing)) = behind 11 head
 is_receiver (full (swapped stopping)) = behind 12 head
 is_receiver (full by_future) = behind 13 head
 is_receiver (full by_poll) = behind 14 head
-is_receiver (unclosed storing) = behind 15 head
-is_receiver (unclosed stopping) = behind 16 head
+is_receiver (overwritten storing) = behind 15 head
+is_receiver (overwritten stopping) = behind 16 head
 is_receiver (disconnected found_closed) = behind 17 head
 is_receiver (disconnected closed_itself) = behind 18 head
 is_receiver (resolved found_closed) = behind 19 head

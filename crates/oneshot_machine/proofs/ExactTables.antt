@@ -11,11 +11,11 @@ use Rattle.oneshot_machine.specs.declared.machine.future.FuturePos.TheVariants a
 use Rattle.oneshot_machine.specs.declared.machine.sender.SenderPos.{SenderPos}
 use Rattle.oneshot_machine.specs.declared.machine.sender.SenderPos.TheVariants.{SendAdd, SendFinal, DropXor, DropFinal}
 use Rattle.std.specs.Prelude.{true, false}
-use Rattle.oneshot_machine.specs.Phases.{sending, dropping, SenderAt, fresh, owes, finished, found_gone, overtaken, no_sender, sender_moves, ReceiverAt, first, idle, after_load}
+use Rattle.oneshot_machine.specs.Phases.{sending, dropping, SenderAt, fresh, owes, finished, found_gone, overtaken, no_sender, sender_moves, ReceiverAt, untouched, idle, after_load}
 use Rattle.oneshot_machine.specs.Phases.{after_timeout, blocked, polled, again}
-use Rattle.oneshot_machine.specs.Phases.{waits, claimed, withdrew, overdue, at_once, waited, swapped, by_future, by_poll, full, unclosed, disconnected, resolved, gone, ended, no_receiver}
+use Rattle.oneshot_machine.specs.Phases.{waits, claimed, withdrew, overdue, at_once, waited, swapped, by_future, by_poll, full, overwritten, disconnected, resolved, gone, ended, no_receiver}
 use Rattle.oneshot_machine.specs.Phases.{receiver_moves}
-use Rattle.oneshot_machine.specs.Standing.{Standpoint, plainly, as_future, sender_table, receiver_table}
+use Rattle.oneshot_machine.specs.Standing.{Standpoint, plainly, future_at, sender_table, receiver_table}
 use Rattle.oneshot_machine.specs.Exact.{SenderIsExact, ReceiverIsExact}
 use Rattle.oneshot_machine.proofs.EachPhase.{at_each_sender, at_each_receiver}
 use Rattle.oneshot_machine.proofs.Exactness.{is_exact_at, IsExactAt, is_exact}
@@ -36,7 +36,7 @@ calls = plainly (Try TryLoad) ∷ plainly (Ref (StartLoad false)) ∷ plainly (R
     ∷ plainly (Value RecvLoad) ∷ plainly (Drop DropSwap) ∷ []
 
 abbrev polls : List Standpoint
-polls = as_future (Future F.PollLoad) ∷ as_future (Future F.AsyncTryLoad) ∷ as_future (AsyncDrop AsyncLoad) ∷ []
+polls = future_at (Future F.PollLoad) ∷ future_at (Future F.AsyncTryLoad) ∷ future_at (AsyncDrop AsyncLoad) ∷ []
 
 -- and those after the load of a call that blocks, of a poll or of a future's drop
 abbrev stores : List Standpoint
@@ -44,13 +44,13 @@ stores =
     plainly (Ref (StartSwap false))
     ∷ plainly (Ref (StartSwap true))
     ∷ plainly (Value RecvSwap)
-    ∷ as_future (Future F.PollExchange)
-    ∷ as_future (AsyncDrop AsyncSwap)
+    ∷ future_at (Future F.PollExchange)
+    ∷ future_at (AsyncDrop AsyncSwap)
     ∷ []
 
 -- Those of a receiver at each phase: one list for each way there that leads to other positions.
 abbrev receiver_stands : ReceiverAt → List (List Standpoint)
-receiver_stands first = (calls ++ polls) ∷ []
+receiver_stands untouched = (calls ++ polls) ∷ []
 receiver_stands (idle after_load) = (calls ++ polls ++ stores) ∷ []
 receiver_stands (idle after_timeout) = (calls ++ polls) ∷ []
 receiver_stands (waits blocked) =
@@ -58,21 +58,21 @@ receiver_stands (waits blocked) =
     ∷ []
 receiver_stands (waits polled) = polls ∷ []
 receiver_stands (waits again) =
-    (as_future (Future F.AgainExchange) ∷ as_future (AsyncDrop AsyncExchange) ∷ polls) ∷ []
-receiver_stands claimed = (as_future (AsyncDrop AsyncSwap) ∷ polls) ∷ []
-receiver_stands withdrew = (as_future (Future F.PollExchange) ∷ as_future (AsyncDrop AsyncSwap) ∷ []) ∷ []
+    (future_at (Future F.AgainExchange) ∷ future_at (AsyncDrop AsyncExchange) ∷ polls) ∷ []
+receiver_stands claimed = (future_at (AsyncDrop AsyncSwap) ∷ polls) ∷ []
+receiver_stands withdrew = (future_at (Future F.PollExchange) ∷ future_at (AsyncDrop AsyncSwap) ∷ []) ∷ []
 receiver_stands overdue = (plainly (Timed LateLoad) ∷ []) ∷ []
 receiver_stands (full at_once) =
-    (plainly (Try Close) ∷ as_future (Try Close) ∷ as_future (AsyncDrop AsyncSwap) ∷ []) ∷ []
+    (plainly (Try Close) ∷ future_at (Try Close) ∷ future_at (AsyncDrop AsyncSwap) ∷ []) ∷ []
 receiver_stands (full waited) = (plainly (Try Close) ∷ []) ∷ []
 receiver_stands (full (swapped by)) = (plainly (Try Close) ∷ []) ∷ []
-receiver_stands (full by_future) = (as_future (Try Close) ∷ as_future (AsyncDrop AsyncSwap) ∷ []) ∷ []
-receiver_stands (full by_poll) = (as_future (Try Close) ∷ []) ∷ []
-receiver_stands (unclosed by) = (plainly (Try CloseOnly) ∷ []) ∷ []
+receiver_stands (full by_future) = (future_at (Try Close) ∷ future_at (AsyncDrop AsyncSwap) ∷ []) ∷ []
+receiver_stands (full by_poll) = (future_at (Try Close) ∷ []) ∷ []
+receiver_stands (overwritten by) = (plainly (Try CloseOnly) ∷ []) ∷ []
 receiver_stands (disconnected closing) =
     (calls ++ polls)
-    ∷ (as_future (AsyncDrop AsyncSwap) ∷ calls ++ polls)
-    ∷ (as_future (AsyncDrop AsyncSwap) ∷ polls)
+    ∷ (future_at (AsyncDrop AsyncSwap) ∷ calls ++ polls)
+    ∷ (future_at (AsyncDrop AsyncSwap) ∷ polls)
     ∷ []
 receiver_stands (resolved closing) = polls ∷ []
 receiver_stands gone = [] ∷ []
@@ -89,4 +89,4 @@ pub sender_exact : (T W : Type 0) → SenderIsExact T W
 sender_exact = is_exact sender_table no_sender sender_moves sender_stands sender_exact_at fresh refl
 
 pub receiver_exact : (T W : Type 0) → ReceiverIsExact T W
-receiver_exact = is_exact receiver_table no_receiver receiver_moves receiver_stands receiver_exact_at first refl
+receiver_exact = is_exact receiver_table no_receiver receiver_moves receiver_stands receiver_exact_at untouched refl

@@ -68,15 +68,15 @@ module _ {P At : Type 0} (t : Table P) (nowhere : At) (rows : At → List (Row A
       All-cons (Accepts t op word) p ps (accepts_there op word p parts.0) (accept op word ps parts.1)
 
   -- two lists have the same positions
-  abbrev is_in : List P → P → Bool
-  is_in ps p = list_any (λ q. t.number q == t.number p) ps
+  abbrev has_position : List P → P → Bool
+  has_position ps p = list_any (λ q. t.number q == t.number p) ps
 
   abbrev is_same : Bool → Bool → Bool
   is_same true b = b
   is_same false b = not b
 
   abbrev agree : List P → List P → Bool
-  agree ps qs = list_all (λ p. is_same (is_in ps p) (is_in qs p)) t.positions
+  agree ps qs = list_all (λ p. is_same (has_position ps p) (has_position qs p)) t.positions
 
   -- a row has this operation and these slots, and puts nothing new into them
   abbrev is_such : At → Op → Slots → Row At → Bool
@@ -124,7 +124,7 @@ module _ {P At : Type 0} (t : Table P) (nowhere : At) (rows : At → List (Row A
 
   -- the same positions make the same list
   in_one_order : (ps qs : List P) → agree ps qs ≡ true → in_order t ps ≡ in_order t qs
-  in_one_order ps qs same = filter-agree (is_in ps) (is_in qs) t.positions same
+  in_one_order ps qs same = filter-agree (has_position ps) (has_position qs) t.positions same
 
   lands : (at : At) (ps : List P) → list_any (agree ps) (stands at) ≡ true → StandsAt at (in_order t ps)
   lands at ps any =

@@ -8,7 +8,7 @@ use Rattle.std.specs.Option.{option_map}
 use Rattle.oneshot_machine.specs.declared.machine.Seen.{Seen}
 use Rattle.oneshot_machine.specs.declared.states.Op.{Op}
 use Rattle.oneshot_machine.specs.Noted.{Noted, saw, op_of}
-use Rattle.oneshot_machine.specs.Phases.{fresh, sender_next, sender_at, first, receiver_next, receiver_at, phase_from}
+use Rattle.oneshot_machine.specs.Phases.{fresh, sender_next, sender_at, untouched, receiver_next, receiver_at, phase_from}
 use Rattle.oneshot_machine.specs.Standing.{Table, moved, standing_from, standing}
 use Rattle.oneshot_machine.specs.Logs.{Event, worded, noted, words, kept, Log, Grows, sender_of, receiver_of}
 
@@ -80,7 +80,7 @@ module _ {T W : Type 0} where
         → receiver_of after ≡ receiver_next (receiver_of before) op (saw op word)
     receiver_moved op word grows =
         ap receiver_at (words_after (worded op word ∷ []) grows)
-        ∙ phase_from-snoc receiver_next first (words before.list) (op, saw op word)
+        ∙ phase_from-snoc receiver_next untouched (words before.list) (op, saw op word)
 
     -- some steps, and then some more
     pub and_then : {last : Log T W} (xs ys : List (Event T W)) → Grows before after xs → Grows after last ys

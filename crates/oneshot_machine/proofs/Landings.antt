@@ -41,9 +41,9 @@ slot_after (gets_thing x) = is_held x
 abbrev pub is_row_of : {At : Type 0} → Op → Slots → Row At → Bool
 is_row_of op slots row = is_same_op op row.0 && (is_same_share slots.0 row.1.0 && is_same_share slots.1 row.1.1)
 
-abbrev pub has_row : {At : Type 0} → Op → Slots → List (Row At) → Bool
-has_row op slots [] = false
-has_row op slots (row ∷ rows) = if is_row_of op slots row then true else has_row op slots rows
+abbrev pub has_row_for : {At : Type 0} → Op → Slots → List (Row At) → Bool
+has_row_for op slots [] = false
+has_row_for op slots (row ∷ rows) = if is_row_of op slots row then true else has_row_for op slots rows
 
 pub record RowOf {At : Type 0} (op : Op) (slots : Slots) (rows : List (Row At)) : Type 0 where
   pub word : ℕ
@@ -51,13 +51,13 @@ pub record RowOf {At : Type 0} (op : Op) (slots : Slots) (rows : List (Row At)) 
   pub after : Slots
   pub row : In (op, slots, word, next, after) rows
 
-pub row_of : {At : Type 0} (op : Op) (slots : Slots) (rows : List (Row At)) → has_row op slots rows ≡ true
+pub row_of : {At : Type 0} (op : Op) (slots : Slots) (rows : List (Row At)) → has_row_for op slots rows ≡ true
     → RowOf op slots rows
 row_of op slots [] has = absurd (true≢false (sym has))
 row_of {At} op slots (row ∷ rows) has = by (is_row_of op slots row) refl has (row_of op slots rows)
   where
-    by : (b : Bool) → is_row_of op slots row ≡ b → (if b then true else has_row op slots rows) ≡ true
-        → (has_row op slots rows ≡ true → RowOf op slots rows) → RowOf op slots (row ∷ rows)
+    by : (b : Bool) → is_row_of op slots row ≡ b → (if b then true else has_row_for op slots rows) ≡ true
+        → (has_row_for op slots rows ≡ true → RowOf op slots rows) → RowOf op slots (row ∷ rows)
     by false is rest later =
         let found =
         later rest in record { word = found.word; next = found.next; after = found.after; row = tail found.row }

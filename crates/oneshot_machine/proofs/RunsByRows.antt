@@ -87,16 +87,17 @@ module _ {P S : Type 0} (Stands : P → S → Type 0) (Ends : Reply → S → Ty
 -- The same where `stands` and `ends` are tests, which the checker computes at each position for each value.
 module _ {P S : Type 0} (stands : P → S → Bool) (ends : Reply → S → Bool) (step : P → Step) (rows : P → Rows P)
     (next : S → Op → Seen → S) where
-  abbrev leads : Outcome P → S → Bool
-  leads (Goes p) s = stands p s
-  leads (Answers r) s = ends r s
+  abbrev leads_on : Outcome P → S → Bool
+  leads_on (Goes p) s = stands p s
+  leads_on (Answers r) s = ends r s
 
-  leads_so : (o : Outcome P) (s : S) → leads o s ≡ true → Leads (λ p s. stands p s ≡ true) (λ r s. ends r s ≡ true) o s
+  leads_so : (o : Outcome P) (s : S) → leads_on o s ≡ true
+      → Leads (λ p s. stands p s ≡ true) (λ r s. ends r s ≡ true) o s
   leads_so (Goes p) s e = e
   leads_so (Answers r) s e = e
 
   abbrev row_carries : P → S → Seen × Outcome P → Bool
-  row_carries p s (seen, o) = leads o (moved_by next (op_of (step p)) seen s)
+  row_carries p s (seen, o) = leads_on o (moved_by next (op_of (step p)) seen s)
 
   -- every row of this position keeps the test, if the position passes it
   abbrev pub carries : P → S → Bool

@@ -1,6 +1,6 @@
 -- When an end is over, and may be let go: by its phase.
 use Rattle.std.specs.Prelude.{◌⊎◌}
-use Rattle.oneshot_machine.specs.Phases.{By, SenderAt, finished, found_gone, overtaken, Closing, Swapping, Got, ReceiverAt, full, unclosed, disconnected, gone, ended}
+use Rattle.oneshot_machine.specs.Phases.{By, SenderAt, finished, found_gone, overtaken, Closing, Swapping, Got, ReceiverAt, full, overwritten, disconnected, gone, ended}
 
 -- a sender whose last operation found the receiver gone
 pub data IsLate : SenderAt → Type 0 where
@@ -16,7 +16,7 @@ pub data SenderIsOver (by : By) : SenderAt → Type 0 where
 -- a receiver that found the message, or that none will come
 pub data FoundTheEnd : ReceiverAt → Type 0 where
   found_message : (got : Got) → FoundTheEnd (full got)
-  found_unclosed : (by : Swapping) → FoundTheEnd (unclosed by)
+  found_overwritten : (by : Swapping) → FoundTheEnd (overwritten by)
   found_no_sender : (closing : Closing) → FoundTheEnd (disconnected closing)
 
 -- a receiver that was dropped

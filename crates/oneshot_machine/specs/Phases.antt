@@ -69,7 +69,7 @@ pub data Closing : Type 0 where
 
 pub data ReceiverAt : Type 0 where
   -- it has performed no operation; the sender's phase of this kind is `fresh`
-  first : ReceiverAt
+  untouched : ReceiverAt
   idle : Open → ReceiverAt
   -- its waker is stored, unless the sender took it since
   waits : Waiting → ReceiverAt
@@ -82,7 +82,7 @@ pub data ReceiverAt : Type 0 where
   -- it has the message
   full : Got → ReceiverAt
   -- its swap found DISCONNECTED, and left another word
-  unclosed : Swapping → ReceiverAt
+  overwritten : Swapping → ReceiverAt
   -- it is closed, and the word is DISCONNECTED
   disconnected : Closing → ReceiverAt
   -- a future that is closed, and has not loaded `DISCONNECTED` since
@@ -146,7 +146,7 @@ sender_moves no_sender = []
 
 -- the receiver's table
 abbrev pub receiver_moves : ReceiverAt → List (Row ReceiverAt)
-receiver_moves first =
+receiver_moves untouched =
     (Load, (none, none), EMPTY, idle after_load, (none, empty))
     ∷ (Load, (none, none), MESSAGE, full at_once, (filled, empty))
     ∷ (Load, (none, none), DISCONNECTED, disconnected found_closed, (empty, empty))
@@ -160,7 +160,7 @@ receiver_moves (idle after_load) =
     ∷ (Load, (none, empty), DISCONNECTED, disconnected found_closed, (empty, empty))
     ∷ (Swap RECEIVING, (none, filled), EMPTY, waits blocked, (none, none))
     ∷ (Swap RECEIVING, (none, filled), MESSAGE, full (swapped storing), (filled, filled))
-    ∷ (Swap RECEIVING, (none, filled), DISCONNECTED, unclosed storing, (empty, filled))
+    ∷ (Swap RECEIVING, (none, filled), DISCONNECTED, overwritten storing, (empty, filled))
     ∷ (Exchange EMPTY RECEIVING, (none, filled), EMPTY, waits polled, (none, none))
     ∷ (Exchange EMPTY RECEIVING, (none, filled), MESSAGE, full by_poll, (filled, filled))
     ∷ (Exchange EMPTY RECEIVING, (none, filled), DISCONNECTED, resolved found_closed, (empty, filled))
@@ -184,7 +184,7 @@ receiver_moves (waits blocked) =
     ∷ (Swap EMPTY, (none, none), RECEIVING, idle after_timeout, (none, filled))
     ∷ (Swap EMPTY, (none, none), UNPARKING, overdue, (none, none))
     ∷ (Swap EMPTY, (none, none), MESSAGE, full (swapped stopping), (filled, empty))
-    ∷ (Swap EMPTY, (none, none), DISCONNECTED, unclosed stopping, (empty, empty))
+    ∷ (Swap EMPTY, (none, none), DISCONNECTED, overwritten stopping, (empty, empty))
     ∷ []
 receiver_moves (waits polled) =
     (Load, (none, none), RECEIVING, waits again, (none, none))
@@ -238,7 +238,7 @@ receiver_moves (full by_future) =
     ∷ []
 receiver_moves (full by_poll) =
     (Store DISCONNECTED, (filled, empty), MESSAGE, resolved closed_itself, (filled, empty)) ∷ []
-receiver_moves (unclosed by) =
+receiver_moves (overwritten by) =
     (Store DISCONNECTED, (empty, empty), swapped_in by, disconnected closed_itself, (empty, empty)) ∷ []
 receiver_moves (disconnected closing) =
     (Load, (empty, empty), DISCONNECTED, disconnected closing, (empty, empty))
@@ -259,14 +259,14 @@ sender_owns (overtaken by) = Some (true, true)
 sender_owns no_sender = None
 
 abbrev pub receiver_owns : ReceiverAt → Option (Bool × Bool)
-receiver_owns first = Some (false, false)
+receiver_owns untouched = Some (false, false)
 receiver_owns (idle open_at) = Some (false, true)
 receiver_owns (waits waiting) = Some (false, false)
 receiver_owns claimed = Some (false, false)
 receiver_owns withdrew = Some (false, true)
 receiver_owns overdue = Some (false, false)
 receiver_owns (full got) = Some (true, true)
-receiver_owns (unclosed by) = Some (true, true)
+receiver_owns (overwritten by) = Some (true, true)
 receiver_owns (disconnected closing) = Some (true, true)
 receiver_owns (resolved closing) = Some (true, true)
 receiver_owns gone = Some (false, false)
@@ -298,4 +298,4 @@ abbrev pub sender_at : List Noted → SenderAt
 sender_at = phase_from sender_next fresh
 
 abbrev pub receiver_at : List Noted → ReceiverAt
-receiver_at = phase_from receiver_next first
+receiver_at = phase_from receiver_next untouched

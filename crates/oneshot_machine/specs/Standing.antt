@@ -102,11 +102,11 @@ sender_table =
 -- same position, and other calls follow there.
 pub data Standpoint : Type 0 where
   plainly : ReceiverPos → Standpoint
-  as_future : ReceiverPos → Standpoint
+  future_at : ReceiverPos → Standpoint
 
 abbrev pub standpoint_step : Standpoint → Step
 standpoint_step (plainly p) = receiver_step p
-standpoint_step (as_future p) = receiver_step p
+standpoint_step (future_at p) = receiver_step p
 
 abbrev pub outcome_at : (ReceiverPos → Standpoint) → Outcome ReceiverPos → Outcome Standpoint
 outcome_at stands (Goes next) = Goes (stands next)
@@ -114,11 +114,11 @@ outcome_at stands (Answers reply) = Answers reply
 
 abbrev pub standpoint_row : Standpoint → Seen → Option (Outcome Standpoint)
 standpoint_row (plainly p) seen = option_map (outcome_at plainly) (receiver_row p seen)
-standpoint_row (as_future p) seen = option_map (outcome_at as_future) (receiver_row p seen)
+standpoint_row (future_at p) seen = option_map (outcome_at future_at) (receiver_row p seen)
 
 abbrev pub standpoint_number : Standpoint → ℕ
 standpoint_number (plainly p) = receiver_number p
-standpoint_number (as_future p) = receiver_count + receiver_number p
+standpoint_number (future_at p) = receiver_count + receiver_number p
 
 -- after `recv` or a drop no call follows, after `into_future` a future's, after any other all
 abbrev pub receiver_follows : ReceiverPos → Reply → List Standpoint
@@ -130,24 +130,24 @@ receiver_follows (RP.Ref ParkLoad) reply = map plainly receiver_opens
 receiver_follows (RP.Timed TimedLoad) reply = map plainly receiver_opens
 receiver_follows (RP.Timed EndBack) reply = map plainly receiver_opens
 receiver_follows (RP.Timed LateLoad) reply = map plainly receiver_opens
-receiver_follows (RP.Future IntoFuture) reply = map as_future future_opens
+receiver_follows (RP.Future IntoFuture) reply = map future_at future_opens
 receiver_follows _ reply = []
 
 -- after its drop no call of a future follows, after any other all
 abbrev pub future_follows : Reply → List Standpoint
 future_follows R.Done = []
-future_follows _ = map as_future future_opens
+future_follows _ = map future_at future_opens
 
 abbrev pub standpoint_follows : Standpoint → Reply → List Standpoint
 standpoint_follows (plainly p) reply = receiver_follows p reply
-standpoint_follows (as_future p) reply = future_follows reply
+standpoint_follows (future_at p) reply = future_follows reply
 
 abbrev pub receiver_table : Table Standpoint
 receiver_table =
     record {
       step = standpoint_step;
       row = standpoint_row;
-      positions = map plainly receiver_positions ++ map as_future receiver_positions;
+      positions = map plainly receiver_positions ++ map future_at receiver_positions;
       number = standpoint_number;
       opens = map plainly receiver_opens;
       follows = standpoint_follows;

@@ -6,9 +6,9 @@ use Rattle.oneshot_machine.specs.declared.states.Op.TheVariants.{Load, Store, Sw
 use Rattle.oneshot_machine.specs.declared.states.TheConstants.{RECEIVING, UNPARKING, DISCONNECTED, EMPTY}
 use Rattle.oneshot_machine.specs.Logs.{Grows, words, receiver_of, worded}
 use Rattle.oneshot_machine.specs.Noted.{saw}
-use Rattle.oneshot_machine.specs.Phases.{after_load, after_timeout, blocked, polled, again, storing, stopping, at_once, waited, swapped, by_future, by_poll, ReceiverAt, first}
+use Rattle.oneshot_machine.specs.Phases.{after_load, after_timeout, blocked, polled, again, storing, stopping, at_once, waited, swapped, by_future, by_poll, ReceiverAt, untouched}
 use Rattle.oneshot_machine.specs.Phases.{idle, waits, claimed, withdrew}
-use Rattle.oneshot_machine.specs.Phases.{overdue, full, unclosed, disconnected, resolved, gone, ended, no_receiver, receiver_moves, receiver_owns, receiver_next, receiver_at}
+use Rattle.oneshot_machine.specs.Phases.{overdue, full, overwritten, disconnected, resolved, gone, ended, no_receiver, receiver_moves, receiver_owns, receiver_next, receiver_at}
 use Rattle.oneshot_machine.specs.Slots.{vacant, held, In, head, tail, ReceiverMay, ReceiverFinds}
 use Rattle.oneshot_machine.specs.States.{word_after}
 use Rattle.oneshot_machine.proofs.GrownLogs.{receiver_moved}
@@ -55,7 +55,7 @@ receiver_changes =
 
 -- the law, computed for each phase
 pub receiver_steady : IsSteady receiver_next receiver_moves is_receivers receiver_keeps receiver_changes
-receiver_steady first = refl
+receiver_steady untouched = refl
 receiver_steady (idle after_load) = refl
 receiver_steady (idle after_timeout) = refl
 receiver_steady (waits blocked) = refl
@@ -70,8 +70,8 @@ receiver_steady (full (swapped storing)) = refl
 receiver_steady (full (swapped stopping)) = refl
 receiver_steady (full by_future) = refl
 receiver_steady (full by_poll) = refl
-receiver_steady (unclosed storing) = refl
-receiver_steady (unclosed stopping) = refl
+receiver_steady (overwritten storing) = refl
+receiver_steady (overwritten stopping) = refl
 receiver_steady (disconnected closing) = refl
 receiver_steady (resolved closing) = refl
 receiver_steady gone = refl

@@ -48,6 +48,7 @@ fn a_refused_message_is_followed_move_by_move(rt: HostRuntime) {
     );
     for (i, (made, sender, receiver, freed)) in MOVES_OF_A_REFUSED_SEND.iter().enumerate() {
         let number = i + 1;
+        // What its calls are and whether the block is freed show that the step was made.
         let _ = replayer.step(*made);
         let calls = (replayer.sender_call(), replayer.receiver_call());
         assert_eq!(rt;

@@ -5,7 +5,8 @@ use Rattle.oneshot_machine.specs.declared.states.Op.{Op}
 use Rattle.oneshot_machine.specs.declared.states.Op.TheVariants.{Store, Swap}
 use Rattle.oneshot_machine.specs.declared.states.TheConstants.{RECEIVING, DISCONNECTED, EMPTY}
 use Rattle.oneshot_machine.specs.Noted.{saw, is_same_op}
-use Rattle.oneshot_machine.specs.Phases.{Share, filled, Got, at_once, full, idle, after_load, waits, blocked, SenderAt, fresh, sender_next, sender_at, ReceiverAt, first, receiver_moves, receiver_next}
+use Rattle.oneshot_machine.specs.Phases.{Share, filled, Got, at_once, full, idle, after_load, waits, blocked, SenderAt, fresh, sender_next, sender_at}
+use Rattle.oneshot_machine.specs.Phases.{ReceiverAt, untouched, receiver_moves, receiver_next}
 use Rattle.oneshot_machine.specs.Phases.{receiver_at}
 use Rattle.oneshot_machine.specs.Slots.{Held, away, vacant, held, is_held, is_vacant, SlotChange, stays_vacant, stays_held, gets_thing, head, tail, may, finds, SenderMay, SenderFinds, ReceiverMay}
 use Rattle.oneshot_machine.specs.Slots.{ReceiverFinds, not_its_own, owns, SenderOwns}
@@ -102,7 +103,7 @@ module _ {T W : Type 0} where
       → ReceiverIs s q m w → ReceiverDid s op found t → found ≡ word
       → receiver_at t.log ≡ receiver_next q op (saw op word)
   receiver_went {s} op word {found} is did same =
-      ap receiver_at did.list ∙ phase_from-snoc receiver_next first s.log (op, saw op found)
+      ap receiver_at did.list ∙ phase_from-snoc receiver_next untouched s.log (op, saw op found)
       ∙ (λ i. receiver_next (is.at i) op (saw op (same i)))
 
   -- its phase, with whatever slots it has

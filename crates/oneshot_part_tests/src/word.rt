@@ -3,7 +3,7 @@
 ghost use Rattle.std.specs.Prelude.{◌≡◌, ◌⊎◌};
 ghost use Rattle.oneshot_machine.specs.declared.states.Op.TheVariants.{Load, Swap};
 ghost use Rattle.oneshot_machine.specs.Over.{SenderIsOver, ReceiverIsOver};
-ghost use Rattle.oneshot_machine.specs.Phases.{By, fresh, sender_at, after_load, first, idle, blocked, waits, overdue, receiver_at};
+ghost use Rattle.oneshot_machine.specs.Phases.{By, fresh, sender_at, after_load, untouched, idle, blocked, waits, overdue, receiver_at};
 ghost use Rattle.oneshot_machine.specs.Slots.{vacant};
 ghost use Rattle.oneshot_word.specs.Side.{SenderCan, ReceiverCan};
 
@@ -30,7 +30,7 @@ fn a_slot_has_one_tag_beside_the_larger_of_its_values(rt: HostRuntime) -> Result
 #[test]
 fn a_waker_goes_one_way_and_a_message_the_other(rt: HostRuntime) -> Result<(), Fail> {
     let (mut sender, mut receiver) = open::<u8, u8, u8, ()>(rt.alloc(), &())?;
-    look(&rt, &mut receiver);
+    load_empty(&rt, &mut receiver);
     store_waker(&rt, &mut receiver, AnyWaker::Thread(5));
     assert!(rt; matches!(begin_send(&rt, &mut sender, 7), AnyWaker::Thread(5)));
     finish(&rt, &mut sender, 4, 1);
@@ -43,7 +43,7 @@ fn a_waker_goes_one_way_and_a_message_the_other(rt: HostRuntime) -> Result<(), F
 #[test]
 fn a_receiver_that_stops_waiting_goes_on(rt: HostRuntime) -> Result<(), Fail> {
     let (mut sender, mut receiver) = open::<u8, u8, u8, ()>(rt.alloc(), &())?;
-    look(&rt, &mut receiver);
+    load_empty(&rt, &mut receiver);
     store_waker(&rt, &mut receiver, AnyWaker::Thread(5));
     let is_own = matches!(stop(&rt, &mut receiver), AnyWaker::Thread(5));
     assert_eq!(rt; (is_own, sender.peek()), (true, 3));
@@ -59,7 +59,7 @@ fn a_receiver_that_stops_waiting_goes_on(rt: HostRuntime) -> Result<(), Fail> {
 #[test]
 fn an_overdue_receiver_gets_the_message(rt: HostRuntime) -> Result<(), Fail> {
     let (mut sender, mut receiver) = open::<u8, u8, u8, ()>(rt.alloc(), &())?;
-    look(&rt, &mut receiver);
+    load_empty(&rt, &mut receiver);
     store_waker(&rt, &mut receiver, AnyWaker::Thread(5));
     assert!(rt; matches!(begin_send(&rt, &mut sender, 7), AnyWaker::Thread(5)));
     stop_too_late(&rt, &mut receiver);
@@ -73,7 +73,7 @@ fn an_overdue_receiver_gets_the_message(rt: HostRuntime) -> Result<(), Fail> {
 #[test]
 fn an_overdue_receiver_finds_the_sender_gone(rt: HostRuntime) -> Result<(), Fail> {
     let (mut sender, mut receiver) = open::<u8, u8, u8, ()>(rt.alloc(), &())?;
-    look(&rt, &mut receiver);
+    load_empty(&rt, &mut receiver);
     store_waker(&rt, &mut receiver, AnyWaker::Task(6));
     assert!(rt; matches!(begin_drop(&rt, &mut sender), AnyWaker::Task(6)));
     stop_too_late(&rt, &mut receiver);
@@ -87,7 +87,7 @@ fn an_overdue_receiver_finds_the_sender_gone(rt: HostRuntime) -> Result<(), Fail
 #[test]
 fn a_receiver_that_stops_over_the_message_gets_it(rt: HostRuntime) -> Result<(), Fail> {
     let (mut sender, mut receiver) = open::<u8, u8, u8, ()>(rt.alloc(), &())?;
-    look(&rt, &mut receiver);
+    load_empty(&rt, &mut receiver);
     store_waker(&rt, &mut receiver, AnyWaker::Thread(5));
     let is_found = matches!(begin_send(&rt, &mut sender, 7), AnyWaker::Thread(5));
     finish(&rt, &mut sender, 4, 1);
@@ -101,7 +101,7 @@ fn a_receiver_that_stops_over_the_message_gets_it(rt: HostRuntime) -> Result<(),
 #[test]
 fn a_receiver_that_stops_over_an_end_closes(rt: HostRuntime) -> Result<(), Fail> {
     let (mut sender, mut receiver) = open::<u8, u8, u8, ()>(rt.alloc(), &())?;
-    look(&rt, &mut receiver);
+    load_empty(&rt, &mut receiver);
     store_waker(&rt, &mut receiver, AnyWaker::Thread(5));
     assert!(rt; matches!(begin_drop(&rt, &mut sender), AnyWaker::Thread(5)));
     finish(&rt, &mut sender, 2, 1);
@@ -112,8 +112,8 @@ fn a_receiver_that_stops_over_an_end_closes(rt: HostRuntime) -> Result<(), Fail>
     Ok(())
 }
 
-fn look(rt: &impl Abort, receiver: &mut ReceiverSide<u8, u8, u8>)
-    requires { receiver_at receiver.old.log ≡ first }
+fn load_empty(rt: &impl Abort, receiver: &mut ReceiverSide<u8, u8, u8>)
+    requires { receiver_at receiver.old.log ≡ untouched }
     ensures at { receiver_at receiver.new.log ≡ idle after_load }
     ensures waker { receiver.new.waker ≡ vacant }
 {

@@ -15,52 +15,52 @@ pub enum Ending {
     Told,
     /// The sender of the signal was dropped.
     Left,
-    /// It completed all its turns.
+    /// It completed all its rounds.
     Done,
 }
 
 /// What a worker did.
 #[derive(Clone, Copy, Debug, PartialEq, Eq)]
 pub struct Report {
-    /// How many turns it completed.
-    pub turns: u64,
+    /// How many rounds it completed.
+    pub rounds: u64,
     /// Why it stopped.
     pub ending: Ending,
 }
 
-/// Calls `turn` until the stop signal comes or its sender is dropped, but at most `limit` times.
+/// Calls `round` until the stop signal comes or its sender is dropped, but at most `limit` times.
 ///
-/// `stop` is the receiver of the signal, `limit` the largest number of turns, and a call of `turn` is one
-/// turn. Returns how many turns were completed, and why the worker stopped.
+/// `stop` is the receiver of the signal, `limit` the largest number of rounds, and a call of `round` is one
+/// round. Returns how many rounds were completed, and why the worker stopped.
 pub fn work_until<Rt: Drop, F: FnMut()>(
     stop: &mut Receiver<(), Rt>,
     limit: u64,
-    mut turn: F,
+    mut round: F,
 ) -> Report
-    requires { F.IsAlwaysCallable turn }
-    ensures limit { result.turns ≤ limit }
-    ensures done { result.ending ≡ Done → result.turns ≡ limit }
+    requires { F.IsAlwaysCallable round }
+    ensures limit { result.rounds ≤ limit }
+    ensures done { result.ending ≡ Done → result.rounds ≡ limit }
     ensures heard { result.ending ≢ Done → IsClosed stop.new.log }
 {
-    for turns in 0..limit {
+    for rounds in 0..limit {
         match stop.try_recv() {
             Ok(()) => {
                 return Report {
-                    turns,
+                    rounds,
                     ending: Ending::Told,
                 };
             }
             Err(TryRecvError::Disconnected) => {
                 return Report {
-                    turns,
+                    rounds,
                     ending: Ending::Left,
                 };
             }
-            Err(TryRecvError::Empty) => turn(),
+            Err(TryRecvError::Empty) => round(),
         }
     }
     Report {
-        turns: limit,
+        rounds: limit,
         ending: Ending::Done,
     }
 }
@@ -85,7 +85,7 @@ fn end(stop: Sender<()>, order: Order) {
     }
 }
 
-/// Runs a worker, which yields in each turn, until an owner on another thread stops it.
+/// Runs a worker, which yields in each round, until an owner on another thread stops it.
 ///
 /// `rt` is the runtime of the threads, `alloc` allocates the channel, and `order` is how the owner stops it.
 /// `Ok`: the worker's report. `Err`: out of memory.

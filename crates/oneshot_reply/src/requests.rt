@@ -10,7 +10,8 @@ use std::marker::Model;
 /// A question, with the sender of its reply.
 ///
 /// Dropping it unanswered drops that sender: a waiting ticket is woken, and returns an error. The drop does not wait
-/// for the ticket: it blocks only if the drop of the question does.
+/// for the ticket: it blocks only if the drop of the question does. To wake a task, it takes the lock of the queue of
+/// that task's executor.
 ///
 /// It may be sent to another thread if `Q` and `A` are `Send`.
 ///
@@ -65,7 +66,8 @@ impl<Q: Eq, A: Answer<Q>> Request<Q, A> {
 
 impl<Q: Eq + Drop, A: Answer<Q> + Message> Request<Q, A> {
     /// Answers with a reply that fits, wakes a waiting ticket, and drops the question. It does not allocate, and
-    /// blocks only if the drop of the question does.
+    /// blocks only if the drop of the question does. To wake a task, it takes the lock of the queue of that task's
+    /// executor, as `send` does.
     ///
     /// - `Ok`: the ticket was there. It may still be dropped before it takes the reply.
     /// - `Err`: the ticket was dropped, or the future that it became was dropped, perhaps while `answer` was about

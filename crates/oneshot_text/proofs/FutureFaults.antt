@@ -15,7 +15,7 @@ pub data FutureHead (word : List ℕ) (rest : List (List ℕ)) : Type 0 where
   poll : word ≡ codes "poll" → NumberAnd AsksForFuture rest → FutureHead word rest
   bare : (call : AsyncCall) → number_behind call ≡ [] → word ≡ first_word_of_future_call call → AsksForFuture rest
       → FutureHead word rest
-  drop : word ≡ codes "drop" → rest ≡ [] → FutureHead word rest
+  future_drop : word ≡ codes "drop" → rest ≡ [] → FutureHead word rest
 
 -- the words after the first call
 abbrev as_future : (calls : List AsyncCall) (last : AsyncLast) (rest : List (List ℕ)) → HasNumbers calls
@@ -24,7 +24,7 @@ as_future calls last rest fits is = record { script = record { calls = calls; la
 
 future_head_of : (calls : List AsyncCall) (last : AsyncLast) (word : List ℕ) (rest : List (List ℕ)) → HasNumbers calls
     → word ∷ rest ≡ words_of_future_calls calls ++ words_of_future_last last → FutureHead word rest
-future_head_of [] Drop word rest fits is = drop (cc) (cc)
+future_head_of [] Drop word rest fits is = future_drop (cc) (cc)
 future_head_of [] Stop word rest fits is = absurd (cc)
 future_head_of (Poll n ∷ calls) last word rest fits is =
     poll (cc) (record {
@@ -68,7 +68,7 @@ bare-no_drop IsClosed is = unlike (codes "drop") (codes "closed") refl refl is
 no_number_in_future : (n : ℕ) (xs : List (List ℕ)) → n < 2 ^ 64 → FutureHead (decimal n) xs → ⊥
 no_number_in_future n xs small (poll is asks) = no_number_in_call n (Poll 0) small is
 no_number_in_future n xs small (bare call none is asks) = no_number_in_call n call small is
-no_number_in_future n xs small (drop is over) = decimal-no_letter n (codes "drop") small (omega arith) is
+no_number_in_future n xs small (future_drop is over) = decimal-no_letter n (codes "drop") small (omega arith) is
 
 pub future-no_number : (n : ℕ) (xs : List (List ℕ)) → n < 2 ^ 64 → ¬ (AsksForFuture (decimal n ∷ xs))
 future-no_number n xs small asks = no_number_in_future n xs small (future_head (decimal n) xs asks)
@@ -77,7 +77,7 @@ future-no_number n xs small asks = no_number_in_future n xs small (future_head (
 poll_from_head : (rest : List (List ℕ)) → FutureHead (codes "poll") rest → NumberAnd AsksForFuture rest
 poll_from_head rest (poll is asks) = asks
 poll_from_head rest (bare call none is asks) = absurd (bare-no_poll call none is)
-poll_from_head rest (drop is over) = absurd (unlike (codes "poll") (codes "drop") refl refl is)
+poll_from_head rest (future_drop is over) = absurd (unlike (codes "poll") (codes "drop") refl refl is)
 
 pub poll_to : (rest : List (List ℕ)) → NumberAnd AsksForFuture rest → AsksForFuture (codes "poll" ∷ rest)
 poll_to rest asks = record {
@@ -94,7 +94,7 @@ bare_from_head : (call : AsyncCall) (rest : List (List ℕ)) → number_behind c
     → FutureHead (first_word_of_future_call call) rest → AsksForFuture rest
 bare_from_head call rest none (poll is asks) = absurd (bare-no_poll call none (sym is))
 bare_from_head call rest none (bare other without is asks) = asks
-bare_from_head call rest none (drop is over) = absurd (bare-no_drop call (sym is))
+bare_from_head call rest none (future_drop is over) = absurd (bare-no_drop call (sym is))
 
 bare_from : (call : AsyncCall) (rest : List (List ℕ)) → number_behind call ≡ []
     → AsksForFuture (first_word_of_future_call call ∷ rest) → AsksForFuture rest
@@ -153,7 +153,7 @@ numbers_more (first ∷ calls) call fits small = (fits.0, numbers_more calls cal
 drop_from_head : (rest : List (List ℕ)) → FutureHead (codes "drop") rest → IsOver rest
 drop_from_head rest (poll is asks) = absurd (unlike (codes "drop") (codes "poll") refl refl is)
 drop_from_head rest (bare call none is asks) = absurd (bare-no_drop call is)
-drop_from_head rest (drop is over) = over
+drop_from_head rest (future_drop is over) = over
 
 pub future_drop_to : (rest : List (List ℕ)) → IsOver rest → AsksForFuture (codes "drop" ∷ rest)
 future_drop_to rest over =
@@ -169,7 +169,7 @@ module _ (left : List (List ℕ))
   unknown_in_future : (word : List ℕ) → slice_get left 0 ≡ Some word → (rest : List (List ℕ)) → FutureHead word rest → ⊥
   unknown_in_future word at rest (poll is asks) = no_call (Poll 0) (at ∙ ap (λ w. Some w) is)
   unknown_in_future word at rest (bare call none is asks) = no_call call (at ∙ ap (λ w. Some w) is)
-  unknown_in_future word at rest (drop is over) = no_drop (at ∙ ap (λ w. Some w) is)
+  unknown_in_future word at rest (future_drop is over) = no_drop (at ∙ ap (λ w. Some w) is)
 
   pub future-no_word : (word : List ℕ) → slice_get left 0 ≡ Some word → (rest : List (List ℕ))
       → ¬ (AsksForFuture (word ∷ rest))

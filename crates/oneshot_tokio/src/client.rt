@@ -102,6 +102,7 @@ impl<R: Clock + AllocGlobal> Client<'_, R> {
     pub fn give_up(&self, root: u32) -> io::Result<Within<Service, (), ()>> {
         let (job, ticket, reported) = job_for(self.rt.alloc(), root)?;
         drop(ticket);
+        // A job that the queue refuses is dropped here, so no report will come.
         let _ = self.jobs.send(job);
         recv_within(self.rt, self.time, self.limit, reported)
     }

@@ -60,6 +60,7 @@ pub fn keep_time<R: Wait + Clock>(
     for _ in rt.forever() {
         let now = Instant::now(rt)?;
         let mut poll = task.begin();
+        // When the next timer is due does not matter: the wait below lasts a millisecond.
         timers.turn(&mut poll, now);
         poll.park();
         if stop.recv_timeout(Duration::from_millis(1)) != Err(RecvTimeoutError::Timeout) {
@@ -91,6 +92,7 @@ where
         move || keep_time(rt, timers, task, stopped),
         move || {
             let value = uses(pool);
+            // If the thread of the timers is gone, there is nothing to stop.
             let _ = stop.send(());
             value
         },

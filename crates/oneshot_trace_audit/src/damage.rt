@@ -51,6 +51,7 @@ pub(crate) fn apply(
 ) -> Result<(), AllocError> {
     match change {
         Edit::Remove(number) => {
+            // The entry is not put anywhere else.
             let _ = remove(rt, trace, number);
         }
         Edit::Double(number) => {

@@ -125,5 +125,5 @@ wrong_values {T} m =
       got_before = got_before;
       found_nothing = λ so. let end : IsLast T so.0 (TryRecv, R.Message) ((Load, Word EMPTY) ∷ []) =
           last_call so.0 (TryRecv, R.Message) so.1 refl in takes_nothing end.made end.before end.leaves;
-      looked = λ so. let is : false ≡ true = sender_is so.order in cc is;
+      loaded = λ so. let is : false ≡ true = sender_is so.order in cc is;
     }

@@ -36,4 +36,4 @@ module _ {T : Type 0} (m : T) where
     -- one that found nothing did not return it, whatever was called before
     pub found_nothing : OnlyTheLastGot T ((Load, Word EMPTY) ∷ []) → ⊥
     -- no sender loads the word
-    pub looked : ErrorRuns m ((Load, Word EMPTY) ∷ []) → ⊥
+    pub loaded : ErrorRuns m ((Load, Word EMPTY) ∷ []) → ⊥

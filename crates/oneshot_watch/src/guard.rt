@@ -8,7 +8,8 @@ use std::marker::Model;
 
 /// Tells its watch when it is dropped, with whatever holds it: a ticket, a receiver, the variables of a block.
 ///
-/// The drop wakes a waiting watch. It never blocks and does not allocate.
+/// The drop wakes a waiting watch. It never blocks and does not allocate. To wake a task, it takes the lock of the
+/// queue of that task's executor.
 ///
 /// In contracts a guard is its sender's value (`SenderView`).
 ///

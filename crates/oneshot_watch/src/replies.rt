@@ -85,7 +85,7 @@ impl<Q: Eq, A: Answer<Q> + Drop, Rt: Drop> CancellableReply<Q, A, Rt> {
         ensures closes { result ≢ Err Tried.Empty → IsClosed self.new.log }
         ensures stays_open { result ≡ Err Tried.Empty → IsOpen self.new.log }
         ensures stays_closed { IsClosed self.old.log → result ≡ Err Tried.Disconnected }
-        ensures registered { StaysRegistered result (receiver_at self.old.log) (receiver_at self.new.log) }
+        ensures stays_registered { StaysRegistered result (receiver_at self.old.log) (receiver_at self.new.log) }
         ensures same_waker { result ≡ Err Tried.Empty → self.new.registered ≡ self.old.registered }
         ensures bounded { GrewWithin (receiver_bound C.AsyncTryRecv) self.old.log self.new.log }
         ensures promise { IfOk result (λ reply. Q.eq (A.asked reply) self.old.channel.about.question ≡ true) }

@@ -12,7 +12,8 @@ use std::marker::Model;
 /// Its calls are those of `Request`, with the same contracts; `into_parts` also gives the watch.
 ///
 /// Dropping it unanswered drops the sender of the reply: a waiting ticket is woken, and returns an error. The drop
-/// does not wait for the ticket: it blocks only if the drop of the question or of the watch's `rt` does.
+/// does not wait for the ticket: it blocks only if the drop of the question or of the watch's `rt` does. To wake a
+/// task, it takes the lock of the queue of that task's executor.
 ///
 /// It may be sent to another thread if `Q`, `A` and `Rt` are `Send`.
 ///
@@ -71,7 +72,8 @@ impl<Q: Eq, A: Answer<Q>, Rt> CancellableRequest<Q, A, Rt> {
 
 impl<Q: Eq + Drop, A: Answer<Q> + Message, Rt: Drop> CancellableRequest<Q, A, Rt> {
     /// Answers with a reply that fits, wakes a waiting ticket, and drops the question and the watch. It does not
-    /// allocate, and blocks only if the drop of the question or of the watch's `rt` does.
+    /// allocate, and blocks only if the drop of the question or of the watch's `rt` does. To wake a task, it takes the
+    /// lock of the queue of that task's executor.
     ///
     /// - `Ok`: the ticket was there. It may still be dropped before it takes the reply.
     /// - `Err`: the ticket was dropped, or the future that it became was dropped, perhaps while `answer` was about

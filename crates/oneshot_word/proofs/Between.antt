@@ -1,7 +1,7 @@
 -- What follows from an order of both logs: the word for both phases, and what each log shows.
 use Rattle.std.proofs.Common.{◌≡◌, ℕ, Bool, List, [], ◌∷◌, refl}
 use Rattle.oneshot_word.proofs.Names.{◌++◌, sym, subst, ◌==◌, eqb-true, Op, Noted, saw, has_row, Reaches, nothing_made, sender_makes, receiver_makes, Row, Slots, SenderAt, fresh, sender_at}
-use Rattle.oneshot_word.proofs.Names.{sender_next, sender_moves, ReceiverAt, first, receiver_at, receiver_next, receiver_moves, Held, In, Finds, finds, word_after, phase_from-snoc}
+use Rattle.oneshot_word.proofs.Names.{sender_next, sender_moves, ReceiverAt, untouched, receiver_at, receiver_next, receiver_moves, Held, In, Finds, finds, word_after, phase_from-snoc}
 use Rattle.oneshot_machine.proofs.EachPhase.{in_each_sender_row, in_each_receiver_row}
 use Rattle.oneshot_word.proofs.KeptRows.{stepped}
 use Rattle.oneshot_word.proofs.RuleKept.{sender_leaves, receiver_leaves}
@@ -34,7 +34,7 @@ between (sender_makes {xs} {ys} {word} op order (has_row row)) =
 between (receiver_makes {xs} {ys} {word} op order (has_row row)) =
     let p = sender_at xs in
     let q = receiver_at ys in
-    let after = sym (phase_from-snoc receiver_next first ys (op, saw op word)) in
+    let after = sym (phase_from-snoc receiver_next untouched ys (op, saw op word)) in
     subst (λ q. Is (word_between p q) (word_after op word)) after
     (subst (λ n. Is (word_between p (receiver_next q op (saw op word))) n) (receiver_word q row)
     (receiver_leaves p q (between order) row))
@@ -53,7 +53,7 @@ receiver_told nothing_made = record { stores = refl; overdue = refl; gone = refl
 receiver_told (sender_makes op order row) = receiver_told order
 receiver_told (receiver_makes {ys} {word} op order (has_row row)) =
     let y : Noted = (op, saw op word) in
-    subst (λ q. ReceiverSays (ys ++ y ∷ []) q) (sym (phase_from-snoc receiver_next first ys y))
+    subst (λ q. ReceiverSays (ys ++ y ∷ []) q) (sym (phase_from-snoc receiver_next untouched ys y))
     (receiver_says (receiver_at ys) word row (receiver_told order))
 
 -- an order, continued by an operation that was found in the phases' table

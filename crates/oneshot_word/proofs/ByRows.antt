@@ -3,7 +3,8 @@ use Rattle.std.proofs.Common.{◌≡◌, ℕ, Bool, true, false, List, [], ◌�
 use Rattle.std.specs.Prelude.{if◌then◌else◌}
 use Rattle.oneshot_word.proofs.Names.{◌++◌, sym, ap, ◌∙◌, subst, true≢false, ◌==◌, list_all, and_parts, eqb-true, End, Seen, Op, Load, Store, Swap, Exchange, Add, Xor, Noted, saw, is_same_op}
 use Rattle.oneshot_word.proofs.Names.{is_same_seen, InOrder, none_made, by_sender, by_receiver, HasRow, has_row, Reaches, nothing_made, sender_makes, receiver_makes, Row, SenderAt, fresh, owes}
-use Rattle.oneshot_word.proofs.Names.{finished, no_sender, sender_at, sender_next, sender_moves, ReceiverAt, first, no_receiver, receiver_at, receiver_next, receiver_moves, is_row_for, next_by, In}
+use Rattle.oneshot_word.proofs.Names.{finished, no_sender, sender_at, sender_next, sender_moves, ReceiverAt, untouched, no_receiver, receiver_at, receiver_next}
+use Rattle.oneshot_word.proofs.Names.{receiver_moves, is_row_for, next_by, In}
 use Rattle.oneshot_word.proofs.Names.{head, tail, each_passes, ops_are_same, Passing, phase_from-snoc, ends_of}
 use Rattle.oneshot_machine.specs.declared.machine.End.TheVariants.{Sender, Receiver}
 use Rattle.oneshot_machine.proofs.EachPhase.{at_each_pair}
@@ -132,7 +133,7 @@ by_rows (by_receiver {xs} {ys} {word} op order) s r =
     let q = receiver_at ys in
     let seen = saw op word in
     let phase : is_receivers (receiver_next q op seen) ≡ true =
-    subst (λ q. is_receivers q ≡ true) (phase_from-snoc receiver_next first ys (op, seen)) r in
+    subst (λ q. is_receivers q ≡ true) (phase_from-snoc receiver_next untouched ys (op, seen)) r in
     let so : IsByRows order = by_rows order s (receiver_was q op seen phase) in
     let row : HasRow (receiver_moves q) op word =
     row_for_it (between so.reaches) (receiver_stores (sender_at xs) q)

@@ -3,7 +3,8 @@ use Rattle.std.proofs.Common.{◌≡◌, ℕ, Bool, Option, Some, None, List, []
 use mathlib.Core.Option as maybe
 use Rattle.oneshot_machine.specs.TableRows.{is_same_seen}
 use Rattle.oneshot_word.proofs.Names.{Word, ◌++◌, get_or, set, sym, ◌∙◌, subst, State, Me, Act, Valid, Allows, homes_after, carried_after, Op, Noted, saw, Reaches, fresh, sender_at, sender_owns}
-use Rattle.oneshot_word.proofs.Names.{sender_next, sender_moves, first, receiver_at, receiver_owns, receiver_next, receiver_moves, Held, away, SenderMay, ReceiverMay, Finds, finds, phase_from-snoc}
+use Rattle.oneshot_word.proofs.Names.{sender_next, sender_moves, untouched, receiver_at, receiver_owns, receiver_next, receiver_moves, Held, away, SenderMay}
+use Rattle.oneshot_word.proofs.Names.{ReceiverMay, Finds, finds, phase_from-snoc}
 use Rattle.oneshot_word.proofs.Names.{AnyWaker, Slot, Message, View, IsPut, IsClaimed, Home, message_home, waker_home, Lies, IsGiven, IsTaken, Tied, runs, view, any, unsaid, with_waker, message_in}
 use Rattle.oneshot_word.proofs.Names.{waker_in, Front, waker_first, message_first, SeatOf, GivesOnce, HoldsTaken, HoldsClaimed, gave, took, SenderSeat, ReceiverSeat, SenderStepped, ReceiverStepped}
 use Rattle.oneshot_word.proofs.Names.{MESSAGE}
@@ -46,7 +47,7 @@ module _ {T H K P : Type 0} (keeps : P → T → Type 0) (q : P) where
         → Tied keeps q (stepped op word ∷ []) (h ∷ k ∷ [])
         (view q Sender xs given woke ∷ view q Receiver (ys ++ (op, saw op word) ∷ []) taken put ∷ [])
     receiver_runs order found lies lies' same claimed =
-        let after = sym (phase_from-snoc receiver_next first ys (op, saw op word)) in
+        let after = sym (phase_from-snoc receiver_next untouched ys (op, saw op word)) in
         runs xs (ys ++ (op, saw op word) ∷ []) (receiver_reaches order found)
         (subst (λ at. Lies (IsGiven keeps q given) Message (message_home (sender_at xs) at) h) after lies)
         (subst (λ at. Lies (IsPut put) with_waker (waker_home (sender_at xs) at) k) after lies') same claimed
@@ -141,7 +142,7 @@ module _ {T H K P : Type 0} (keeps : P → T → Type 0) (q : P) where
               let found_so = finds row changes changes' in
               let taken : Option T = took m m' me.0.passed in
               let x : Noted = (op, saw op found) in
-              let after = phase_from-snoc receiver_next first me.0.log x in
+              let after = phase_from-snoc receiver_next untouched me.0.log x in
               let ys : List Noted = me.0.log ++ x ∷ [] in (
                 view q Receiver ys taken (gave w w' put),
                 act,

@@ -27,14 +27,14 @@ facts_next t op seen =
 abbrev agree : Facts → Facts → Bool
 agree s t = is_bool s.0 t.0 && is_bool s.1 t.1 && is_bool s.2 t.2 && is_word s.3 t.3
 
-record Tells (s t : Facts) : Type 0 where
+record AreSame (s t : Facts) : Type 0 where
   stores : s.0 ≡ t.0
   overdue : s.1 ≡ t.1
   gone : s.2 ≡ t.2
   wrote : s.3 ≡ t.3
 
-tells : (s t : Facts) → agree s t ≡ true → Tells s t
-tells s t all =
+are_same : (s t : Facts) → agree s t ≡ true → AreSame s t
+are_same s t all =
     let wrote = and_parts (is_bool s.0 t.0 && is_bool s.1 t.1 && is_bool s.2 t.2) (is_word s.3 t.3) all in
     let gone = and_parts (is_bool s.0 t.0 && is_bool s.1 t.1) (is_bool s.2 t.2) wrote.0 in
     let first = and_parts (is_bool s.0 t.0) (is_bool s.1 t.1) gone.0 in
@@ -74,8 +74,8 @@ sender_says _ (says_overtaken _ _) there = elim there [ ]
 
 adds : (q : ReceiverAt) {next : ReceiverAt} {op : Op} {before after : Slots} (word : ℕ)
     → In (op, before, word, next, after) (receiver_moves q)
-    → Tells (facts_next (facts_at q) op (saw op word)) (facts_at (receiver_next q op (saw op word)))
-adds q word row = tells _ _ (in_each_receiver_row agree_by refl q row)
+    → AreSame (facts_next (facts_at q) op (saw op word)) (facts_at (receiver_next q op (saw op word)))
+adds q word row = are_same _ _ (in_each_receiver_row agree_by refl q row)
 
 pub receiver_says : {ys : List Noted} (q : ReceiverAt) {next : ReceiverAt} {op : Op} {before after : Slots} (word : ℕ)
     → In (op, before, word, next, after) (receiver_moves q) → ReceiverSays ys q

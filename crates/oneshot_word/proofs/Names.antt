@@ -9,9 +9,10 @@ pub use Rattle.oneshot_machine.proofs.GrownLogs.{phase_from-snoc}
 pub use Rattle.oneshot_machine.proofs.Sameness.{each_passes, is_same_share, ops_are_same, shares_are_same, same_sight, Passing}
 pub use Rattle.oneshot_machine.specs.Noted.{Noted, saw, is_same_op}
 pub use Rattle.oneshot_machine.specs.Orders.{has_row, Reaches, nothing_made, sender_makes, receiver_makes, HasRow, InOrder, none_made, by_sender, by_receiver}
-pub use Rattle.oneshot_machine.specs.Phases.{By, sending, dropping, SenderAt, fresh, owes, finished, found_gone, overtaken, swapped, found_closed, closed_itself, ReceiverAt, first}
+pub use Rattle.oneshot_machine.specs.Phases.{By, sending, dropping, SenderAt, fresh, owes, finished, found_gone, overtaken, swapped, found_closed, closed_itself, ReceiverAt, untouched}
 pub use Rattle.oneshot_machine.specs.Phases.{idle, claimed, withdrew}
-pub use Rattle.oneshot_machine.specs.Phases.{overdue, full, unclosed, disconnected, resolved, gone, swapped_in, word_of, at_once, waited, by_future, by_poll, Share, no_sender, sender_owns, Row, Slots}
+pub use Rattle.oneshot_machine.specs.Phases.{overdue, full, overwritten, disconnected, resolved, gone, swapped_in, word_of, at_once, waited, by_future, by_poll, Share}
+pub use Rattle.oneshot_machine.specs.Phases.{no_sender, sender_owns, Row, Slots}
 pub use Rattle.oneshot_machine.specs.Phases.{sender_at, sender_next, sender_moves, receiver_at, receiver_next, receiver_moves, receiver_owns, none, empty, filled, no_receiver, is_row_for, next_by}
 pub use Rattle.oneshot_machine.specs.Slots.{Held, IsOwned, not_its_own, own_vacant, own_held, Owns, away, vacant, held, SenderMay, may, SlotChange, stays_away, stays_vacant, stays_held, gives_room}
 pub use Rattle.oneshot_machine.specs.Slots.{gives_thing, gets_room, gets_thing, In, Finds, finds, head, tail, IsSlot, is_away, is_vacant, is_held, ReceiverMay, May, SenderOwns, ReceiverOwns}
@@ -33,7 +34,8 @@ pub use Rattle.oneshot_word.specs.ReadRule.{waker_claimed, claimed_overdue, clai
 pub use Rattle.oneshot_word.specs.ReadRule.{maker_with_slot_alone, two_ends, IsSenders, IsReceivers}
 pub use Rattle.oneshot_word.specs.ReadRule.{IsWords}
 pub use Rattle.oneshot_word.specs.Received.{both_views, ReceivedIsSent, WokenIsPut}
-pub use Rattle.oneshot_word.specs.Rule.{Home, has_slots, waker_left, message_home, waker_home, Lies, lies_out, lies_bare, lies_filled, Tied, opened, dealt, runs, IsGiven, IsTaken, took_none, took_it}
+pub use Rattle.oneshot_word.specs.Rule.{Home, has_slots, waker_left, message_home, waker_home, Lies, lies_out, lies_bare, lies_filled, Tied, opened, slot_taken, runs}
+pub use Rattle.oneshot_word.specs.Rule.{IsGiven, IsTaken, took_none, took_it}
 pub use Rattle.oneshot_word.specs.Rule.{IsPut, has_made, IsClaimed, claimed_none, claimed_it, out, bare, has_waker, has_message}
 pub use Rattle.oneshot_word.specs.Seats.{any, SlotOf, with_waker, Carried, slot_vacant, slot_held, Part, not_carried, carried, Front, SeatOf, seat_of, GivesOnce, has_given, gave_none, HoldsTaken}
 pub use Rattle.oneshot_word.specs.Seats.{holds_no_slot, holds_none, holds_it, HoldsClaimed, claims_no_slot, claims_none, claims_it, gave, took, message_in, waker_in, MessageSlot, WakerSlot}

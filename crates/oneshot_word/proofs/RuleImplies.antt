@@ -1,8 +1,8 @@
 -- What the rule implies phase by phase: the word for each pair of phases, and what each log shows.
 use Rattle.std.specs.Prelude.{◌≡◌, ℕ, Bool, true, false, List, [], Option, Some, None}
-use Rattle.oneshot_word.proofs.Names.{Noted, By, sending, dropping, SenderAt, fresh, owes, finished, found_gone, overtaken, swapped, found_closed, closed_itself, ReceiverAt, first}
+use Rattle.oneshot_word.proofs.Names.{Noted, By, sending, dropping, SenderAt, fresh, owes, finished, found_gone, overtaken, swapped, found_closed, closed_itself, ReceiverAt, untouched}
 use Rattle.oneshot_word.proofs.Names.{idle, claimed, withdrew}
-use Rattle.oneshot_word.proofs.Names.{overdue, full, unclosed, disconnected, resolved, gone, swapped_in, word_of, Message, FoundZero, MadeLast, MadeLate, stores_waker, is_overdue, is_gone}
+use Rattle.oneshot_word.proofs.Names.{overdue, full, overwritten, disconnected, resolved, gone, swapped_in, word_of, Message, FoundZero, MadeLast, MadeLate, stores_waker, is_overdue, is_gone}
 use Rattle.oneshot_word.proofs.Names.{wrote_since, Home, message_home, waker_home, Lies, AnyWaker, with_waker, RECEIVING, UNPARKING, DISCONNECTED, EMPTY, MESSAGE}
 use Rattle.oneshot_machine.specs.Phases.{waits, ended}
 
@@ -15,7 +15,7 @@ final_word dropping = DISCONNECTED
 -- The word while the ends are in these phases, or none if they never are.
 abbrev pub word_between : SenderAt → ReceiverAt → Option ℕ
 -- the sender has performed no operation
-word_between fresh first = Some EMPTY
+word_between fresh untouched = Some EMPTY
 word_between fresh (idle open_at) = Some EMPTY
 word_between fresh (waits waiting) = Some RECEIVING
 word_between fresh withdrew = Some EMPTY
@@ -29,7 +29,7 @@ word_between (owes by) gone = Some DISCONNECTED
 word_between (found_gone by) gone = Some EMPTY
 word_between (overtaken by) gone = Some (final_word by)
 -- it has performed its last operation, and the receiver has performed none since
-word_between (finished by) first = Some (final_word by)
+word_between (finished by) untouched = Some (final_word by)
 word_between (finished by) (idle open_at) = Some (final_word by)
 word_between (finished by) (waits waiting) = Some (final_word by)
 word_between (finished by) claimed = Some (final_word by)
@@ -37,7 +37,7 @@ word_between (finished by) withdrew = Some (final_word by)
 word_between (finished by) overdue = Some (final_word by)
 -- the receiver has performed one since
 word_between (finished sending) (full got) = Some (word_of got)
-word_between (finished dropping) (unclosed swapping) = Some (swapped_in swapping)
+word_between (finished dropping) (overwritten swapping) = Some (swapped_in swapping)
 word_between (finished dropping) (disconnected found_closed) = Some DISCONNECTED
 word_between (finished dropping) (resolved found_closed) = Some DISCONNECTED
 word_between (finished by) (disconnected closed_itself) = Some DISCONNECTED
@@ -74,7 +74,7 @@ gone_of _ = false
 
 abbrev pub wrote_of : ReceiverAt → Option ℕ
 wrote_of (full (swapped by)) = Some (swapped_in by)
-wrote_of (unclosed by) = Some (swapped_in by)
+wrote_of (overwritten by) = Some (swapped_in by)
 wrote_of (disconnected closed_itself) = Some 2
 wrote_of (resolved closed_itself) = Some 2
 wrote_of ended = Some 2

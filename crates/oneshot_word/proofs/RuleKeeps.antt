@@ -1,7 +1,7 @@
 -- A message in the table keeps its channel's promise.
 use Rattle.std.proofs.Common.{◌≡◌, ℕ, List, [], ◌∷◌, refl}
 use Rattle.oneshot_word.proofs.Names.{subst, Add, nothing_made, sender_makes, has_row, Share, head, Message, View, RuleKeeps, Home, has_message, Lies, lies_out, lies_bare, lies_filled, took_none}
-use Rattle.oneshot_word.proofs.Names.{claimed_none, Tied, opened, dealt, runs}
+use Rattle.oneshot_word.proofs.Names.{claimed_none, Tied, opened, slot_taken, runs}
 
 module _ {T H K : Type 0} where
   pub lies_so : {kept : T → Type 0} {share : Share} {h : Home T H K} {m : T}
@@ -14,7 +14,7 @@ module _ {T H K : Type 0} where
     homes_so : {words : List ℕ} {homes : List (Home T H K)} {k : Home T H K} {views : List (View T H K P)} {m : T}
         → Tied keeps q words homes views → homes ≡ has_message m ∷ k ∷ [] → keeps q m
     homes_so opened is = absurd (cc)
-    homes_so dealt is = absurd (cc)
+    homes_so slot_taken is = absurd (cc)
     homes_so (runs xs ys order lies lies' same claimed) is = (lies_so lies (cc is)).0
 
 pub rule_keeps : {T P : Type 0} (H K : Type 0) (keeps : P → T → Type 0) → RuleKeeps H K keeps

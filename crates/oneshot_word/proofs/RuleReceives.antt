@@ -3,7 +3,7 @@
 use Rattle.std.proofs.Common.{◌≡◌, ℕ, List, [], ◌∷◌, Option, Some, refl}
 use mathlib.Core.Option as maybe
 use Rattle.oneshot_word.proofs.Names.{sym, ap, ◌∙◌, subst, Noted, has_made, View, both_views, ReceivedIsSent}
-use Rattle.oneshot_word.proofs.Names.{Home, has_message, lies_out, lies_bare, lies_filled, IsTaken, took_none, took_it, Tied, opened, dealt, runs, view}
+use Rattle.oneshot_word.proofs.Names.{Home, has_message, lies_out, lies_bare, lies_filled, IsTaken, took_none, took_it, Tied, opened, slot_taken, runs, view}
 use Rattle.oneshot_word.proofs.Names.{Reaches, AnyWaker, Share, Held, away, held, waker_of, with_waker, bare, has_waker, Lies, IsPut, IsClaimed, claimed_none, claimed_it, WokenIsPut}
 use Rattle.oneshot_word.specs.declared.any_waker.AnyWaker.TheVariants as R
 use Rattle.oneshot_word.proofs.SlotReads.{reads_back}
@@ -73,7 +73,7 @@ module _ {T H K P : Type 0} {keeps : P → T → Type 0} {q : P} where
       {given taken : Option T} {put woke : Option (AnyWaker H K)} {m : T} → Tied keeps q words homes views
       → views ≡ both_views q xs given woke ys taken put → taken ≡ Some m → given ≡ Some m
   was_given opened are is = absurd (cc)
-  was_given dealt are is = absurd (cc)
+  was_given slot_taken are is = absurd (cc)
   was_given (runs _ _ order lies lies' same claimed) are is =
       let alike = pass_alike are in
       sym alike.given_so ∙ taken_so same (alike.taken_so ∙ is)
@@ -83,7 +83,7 @@ module _ {T H K P : Type 0} {keeps : P → T → Type 0} {q : P} where
       → Tied keeps q words homes views
       → views ≡ both_views q xs given woke ys taken put → homes ≡ has_message m ∷ k ∷ [] → given ≡ Some m
   lies_given opened are is = absurd (cc)
-  lies_given dealt are is = absurd (cc)
+  lies_given slot_taken are is = absurd (cc)
   lies_given (runs _ _ order lies lies' same claimed) are is =
       sym (pass_alike are).given_so ∙ (lies_so lies (cc is)).1
 
@@ -92,7 +92,7 @@ module _ {T H K P : Type 0} {keeps : P → T → Type 0} {q : P} where
       {given taken : Option T} {put woke : Option (AnyWaker H K)} → Tied keeps q words homes views
       → views ≡ both_views q xs given woke ys taken put → (w : ℕ) × Reaches xs ys w
   both_reach opened are = absurd (cc are)
-  both_reach dealt are = absurd (cc are)
+  both_reach slot_taken are = absurd (cc are)
   both_reach {xs} {ys} {given} {taken} {put} {woke} (runs {w} xs' ys' {given = given'} {taken = taken'} {put = put'}
       {woke = woke'} order lies lies' same claimed) are =
       let senders : ◌≡◌ {A = View T H K P} (view q Sender xs' given' woke') (view q Sender xs given woke) = cc are in
@@ -107,7 +107,7 @@ module _ {T H K P : Type 0} {keeps : P → T → Type 0} {q : P} where
       {given taken : Option T} {put woke : Option (AnyWaker H K)} {k : AnyWaker H K} → Tied keeps q words homes views
       → views ≡ both_views q xs given woke ys taken put → woke ≡ Some k → put ≡ Some k
   was_put opened are is = absurd (cc are)
-  was_put dealt are is = absurd (cc are)
+  was_put slot_taken are is = absurd (cc are)
   was_put (runs _ _ order lies lies' same claimed) are is =
       let alike = pass_alike are in
       sym alike.put_so ∙ claimed_so claimed (alike.woke_so ∙ is)
@@ -117,7 +117,7 @@ module _ {T H K P : Type 0} {keeps : P → T → Type 0} {q : P} where
       {given taken : Option T} {put woke : Option (AnyWaker H K)} {k : AnyWaker H K} → Tied keeps q words homes views
       → views ≡ both_views q [] given woke ys taken put → woke ≡ Some k → ⊥
   never_claimed opened are is = absurd (cc are)
-  never_claimed dealt are is = absurd (cc are)
+  never_claimed slot_taken are is = absurd (cc are)
   never_claimed {ys} {given} {taken} {put} {woke} (runs xs' ys' {given = given'} {put = put'} {woke = woke'} order
       lies lies' same claimed) are is =
       let senders : ◌≡◌ {A = View T H K P} (view q Sender xs' given' woke') (view q Sender [] given woke) = cc are in
@@ -128,7 +128,7 @@ module _ {T H K P : Type 0} {keeps : P → T → Type 0} {q : P} where
       → Tied keeps q words homes views
       → views ≡ both_views q xs given woke ys taken put → homes ≡ h ∷ has_waker k ∷ [] → put ≡ Some k
   rests_put {k} opened are is = absurd (cc are)
-  rests_put {k} dealt are is = absurd (cc are)
+  rests_put {k} slot_taken are is = absurd (cc are)
   rests_put {k} (runs _ _ order lies lies' same claimed) are is =
       sym (pass_alike are).put_so ∙ rests_so k lies' (cc is)
 

@@ -3,7 +3,7 @@ use Rattle.std.proofs.Common.{◌≡◌, ℕ, List, [], ◌∷◌, Option, None}
 use mathlib.Core.Option as maybe
 use Rattle.oneshot_word.proofs.Names.{zero, suc, sym, ap, subst, some-injective, some-ne-none, get_elem?, Noted, Reaches, sender_at, receiver_at, Role, Maker, MakerWithSlot}
 use Rattle.oneshot_word.proofs.Names.{Message, View, Home, out, bare}
-use Rattle.oneshot_word.proofs.Names.{message_home, waker_home, Lies, IsGiven, IsTaken, Tied, opened, dealt, runs, view, AnyWaker, IsPut, IsClaimed, with_waker, EMPTY}
+use Rattle.oneshot_word.proofs.Names.{message_home, waker_home, Lies, IsGiven, IsTaken, Tied, opened, slot_taken, runs, view, AnyWaker, IsPut, IsClaimed, with_waker, EMPTY}
 use Rattle.oneshot_word.specs.declared.rule.Role.TheVariants.{Sender, Receiver}
 
 module _ {T H K P : Type 0} (keeps : P → T → Type 0) where
@@ -37,7 +37,7 @@ module _ {T H K P : Type 0} {keeps : P → T → Type 0} where
   sits {q} opened zero at =
       subst (λ (v : View T H K P). Sits {T = T} {H = H} {K = K} keeps q (EMPTY ∷ []) (bare ∷ bare ∷ [])
       (view q Maker [] None None ∷ []) 0 v.role v.log v.passed v.handed) (some-injective _ _ at) maker_sits
-  sits {q} dealt zero at =
+  sits {q} slot_taken zero at =
       subst (λ (v : View T H K P). Sits {T = T} {H = H} {K = K} keeps q (EMPTY ∷ []) (out ∷ bare ∷ [])
       (view q MakerWithSlot [] None None ∷ []) 0 v.role v.log v.passed v.handed) (some-injective _ _ at)
       maker_with_slot_sits
@@ -55,7 +55,7 @@ module _ {T H K P : Type 0} {keeps : P → T → Type 0} where
   pub knows : {q : P} {ws : List ℕ} {hs : List (Home T H K)} {vs : List (View T H K P)} {v : View T H K P}
       → Tied keeps q ws hs vs → (id : ℕ) → get_elem? vs id ≡ maybe.some v → v.about ≡ q
   knows opened zero at = sym (ap (λ (v : View T H K P). v.about) (some-injective _ _ at))
-  knows dealt zero at = sym (ap (λ (v : View T H K P). v.about) (some-injective _ _ at))
+  knows slot_taken zero at = sym (ap (λ (v : View T H K P). v.about) (some-injective _ _ at))
   knows (runs xs ys order lies lies' same claimed) zero at = sym
       (ap (λ (v : View T H K P). v.about) (some-injective _ _ at))
   knows (runs xs ys order lies lies' same claimed) (suc zero) at = sym

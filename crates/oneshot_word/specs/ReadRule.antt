@@ -55,10 +55,10 @@ pub data Owned {T H K : Type 0} (xs ys : List Noted) : ℕ → Home T H K → Ho
   sender_after : {h k : Home T H K} (by : By) {w : ℕ} → MadeLate by w xs → is_gone ys ≡ true
       → IsSenders h → IsSenders k → Owned xs ys w h k
   -- it sent, and the receiver has written nothing since
-  sent : {h k : Home T H K} → MadeLast sending xs → wrote_since ys ≡ None
+  sender_sent : {h k : Home T H K} → MadeLast sending xs → wrote_since ys ≡ None
       → IsReceiversFull h → IsReceivers k → Owned xs ys MESSAGE h k
   -- it dropped, and the receiver has written nothing since
-  dropped : {h k : Home T H K} → MadeLast dropping xs → wrote_since ys ≡ None
+  sender_dropped : {h k : Home T H K} → MadeLast dropping xs → wrote_since ys ≡ None
       → IsReceivers h → IsReceivers k → Owned xs ys DISCONNECTED h k
   -- the sender finished while the receiver was here, and the receiver has written since
   written : {h k : Home T H K} (by : By) {w : ℕ} → MadeLast by xs → wrote_since ys ≡ Some w

@@ -89,7 +89,7 @@ pub data Tied {T H K P : Type 0} (keeps : P → T → Type 0) (q : P)
   -- the table is new
   opened : Tied keeps q (EMPTY ∷ []) (bare ∷ bare ∷ []) (view q Maker [] None None ∷ [])
   -- its maker has the message's slot
-  dealt : Tied keeps q (EMPTY ∷ []) (out ∷ bare ∷ []) (view q MakerWithSlot [] None None ∷ [])
+  slot_taken : Tied keeps q (EMPTY ∷ []) (out ∷ bare ∷ []) (view q MakerWithSlot [] None None ∷ [])
   -- both ends exist: their operations have an order, each slot is where both phases put it, a message that
   -- is at home or that the receiver took is the one that the sender gave, and a waker that is at home or that
   -- the sender took is the one that the receiver gave last

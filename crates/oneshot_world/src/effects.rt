@@ -1,4 +1,5 @@
-//! What a step sees, and what it does to the word, the message's place and the state of its end.
+//! What a step sees, and what it does to the word, the message's place and the state of its end. Each function equals
+//! the definition of its name: the function is what runs, and the definition is what the laws are about.
 
 ghost use Rattle.std.specs.Prelude.{◌≡◌, ◌≤◌, ◌||◌};
 ghost use Rattle.oneshot_machine.specs.TableRows.{outcome};

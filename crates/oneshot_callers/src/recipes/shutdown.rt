@@ -9,17 +9,17 @@ use std::test::Fail;
 use std::thread::join;
 use std::time::{Clock, Duration};
 
-/// Calls `turn` until it is told to stop, or its owner is gone, but at most `limit` times.
-fn work<F: FnMut()>(stop: &mut Receiver<(), ()>, limit: u64, mut turn: F) -> u64
-    requires { F.IsAlwaysCallable turn }
+/// Calls `round` until it is told to stop, or its owner is gone, but at most `limit` times.
+fn work<F: FnMut()>(stop: &mut Receiver<(), ()>, limit: u64, mut round: F) -> u64
+    requires { F.IsAlwaysCallable round }
     ensures limit { result ≤ limit }
     ensures told { result < limit → IsClosed stop.new.log }
 {
-    for turns in 0..limit {
+    for rounds in 0..limit {
         let Err(TryRecvError::Empty) = stop.try_recv() else {
-            return turns;
+            return rounds;
         };
-        turn();
+        round();
     }
     limit
 }
@@ -55,18 +55,18 @@ fn a_worker_works_until_it_is_told_or_left(rt: HostRuntime) -> Result<(), Fail> 
 }
 
 #[test]
-fn a_worker_reports_the_turns_that_it_made(rt: HostRuntime) -> Result<(), Fail> {
+fn a_worker_reports_the_rounds_that_it_made(rt: HostRuntime) -> Result<(), Fail> {
     let (stop, mut stopped) = channel((), rt.alloc())?;
     let (sender, report) = channel(&rt, rt.alloc())?;
     let mut made = 0u64;
-    let (sent, turns) = join(
+    let (sent, rounds) = join(
         &rt,
         || {
-            let turns = work(&mut stopped, u64::MAX, || made = made.wrapping_add(1));
-            sender.send(turns).is_ok()
+            let rounds = work(&mut stopped, u64::MAX, || made = made.wrapping_add(1));
+            sender.send(rounds).is_ok()
         },
         || shut_down(stop, report),
     );
-    assert_eq!(rt; (sent, turns), (true, Ok(made)));
+    assert_eq!(rt; (sent, rounds), (true, Ok(made)));
     Ok(())
 }

@@ -1,6 +1,6 @@
 //! The looks of the grounds: each performs one load, without a seat.
 
-use super::{SharedReceiver, Unsent};
+use super::{ReceiverBackend, Unsent};
 use oneshot_machine::states::{DISCONNECTED, MESSAGE};
 use oneshot_word::{Peek, Promise};
 
@@ -11,7 +11,7 @@ impl<T, H, K, P: Promise<T>> Unsent<T, H, K, P> {
     }
 }
 
-impl<T, H, K, P: Promise<T>> SharedReceiver<T, H, K, P> {
+impl<T, H, K, P: Promise<T>> ReceiverBackend<T, H, K, P> {
     pub(crate) fn is_closed(&self) -> bool {
         self.side.peek() == DISCONNECTED
     }

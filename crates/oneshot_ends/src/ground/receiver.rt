@@ -16,16 +16,16 @@ use oneshot_word::{AnyWaker, Promise, ReceiverSide};
 use std::marker::Model;
 
 /// The ground of a channel's receiver.
-pub type ChannelReceiver<T, P> = SharedReceiver<T, WakingHalf, Waker, P>;
+pub type ChannelReceiver<T, P> = ReceiverBackend<T, WakingHalf, Waker, P>;
 
 /// The receiver's ground, between its calls too: its side, with whether it has freed the block.
 /// It has no `Drop`: `received` or `dropped` releases it, and both require that the last call is over.
-pub struct SharedReceiver<T, H, K, P: Promise<T>> {
+pub struct ReceiverBackend<T, H, K, P: Promise<T>> {
     pub(super) side: ReceiverSide<T, H, K, P>,
     freed: Freed,
 }
 
-impl<T, H, K, P: Promise<T>> Model for SharedReceiver<T, H, K, P> {
+impl<T, H, K, P: Promise<T>> Model for ReceiverBackend<T, H, K, P> {
     ghost use Rattle.oneshot_word.specs.Side.{Side};
     ghost use Rattle.oneshot_word.specs.declared.any_waker.AnyWaker.{AnyWaker};
     ghost use Rattle.oneshot_ends.specs.Grounds.{left_of, MayBeFreed};
@@ -38,13 +38,13 @@ impl<T, H, K, P: Promise<T>> Model for SharedReceiver<T, H, K, P> {
     ghost invariant = { λ s. MayBeFreed s.freed.value (receiver_at s.side.log) };
 }
 
-impl<T, H, K, P: Promise<T>> SharedReceiver<T, H, K, P> {
+impl<T, H, K, P: Promise<T>> ReceiverBackend<T, H, K, P> {
     /// The ground of a receiver that has freed nothing.
-    pub(crate) fn new(side: ReceiverSide<T, H, K, P>) -> SharedReceiver<T, H, K, P>
+    pub(crate) fn new(side: ReceiverSide<T, H, K, P>) -> ReceiverBackend<T, H, K, P>
         ensures { result ≡ side }
     {
         let freed = Freed::of(false);
-        SharedReceiver { side, freed }
+        ReceiverBackend { side, freed }
     }
 
     pub(crate) fn is_in_an_order(&self)
@@ -54,7 +54,7 @@ impl<T, H, K, P: Promise<T>> SharedReceiver<T, H, K, P> {
     }
 }
 
-impl<T: Drop, H: Drop, K: Drop, P: Promise<T>> SharedReceiver<T, H, K, P> {
+impl<T: Drop, H: Drop, K: Drop, P: Promise<T>> ReceiverBackend<T, H, K, P> {
     ghost use Rattle.oneshot_ends.specs.Grounds.{state_of};
 
     /// Releases the receiver after its last receive, which leaves no message to it.
@@ -62,7 +62,7 @@ impl<T: Drop, H: Drop, K: Drop, P: Promise<T>> SharedReceiver<T, H, K, P> {
         requires found { FoundTheEnd (receiver_of (state_of self).log) }
         requires freed { self.message ≡ away }
     {
-        let SharedReceiver { side, freed: _ } = self;
+        let ReceiverBackend { side, freed: _ } = self;
         side.let_go();
     }
 
@@ -70,12 +70,12 @@ impl<T: Drop, H: Drop, K: Drop, P: Promise<T>> SharedReceiver<T, H, K, P> {
     pub(crate) fn dropped(self)
         requires { HasLeft (receiver_of (state_of self).log) }
     {
-        let SharedReceiver { side, freed: _ } = self;
+        let ReceiverBackend { side, freed: _ } = self;
         side.let_go();
     }
 }
 
-impl<T, P: Promise<T>> SharedReceiver<T, WakingHalf, Waker, P> {
+impl<T, P: Promise<T>> ReceiverBackend<T, WakingHalf, Waker, P> {
     ghost use Rattle.oneshot_machine.specs.Phases.{receiver_at};
     ghost use Rattle.oneshot_ends.specs.Grounds.{state_of};
     ghost use Rattle.oneshot_ends.specs.OwnWakers.{is_waiting};
@@ -93,7 +93,7 @@ impl<T, P: Promise<T>> SharedReceiver<T, WakingHalf, Waker, P> {
 }
 
 impl<T, P: Promise<T>> ReceiverGround<T, AnyWaker<WakingHalf, Waker>>
-    for SharedReceiver<T, WakingHalf, Waker, P> {
+    for ReceiverBackend<T, WakingHalf, Waker, P> {
     ghost use Rattle.std.proofs.Common.{subst, Some};
     ghost use Rattle.oneshot_ends.specs.Grounds.{state_of};
     ghost use Rattle.oneshot_ends.specs.Keeps.{KeepsOwn};
@@ -149,7 +149,7 @@ impl<T, P: Promise<T>> ReceiverGround<T, AnyWaker<WakingHalf, Waker>>
 }
 
 impl<T: Drop, P: Promise<T>> DropGround<T, AnyWaker<WakingHalf, Waker>>
-    for SharedReceiver<T, WakingHalf, Waker, P> {
+    for ReceiverBackend<T, WakingHalf, Waker, P> {
     fn drop_message(&mut self) {
         self.side.take_message();
     }

@@ -5,15 +5,15 @@ use oneshot_patterns::shutdown::{Ending, Order, Report, watched, work_until};
 use std::process::Abort;
 use std::test::Fail;
 
-/// Fails unless a worker with three turns makes so many of them, and ends so.
-fn assert_works(rt: &impl Abort, stop: &mut Receiver<(), ()>, turns: u64, ending: Ending) {
+/// Fails unless a worker with three rounds makes so many of them, and ends so.
+fn assert_works(rt: &impl Abort, stop: &mut Receiver<(), ()>, rounds: u64, ending: Ending) {
     let mut made = 0u64;
     let report = work_until(stop, 3, || made = made.wrapping_add(1));
-    assert_eq!(rt; (report, made), (Report { turns, ending }, turns));
+    assert_eq!(rt; (report, made), (Report { rounds, ending }, rounds));
 }
 
 #[test]
-fn a_worker_that_was_told_makes_no_turn(rt: HostRuntime) -> Result<(), Fail> {
+fn a_worker_that_was_told_makes_no_round(rt: HostRuntime) -> Result<(), Fail> {
     let (sender, mut stop) = channel((), rt.alloc())?;
     assert!(rt; sender.send(()).is_ok());
     assert_works(&rt, &mut stop, 0, Ending::Told);
@@ -21,7 +21,7 @@ fn a_worker_that_was_told_makes_no_turn(rt: HostRuntime) -> Result<(), Fail> {
 }
 
 #[test]
-fn a_worker_that_was_left_makes_no_turn(rt: HostRuntime) -> Result<(), Fail> {
+fn a_worker_that_was_left_makes_no_round(rt: HostRuntime) -> Result<(), Fail> {
     let (sender, mut stop) = channel((), rt.alloc())?;
     drop(sender);
     assert_works(&rt, &mut stop, 0, Ending::Left);
@@ -29,7 +29,7 @@ fn a_worker_that_was_left_makes_no_turn(rt: HostRuntime) -> Result<(), Fail> {
 }
 
 #[test]
-fn a_worker_that_nobody_stops_makes_all_its_turns(rt: HostRuntime) -> Result<(), Fail> {
+fn a_worker_that_nobody_stops_makes_all_its_rounds(rt: HostRuntime) -> Result<(), Fail> {
     let (sender, mut stop) = channel((), rt.alloc())?;
     assert_works(&rt, &mut stop, 3, Ending::Done);
     drop(sender);

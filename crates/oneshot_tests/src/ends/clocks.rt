@@ -78,15 +78,16 @@ const MONTH: u64 = 720 * HOUR;
 const CENTURY: u64 = 876_600 * HOUR;
 
 /// A deadline in nanoseconds after a clock's start, the clock's readings, and how many a receive until then makes.
+/// A receive waits in rounds, and begins each with a reading.
 pub(crate) const DEADLINES: [(u64, &[u64], usize); 10] = [
-    // The turn and its park read the deadline itself, and the next turn a nanosecond past it.
+    // The round and its park read the deadline itself, and the next round a nanosecond past it.
     (5, &[5, 5, 6, 7], 3),
     (SECOND, &[SECOND, SECOND, SECOND + 1, 0], 3),
     (2 * HOUR, &[2 * HOUR, 2 * HOUR, 2 * HOUR + 1, 0], 3),
     (MONTH, &[MONTH, MONTH, MONTH + 1, 0], 3),
     (CENTURY, &[CENTURY, CENTURY, CENTURY + 1, 0], 3),
-    // A turn reads the clock to see whether the deadline is past, and its park reads until it has come. This
-    // clock goes back after each park: without a park, the next turn would find the deadline past.
+    // A round reads the clock to see whether the deadline is past, and its park reads until it has come. This
+    // clock goes back after each park: without a park, the next round would find the deadline past.
     (5, &[1, 7, 2, 7, 3, 7, 6, 8], 7),
     // The deadline is past at once.
     (5, &[6, 7], 1),
@@ -111,7 +112,7 @@ fn a_deadline_ends_a_receive_once_the_clock_is_past_it(rt: HostRuntime) -> Resul
 }
 
 /// A timeout in nanoseconds, a clock's readings, and how many a receive with this timeout makes. The first is for the
-/// deadline, and each turn reads the clock anew.
+/// deadline, and each round reads the clock anew.
 pub(crate) const TIMEOUTS: [(u64, &[u64], usize); 13] = [
     // The deadline is six. Six is not past it, even after the park; seven is, and eight is not read.
     (5, &[1, 7, 8], 2),
@@ -125,14 +126,14 @@ pub(crate) const TIMEOUTS: [(u64, &[u64], usize); 13] = [
     ),
     (MONTH, &[1, MONTH + 1, MONTH + 1, MONTH + 2, 0], 4),
     (CENTURY, &[1, CENTURY + 1, CENTURY + 1, CENTURY + 2, 0], 4),
-    // A failed reading counts as past it, and is not repeated: at the deadline's own reading, and in a turn.
+    // A failed reading counts as past it, and is not repeated: at the deadline's own reading, and in a round.
     (5, &[], 2),
     (5, &[1], 2),
     // A timeout of zero is over once the clock is past its first reading, and only then.
     (0, &[5, 6, 7], 2),
     (0, &[5, 5, 5, 6, 7], 4),
     (0, &[], 2),
-    // A turn an hour later goes on, and one after two hours ends. The turn between them spins.
+    // A round an hour later goes on, and one after two hours ends. The round between them spins.
     (2 * HOUR, &[1, HOUR + 2, 2 * HOUR + 2, 0], 3),
     (2 * HOUR, &[1, 2 * HOUR + 2, 0], 2),
 ];
@@ -154,7 +155,7 @@ fn a_timeout_counts_from_one_reading(rt: HostRuntime) -> Result<(), Fail> {
 /// How often a receive spins before it sleeps.
 const SPINS: usize = 17;
 
-/// The most readings of a receive that times out after `SPINS` turns that spin and one that sleeps.
+/// The most readings of a receive that times out after `SPINS` rounds that spin and one that sleeps.
 const MOST: usize = SPINS + 5;
 
 /// A clock's readings: a nanosecond so many times, and then two seconds.
@@ -189,28 +190,32 @@ impl Limit {
         })
     }
 
-    /// How many readings a receive makes, by a clock on which its deadline is a second away in so many turns, and is
+    /// How many readings a receive makes, by a clock on which its deadline is a second away in so many rounds, and is
     /// then past. Fails unless it times out.
-    fn readings(self, rt: &(impl Wait + AllocGlobal + Abort), turns: usize) -> Result<usize, Fail> {
+    fn readings(
+        self,
+        rt: &(impl Wait + AllocGlobal + Abort),
+        rounds: usize,
+    ) -> Result<usize, Fail> {
         let same = match self {
-            Limit::Timeout => turns.saturating_add(1),
-            Limit::Deadline => turns,
+            Limit::Timeout => rounds.saturating_add(1),
+            Limit::Deadline => rounds,
         };
         let readings = still_for(same);
         let clock = Written::new(rt, &readings);
         assert_eq!(rt; self.receive(rt, &clock)?, Err(RecvTimeoutError::Timeout));
         // That for the deadline.
-        let first = same.saturating_sub(turns);
+        let first = same.saturating_sub(rounds);
         Ok(clock.made().saturating_sub(first))
     }
 }
 
-/// Fails unless a receive with a far deadline spins seventeen times and then sleeps. A turn that spins reads the clock
-/// once, and one that sleeps also reads it in its sleep. The last turn finds the deadline past.
+/// Fails unless a receive with a far deadline spins seventeen times and then sleeps. A round that spins reads the clock
+/// once, and one that sleeps also reads it in its sleep. The last round finds the deadline past.
 pub(super) fn assert_spins(rt: &(impl Wait + AllocGlobal + Abort)) -> Result<(), Fail> {
     for limit in [Limit::Timeout, Limit::Deadline] {
-        for turns in 0..=SPINS {
-            assert_eq!(rt; limit.readings(rt, turns)?, turns.saturating_add(1));
+        for rounds in 0..=SPINS {
+            assert_eq!(rt; limit.readings(rt, rounds)?, rounds.saturating_add(1));
         }
         assert_eq!(rt; limit.readings(rt, SPINS + 1)?, SPINS + 3);
     }
@@ -222,7 +227,7 @@ const FAR: u64 = 100_000_000;
 
 #[test]
 fn a_receive_spins_only_with_a_far_deadline(rt: HostRuntime) -> Result<(), Fail> {
-    // The first turn spins or sleeps, and the second finds the deadline past.
+    // The first round spins or sleeps, and the second finds the deadline past.
     for (timeout, made) in [(FAR, 3), (FAR - 1, 4)] {
         let clock = Written::new(&rt, &[1, 1, 2 * FAR, 2 * FAR]);
         let (_sender, mut receiver) = by_clock(&clock, rt.alloc())?;
@@ -358,6 +363,7 @@ impl<'a, R: Wait> Wait for Meanwhile<'a, R> {}
 impl<'a, R> Clock for Meanwhile<'a, R> {
     fn monotonic(&self) -> io::Result<Duration> {
         if let Some((mut sending, call)) = self.act.take() {
+            // A refused send shows in what the receive returns.
             let _ = sending.make(call);
         }
         Ok(Duration::from_secs(3_600))

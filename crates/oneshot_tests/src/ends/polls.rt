@@ -87,6 +87,7 @@ impl<T: Drop, Rt: Drop> Future for Lent<T, Rt> {
 
     fn poll(&mut self, cx: &mut Context<'_>) -> Poll<Option<AsyncReceiver<T, Rt>>> {
         if let Some(receiver) = &mut self.receiver {
+            // Its tests make polls that find nothing: they poll only to register the task.
             let _ = receiver.poll(cx);
         }
         Poll::Ready(self.receiver.take())

@@ -94,6 +94,7 @@ impl<'a, T: Drop, W: Wait + Clock + Drop, P: Promise<T>> Future for Listener<'a,
         if is_rung.replace(false)
             && let Some(mut future) = self.place.take()
         {
+            // The sender has not acted yet. The test asks for the reply once it has.
             drop(future.poll_in(cx));
             self.place.set(Some(future));
         }

@@ -41,6 +41,7 @@ where
     for _ in rt.forever() {
         let now = Instant::now(rt)?;
         let mut poll = task.begin();
+        // When the next timer is due does not matter: the wait below lasts a millisecond.
         timers.turn(&mut poll, now);
         poll.park();
         if stop.recv_timeout(Duration::from_millis(1)) != Err(RecvTimeoutError::Timeout) {

@@ -32,7 +32,6 @@ returns-in-Message g c =
           c.take_message.ensures.log;
       rests = rests_over over;
       ready = closed_ready closed_itself over.phase;
-      endless = search rules;
       given = gives _ _ _ c.find.ensures.keeps (gives _ _ _ c.store.ensures.keeps c.take_message.ensures.given);
       has = g.met.G.BlockGround.has_on _ _ _ (on _ _ _ c.store.ensures.keeps c.take_message.ensures.keeps)
           c.find.ensures.has;
@@ -47,7 +46,6 @@ returns-in-Closed g c =
       run = whole (rw c.in-Closed.is at (c.find.ensures.path (by_ref c.args.timed)));
       rests = rests_over ends.1;
       ready = closed_ready ends.0 ends.1.phase;
-      endless = search rules;
       given = search rules;
       has = c.find.ensures.has;
       had = search rules;
@@ -69,7 +67,6 @@ returns-in-Overwritten g c =
           c.store-in-Overwritten.ensures.log;
       rests = rests_over over;
       ready = closed_ready closed_itself over.phase;
-      endless = search rules;
       given = search rules;
       has = g.met.G.BlockGround.has_on _ _ _ c.store-in-Overwritten.ensures.keeps c.find.ensures.has;
       had = search rules;
@@ -83,7 +80,6 @@ returns-in-Nothing g c =
       run = whole (rw c.in-Nothing.is at (c.find.ensures.path (by_ref c.args.timed)));
       rests = out_rests ends.1;
       ready = λ none. absurd (c.find.ensures.hand c.in-Nothing.is none);
-      endless = λ untimed out. let timed = ends.0 in absurd (cc);
       given = search rules;
       has = c.find.ensures.has;
       had = search rules;

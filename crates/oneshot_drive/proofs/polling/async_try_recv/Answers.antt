@@ -3,7 +3,7 @@ use Rattle.oneshot_drive.proofs.Names.{rules, IsPolled, is_in, async_try_recv_fe
 use Rattle.oneshot_drive.proofs.AfterOperations.{Came, took_message}
 use Rattle.oneshot_drive.proofs.Receives.{full_asks, closed_over}
 use Rattle.oneshot_drive.proofs.PollLoads.{Met, meet_asks, met, met_full, met_none, taken_rests}
-use Rattle.oneshot_drive.proofs.TriedFutures.{met_rests, stays_registered, taken_ran, over_ran, unsent_ran, load_alone, words_alone}
+use Rattle.oneshot_drive.proofs.TriedFutures.{met_rests, taken_ran, over_ran, unsent_ran, load_alone, words_alone}
 use Rattle.oneshot_drive.proofs.polling.async_try_recv.Given as given
 use Rattle.oneshot_drive.proofs.polling.async_try_recv.Goals as goal
 use Rattle.oneshot_drive.proofs.polling.async_try_recv.Goals.{After-load, After-take_message}
@@ -40,7 +40,6 @@ returns-in-4 g c =
       run = run;
       rests = taken g (goal.at.returns-in-4 g c).After-take_message;
       bounded = async_try_recv_few run;
-      registered = search rules;
       wakers = words_alone c.load.result c.store.result c.take_message.result c.load.ensures.log c.store.ensures.log
           c.take_message.ensures.log;
       given = g.G.ReceiverGround.gives_on _ _ _ kept c.take_message.ensures.given;
@@ -55,7 +54,6 @@ returns-in-2 g c =
       run = run;
       rests = met_rests (loaded g (goal.at.returns-in-2 g c).After-load) (search rules);
       bounded = async_try_recv_few run;
-      registered = search rules;
       wakers = load_alone c.load.result c.load.ensures.log;
       given = search rules;
       had = search rules;
@@ -70,8 +68,6 @@ returns-in-0 g c =
       run = run;
       rests = met_rests found (search rules);
       bounded = async_try_recv_few run;
-      registered = λ unsent. stays_registered c.load.result c.requires c.load.ensures.finds c.load.ensures.log
-          (search rules) (search rules);
       wakers = load_alone c.load.result c.load.ensures.log;
       given = search rules;
       had = search rules;

@@ -1,7 +1,7 @@
 -- Proofs of the goals that `stop` leaves.
 use Rattle.oneshot_drive.proofs.Names.{rules, refl, sym, subst, Swap, is_in, DISCONNECTED, EMPTY, MESSAGE}
 use Rattle.oneshot_drive.proofs.AfterOperations.{asks}
-use Rattle.oneshot_drive.proofs.Waits.{stopped, stopped_open, stopped_full, stopped_over, stopped_late, stopped_none, withdrew_nothing, stops_to, nothing_path, late_path}
+use Rattle.oneshot_drive.proofs.Waits.{stopped, stopped_open, stopped_full, stopped_over, stopped_late, stopped_none, withdrew_nothing, ends_late, ends_by_word, stops_to, nothing_path, late_path}
 use Rattle.oneshot_drive.proofs.waiting.stop.Goals as goal
 
 pub swap-requires : goal.swap-requires
@@ -45,6 +45,12 @@ wait_late-requires-clause-late g c =
 pub returns-in-1-clause-path : goal.returns-in-1-clause-path
 returns-in-1-clause-path g c =
     late_path c.wait_late.result c.swap.result c.in-1.is c.swap.ensures.log c.wait_late.ensures.path
+
+pub returns-in-1-clause-ends : goal.returns-in-1-clause-ends
+returns-in-1-clause-ends g c = ends_late c.wait_late.result _ c.wait_late.ensures.ends
+
+pub returns-in-1-clause-hand : goal.returns-in-1-clause-hand
+returns-in-1-clause-hand g c nothing none = ends_by_word c.wait_late.result _ c.wait_late.ensures.ends nothing
 
 pub returns-in-0-clause-keeps : goal.returns-in-0-clause-keeps
 returns-in-0-clause-keeps g c =

@@ -1,5 +1,5 @@
 -- Proofs of the goals that `wait_late` leaves.
-use Rattle.oneshot_drive.proofs.Names.{◌≡◌, ℕ, true, refl, rules, Found, Timed, LatePark, Path, ref_end, EndsAt, EMPTY}
+use Rattle.oneshot_drive.proofs.Names.{◌≡◌, ℕ, false, refl, rules, Found, Timed, LatePark, Path, ref_end, EndsAt, EMPTY}
 use Rattle.oneshot_drive.proofs.Stretches.{begun}
 use Rattle.oneshot_drive.proofs.Waits.{may_park_late, parked_asks, woke, Decides, by_message, by_end, ended_at, ended_again, ended_none, late_decided, late_to}
 use Rattle.oneshot_drive.proofs.waiting.wait_late.Given as given
@@ -28,7 +28,7 @@ load-requires g c =
 decided : (g : given.Over) (c : After-load g) {word : ℕ} {f : Found} → Decides word f → c.load.result ≡ word
     → Path (Timed LatePark) (ref_end f) (g.G.ReceiverGround.state c.args.g.now).log
     (g.G.ReceiverGround.state c.load.new.self).log
-    × EndsAt true f (g.G.ReceiverGround.state c.load.new.self) × g.G.ReceiverGround.keeps c.args.g.now c.load.new.self
+    × EndsAt false f (g.G.ReceiverGround.state c.load.new.self) × g.G.ReceiverGround.keeps c.args.g.now c.load.new.self
 decided g c by e =
     let on = g.G.ReceiverGround.keeps_on in (
       late_decided by c.load.result e c.loop.invariant.path c.park.ensures.log.0 c.park.ensures.log.1
@@ -41,12 +41,12 @@ decided g c by e =
 pub returns-in-4 : goal.returns-in-4
 returns-in-4 g c =
     let d = decided g (goal.at.returns-in-4 g c).After-load by_message c.in-4.is in
-    record { path = d.0; ends = d.1; sent = search rules; keeps = d.2 }
+    record { path = d.0; ends = d.1; keeps = d.2 }
 
 pub returns-in-2 : goal.returns-in-2
 returns-in-2 g c =
     let d = decided g (goal.at.returns-in-2 g c).After-load by_end c.in-2.is in
-    record { path = d.0; ends = d.1; sent = search rules; keeps = d.2 }
+    record { path = d.0; ends = d.1; keeps = d.2 }
 
 pub loop-preserved : goal.loop-preserved
 loop-preserved g c =

@@ -77,6 +77,7 @@ fn assert_told(rt: &(impl Abort + AllocGlobal), input: &[u8], output: &str) -> R
         "{}",
         input.escape_ascii()
     );
+    // The kind of what was read is in the output, which is compared above.
     let _ = assert_as_read(rt, input)?;
     Ok(())
 }

@@ -2,7 +2,7 @@
 use Rattle.std.proofs.Common.{rules, ◌≡◌, ℕ, refl}
 use Rattle.oneshot_machine.specs.declared.states.Op.TheVariants.{Store, Swap}
 use Rattle.oneshot_machine.specs.declared.states.TheConstants.{DISCONNECTED, EMPTY}
-use Rattle.oneshot_machine.specs.Phases.{blocked, waits, stopping, unclosed, receiver_at}
+use Rattle.oneshot_machine.specs.Phases.{blocked, waits, stopping, overwritten, receiver_at}
 use Rattle.oneshot_machine.specs.Slots.{Held, vacant, is_vacant, gets_room, head, tail, may, finds, ReceiverFinds}
 use Rattle.oneshot_word.specs.Side.{ReceiverDid}
 use Rattle.oneshot_part_tests.proofs.Shown.{Plain, stops_only, ReceiverIs, receiver_can, receiver_told, receiver_went, receiver_is}
@@ -16,7 +16,7 @@ module _ {T W : Type 0} where
   found_end (finds (tail (tail (tail (tail (tail (tail (tail (tail there)))))))) _ _) = elim there [ ]
 
   stops : {s t : Plain T W} {found : ℕ} → receiver_at s.log ≡ waits blocked → ReceiverDid s (Swap EMPTY) found t
-      → found ≡ DISCONNECTED → ReceiverIs t (unclosed stopping) vacant vacant
+      → found ≡ DISCONNECTED → ReceiverIs t (overwritten stopping) vacant vacant
   stops {s} at did same =
       let it = found_end (receiver_told (Swap EMPTY) DISCONNECTED (receiver_is s at) did same) in
       record { at = receiver_went (Swap EMPTY) DISCONNECTED (receiver_is s at) did same; message = it.0; waker = it.1 }

@@ -3,7 +3,7 @@ use Rattle.std.proofs.Common.{refl, ◌∙◌}
 use Rattle.oneshot_machine.specs.declared.machine.receiver.ReceiverStart.TheVariants.{AsyncTryRecv}
 use Rattle.oneshot_drive.specs.BetweenCalls.{try_recv_reply}
 use Rattle.oneshot_drive.specs.Polls.{LeavesTried}
-use Rattle.oneshot_drive.proofs.LeftPhases.{begins_closed, polled_somewhere, resting, leaves_tried, stays_closed, tried_over}
+use Rattle.oneshot_drive.proofs.LeftPhases.{begins_closed, polled_somewhere, resting, leaves_tried, stays_closed, stays_registered, tried_over}
 use Rattle.oneshot_ends.proofs.CallsAnswered.{one_answered}
 use Rattle.oneshot_ends.proofs.EndViews.{future_steps, future_about, future_took, future_registered, kept_about}
 use Rattle.oneshot_ends.proofs.GrewByRuns.{words_of, grew_by, closed_before, at_end, async_try_recv_few}
@@ -40,17 +40,21 @@ returns-clause-stays_closed g c closed =
     (closed_before {own = c.self.inside.ground} _ refl (future_steps c.self.view_is) closed))
     (polled_somewhere (resting c.async_try_recv.ensures.rests)))
 
-pub returns-clause-registered : goal.returns-clause-registered
-returns-clause-registered g c =
+pub returns-clause-stays_registered : goal.returns-clause-stays_registered
+returns-clause-stays_registered g c =
     registered_as_tried c.async_try_recv.result (words_of _ _ c.self.inside.ground.log ∙ future_steps c.self.view_is)
-    (words_of _ _ c.async_try_recv.new.g.log) c.async_try_recv.ensures.registered
+    (words_of _ _ c.async_try_recv.new.g.log)
+    (stays_registered c.async_try_recv.result c.async_try_recv.ensures.run (resting c.self.invariant.rests)
+    (resting c.async_try_recv.ensures.rests))
 
 pub returns-clause-same_waker : goal.returns-clause-same_waker
 returns-clause-same_waker g c nothing =
     same_registered c.self.inside.ground c.async_try_recv.new.g c.self.invariant.rests c.self.invariant.no_thread
     c.async_try_recv.ensures.keeps
     (registered_as_tried c.async_try_recv.result (words_of _ _ c.self.inside.ground.log)
-    (words_of _ _ c.async_try_recv.new.g.log) c.async_try_recv.ensures.registered nothing)
+    (words_of _ _ c.async_try_recv.new.g.log)
+    (stays_registered c.async_try_recv.result c.async_try_recv.ensures.run (resting c.self.invariant.rests)
+    (resting c.async_try_recv.ensures.rests)) nothing)
     ∙ future_registered c.self.view_is
 
 pub returns-clause-closes : goal.returns-clause-closes
