@@ -2,7 +2,7 @@
 use Rattle.oneshot_laws.proofs.Names.{◌≡◌, true, List, [], ◌∷◌, map, refl, both, Mark, Place, NotSent, message_goes_to, is_reply_placed, are_replies_placed, is_message_there}
 use Rattle.oneshot_laws.proofs.Coding.{places}
 use Rattle.oneshot_laws.proofs.PastLaws.{Law, Passes, Nameless, nameless_of, Passed, holds_by}
-use Rattle.oneshot_laws.proofs.PastViews.{PastView, past_of}
+use Rattle.oneshot_laws.proofs.PastViews.{past_of}
 use Rattle.oneshot_laws.proofs.Product.{no_names}
 use Rattle.oneshot_laws.proofs.ProductRuns.{EachRun}
 
