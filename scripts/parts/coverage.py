@@ -200,14 +200,13 @@ def called_in(text):
     return called
 
 
-def testing(call, kind, known):
-    """The files of this kind of test that make a call, themselves or by a script of real ends."""
+def testing(kind, known):
+    """The files of this kind of test, each with the calls that it makes, itself or by a script of real ends."""
     for crate in crates_of(kind):
         uses = crates()[crate]
         has_scripts = "oneshot_calls" in uses and ("oneshot_channel" in uses or "oneshot" in uses)
         for file in sources(crate):
-            if call in made_in(code_of(file), known) or has_scripts and call in called_in(code_of(file)):
-                yield shown(file)
+            yield shown(file), made_in(code_of(file), known) | (called_in(code_of(file)) if has_scripts else set())
 
 
 def imported(file):
@@ -233,12 +232,11 @@ def racing(file):
     return "\n".join([text, *scripts]), int(rounds[0])
 
 
-def raced(call, known):
-    """The files in which this call races with one of the other end, each with the rounds of a race."""
+def raced(known):
+    """The files that race, each with the rounds of a race, and the calls that race with one of the other end."""
     for file in sources(*KINDS["Race"]):
         text, rounds = racing(file)
-        if call in made_in(text, known) or call in called_in(text):
-            yield f"{shown(file)} ({rounds:,})"
+        yield f"{shown(file)} ({rounds:,})", made_in(text, known) | called_in(text)
 
 
 @functools.cache
@@ -272,10 +270,10 @@ def of_calls():
     """Prints the table of the calls."""
     known, changed, stated, rows = tuple(calls()), list(edits()), contracts(), []
     look_at_pairs(known)
+    files = {kind: list(testing(kind, known)) for kind in KINDS} | {"Race": list(raced(known))}
     for call in known:
         edited = [edit.stem for edit, function in changed if is_edited(call, edit, function)]
-        cells = {kind: joined(testing(call, kind, known)) for kind in KINDS}
-        cells["Race"] = joined(raced(call, known))
+        cells = {kind: joined(file for file, made in files[kind] if call in made) for kind in KINDS}
         cells["Interleaving"] = counted(lambda pair: call in made_by_pair(pair))
         file = shown(stated[call]) if call in stated else "none"
         rows.append((f"`{call}`", file, joined(edited), *cells.values()))

@@ -1,6 +1,7 @@
 """The pairs of scripts whose runs are gone through: the words of the program, and the same in an input of
 oneshot-run."""
 import collections
+import functools
 import re
 
 # A kind of channel, both scripts, and what is explored of them.
@@ -103,6 +104,7 @@ def name_of(pair):
     return " ".join(word for word in words if word) + (f" ({pair.settings})" if pair.settings else "")
 
 
+@functools.cache
 def scripts_of(pair):
     """Both scripts as lines of an input of oneshot-run, which knows no raw values and no lengths of timeouts."""
     sender = re.sub(r"\braw *", "", pair.sender).replace("send", "send 7")

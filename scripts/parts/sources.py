@@ -17,7 +17,12 @@ def text_of(file):
 
 def crates():
     """Each crate of crates.txt, and the libraries that its line lists."""
-    lines = re.findall(r"(?m)^([a-z0-9_]+)[^:\n]*:(.*)$", text_of(CRATES.parent / "crates.txt"))
+    return crates_in(text_of(CRATES.parent / "crates.txt"))
+
+
+@functools.cache
+def crates_in(text):
+    lines = re.findall(r"(?m)^([a-z0-9_]+)[^:\n]*:(.*)$", text)
     return {name: libraries.split() for name, libraries in lines}
 
 

@@ -6,7 +6,8 @@ use std::io;
 use std::random::RandomSource;
 use std::sync::Wait;
 use std::test::Fail;
-use std::thread::join;
+use std::thread::{join, sleep};
+use std::time::Duration;
 
 /// Blocks this thread until the sender sends or is dropped.
 fn awaited<R: Wait + RandomSource + AllocGlobal, T: Drop, Rt: Drop>(
@@ -22,7 +23,10 @@ fn a_message_is_awaited(rt: HostRuntime) -> Result<(), Fail> {
     let (received, sent) = join(
         &rt,
         || awaited(&rt, receiver),
-        || sender.send(19u64).is_ok(),
+        || {
+            sleep(&rt, Duration::from_millis(20));
+            sender.send(19u64).is_ok()
+        },
     );
     assert_eq!(rt; (received?, sent), (Ok(19), true));
     Ok(())
@@ -31,7 +35,14 @@ fn a_message_is_awaited(rt: HostRuntime) -> Result<(), Fail> {
 #[test]
 fn a_sender_that_goes_ends_the_wait(rt: HostRuntime) -> Result<(), Fail> {
     let (sender, receiver) = async_channel::<u64, _>(&rt, rt.alloc())?;
-    let (received, ()) = join(&rt, || awaited(&rt, receiver), || drop(sender));
+    let (received, ()) = join(
+        &rt,
+        || awaited(&rt, receiver),
+        || {
+            sleep(&rt, Duration::from_millis(20));
+            drop(sender);
+        },
+    );
     assert_eq!(rt; received?, Err(RecvError));
     Ok(())
 }

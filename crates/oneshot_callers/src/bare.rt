@@ -11,7 +11,8 @@ use oneshot_channel::{AsyncReceiver, RecvError, TryRecvError, async_channel};
 use std::alloc::Global;
 use std::io;
 use std::test::Fail;
-use std::thread::{Threads, join, spawn};
+use std::thread::{Threads, join, sleep, spawn};
+use std::time::Duration;
 
 /// Starts a thread that sends `number`. Only the caller that awaits it needs a runtime that waits.
 fn start<R: Threads>(rt: &R, alloc: Global, number: u64) -> io::Result<AsyncReceiver<u64, ()>> {
@@ -44,7 +45,10 @@ fn a_message_is_awaited(rt: HostRuntime) -> Result<(), Fail> {
     let (received, sent) = join(
         &rt,
         || block_on(&rt, receiver),
-        || sender.send(19u64).is_ok(),
+        || {
+            sleep(&rt, Duration::from_millis(20));
+            sender.send(19u64).is_ok()
+        },
     );
     assert_eq!(rt; (received?, sent), (Ok(19), true));
     Ok(())
@@ -60,6 +64,9 @@ fn a_message_is_polled_by_hand(rt: HostRuntime) -> Result<(), Fail> {
     let empty = (Poll::Pending, Err(TryRecvError::Empty));
     assert_eq!(rt; (early, before, sent), (empty, false, (true, true)));
     let late = (task.poll(&mut receiver), task.poll(&mut receiver));
-    assert_eq!(rt; late, (Poll::Ready(Ok(19)), Poll::Ready(Err(RecvError))));
+    assert_eq!(rt;
+        (late, task.is_woken()),
+        ((Poll::Ready(Ok(19)), Poll::Ready(Err(RecvError))), false)
+    );
     Ok(())
 }

@@ -13,7 +13,8 @@ use std::io;
 use std::random::RandomSource;
 use std::sync::Wait;
 use std::test::Fail;
-use std::thread::join;
+use std::thread::{join, sleep};
+use std::time::Duration;
 
 /// Returns the message, or an error if none can come. `None`: try or poll again; a waiting task still waits.
 fn try_once<T: Drop, Rt: Drop>(receiver: &mut AsyncReceiver<T, Rt>) -> Option<Result<T, RecvError>>
@@ -55,7 +56,10 @@ fn a_message_that_is_not_there_is_awaited(rt: HostRuntime) -> Result<(), Fail> {
     let (received, sent) = join(
         &rt,
         || at_once_or_awaited(&rt, receiver),
-        || sender.send(20u64).is_ok(),
+        || {
+            sleep(&rt, Duration::from_millis(20));
+            sender.send(20u64).is_ok()
+        },
     );
     assert_eq!(rt; (received?, sent), (Ok(20), true));
     Ok(())

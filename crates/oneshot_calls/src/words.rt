@@ -27,7 +27,7 @@ pub enum SenderCall {
 }
 
 /// A call of a receiver, or of the future that it became. Each is named as its word.
-#[derive(Clone, Copy, Debug, PartialEq, Eq)]
+#[derive(Clone, Copy, Debug)]
 pub enum ReceiverCall {
     /// A call after which the end is still there.
     Ask(Ask),
@@ -49,7 +49,7 @@ pub enum ReceiverCall {
 }
 
 /// A call after which the end is still there.
-#[derive(Clone, Copy, Debug, PartialEq, Eq)]
+#[derive(Clone, Copy, Debug)]
 pub enum Ask {
     Closed,
     /// `has_message`.
@@ -67,14 +67,14 @@ pub enum Ask {
 }
 
 /// A task that polls.
-#[derive(Clone, Copy, Debug, PartialEq, Eq)]
+#[derive(Clone, Copy, Debug)]
 pub enum Task {
     One,
     Two,
 }
 
 /// A call of either end.
-#[derive(Clone, Copy, Debug)]
+#[derive(Clone, Copy)]
 pub enum Call {
     /// A call of the sender.
     Sender(SenderCall),

@@ -12,7 +12,7 @@ use std::io;
 use std::io::{BufRead, Write};
 
 /// What is printed of a run.
-#[derive(Clone, Copy, Debug, Eq, PartialEq)]
+#[derive(Clone, Copy, Eq, PartialEq)]
 pub enum Shown {
     /// Nothing, if it does not differ, or if one before differs for the same reason.
     Differences,

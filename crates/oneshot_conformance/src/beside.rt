@@ -8,7 +8,7 @@ use crate::scripts::{Channels, Scripts};
 use std::alloc::{AllocError, Global};
 
 /// Where a run differs: at which of its words, from 1, and why.
-#[derive(Debug, Drop)]
+#[derive(Drop)]
 pub(crate) struct Difference {
     pub(crate) word: usize,
     pub(crate) why: Differs,

@@ -5,7 +5,7 @@ use oneshot_machine::machine::End;
 use oneshot_machine::states::Op;
 
 /// The kinds of instructions that make an operation on the word.
-#[derive(Clone, Copy, Debug, Eq, PartialEq)]
+#[derive(Clone, Copy, Eq, PartialEq)]
 pub(crate) enum Kind {
     Load,
     Store,
@@ -16,7 +16,7 @@ pub(crate) enum Kind {
 }
 
 /// An operation on the word: what it found there, and what it left.
-#[derive(Clone, Copy, Debug, Eq, PartialEq)]
+#[derive(Clone, Copy)]
 pub(crate) struct Operation {
     pub(crate) end: End,
     pub(crate) kind: Kind,
@@ -25,7 +25,7 @@ pub(crate) struct Operation {
 }
 
 /// What one word of a run reports.
-#[derive(Clone, Copy, Debug)]
+#[derive(Clone, Copy)]
 pub(crate) enum Event {
     /// An operation on the word.
     Operation(Operation),

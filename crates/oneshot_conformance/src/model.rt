@@ -16,7 +16,7 @@ const MOST_MOVES: usize = 4096;
 pub(crate) const MOST_SILENT: usize = 16;
 
 /// What the receiver's next step gets.
-#[derive(Clone, Copy, Debug, Eq, PartialEq)]
+#[derive(Clone, Copy, Eq, PartialEq)]
 pub(crate) enum Given {
     /// A reading of the clock that is in time, or a copy of its task's waker, if it asks for one.
     Usual,

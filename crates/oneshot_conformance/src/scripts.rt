@@ -6,7 +6,7 @@ use oneshot_text::{ParseError, Request, parse_request};
 use std::alloc::{AllocError, Global};
 
 /// The channels that both threads of a pair have ends of.
-#[derive(Clone, Copy, Debug, Eq, PartialEq)]
+#[derive(Clone, Copy, Eq, PartialEq)]
 pub(crate) enum Channels {
     One,
     /// Two, each with these scripts: each thread sends on the one, and then receives on the other.

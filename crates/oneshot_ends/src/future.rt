@@ -191,10 +191,12 @@ impl<T: Drop, Rt: Drop, P: Promise<T>> Drop for AsyncReceiver<T, Rt, P> {
             mut ground,
             source: _,
             copies: _,
-            rt: _,
+            rt,
             unshared: _,
         } = self;
         drop_async(&mut ground);
         ground.dropped();
+        // Last: this may be code of the caller, and may wait for the sender.
+        drop(rt);
     }
 }

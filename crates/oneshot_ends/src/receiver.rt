@@ -272,10 +272,12 @@ impl<T: Drop, Rt: Drop, P: Promise<T>> Drop for Receiver<T, Rt, P> {
             hand: _,
             parker,
             source: _,
-            rt: _,
+            rt,
         } = self;
         drop_receiver(&mut ground);
         parker.let_go(&ground);
         ground.dropped();
+        // Last: this may be code of the caller, and may wait for the sender.
+        drop(rt);
     }
 }

@@ -12,7 +12,7 @@ use std::thread::Threads;
 use std::time::{Clock, Duration, Instant};
 
 /// What a loop did, and how long it took.
-#[derive(Clone, Copy, Debug, PartialEq, Eq)]
+#[derive(Clone, Copy)]
 pub struct Measured {
     /// What the rounds did.
     pub tally: Tally,

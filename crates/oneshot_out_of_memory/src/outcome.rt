@@ -5,7 +5,7 @@ use std::fmt;
 use thiserror::Error;
 
 /// The outcome of an attempt.
-#[derive(Clone, Copy, Debug)]
+#[derive(Clone, Copy)]
 pub(crate) enum Outcome {
     /// No allocation was refused.
     Made,

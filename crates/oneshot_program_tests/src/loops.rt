@@ -1,4 +1,4 @@
-//! Tests that each loop does what its name says, and that those of this channel report a lost message.
+//! Tests that each loop does what its name says, and that the round trips of this channel report a lost message.
 
 use futures::future::ready;
 use futures::task::Context;

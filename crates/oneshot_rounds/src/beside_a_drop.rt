@@ -32,13 +32,13 @@ fn each_try_returns_that_no_message_will_come(rt: HostRuntime) -> Result<(), Fai
 
 #[test]
 fn each_poll_returns_that_no_message_will_come(rt: HostRuntime) -> Result<(), Fail> {
-    duel(
-        &rt,
-        "drop",
-        "future polls",
-        &["dropped"],
-        &["Ready(Err(RecvError))"],
-    )?;
+    let polls = [
+        ("future polls", "Ready(Err(RecvError))"),
+        ("future await", "Err(RecvError)"),
+    ];
+    for (receives, received) in polls {
+        duel(&rt, "drop", receives, &["dropped"], &[received])?;
+    }
     Ok(())
 }
 

@@ -26,13 +26,13 @@ fn each_try_gives_the_message(rt: HostRuntime) -> Result<(), Fail> {
 
 #[test]
 fn each_poll_gives_the_message(rt: HostRuntime) -> Result<(), Fail> {
-    duel(
-        &rt,
-        "send into",
-        "future polls",
-        &["Ok"],
-        &["Ready(Ok(999))"],
-    )?;
+    let polls = [
+        ("future polls", "Ready(Ok(999))"),
+        ("future await", "Ok(999)"),
+    ];
+    for (receives, received) in polls {
+        duel(&rt, "send into", receives, &["Ok"], &[received])?;
+    }
     Ok(())
 }
 

@@ -111,7 +111,7 @@ fn a_note_that_is_not_there_ends_a_test(rt: HostRuntime) {
 
 // A call that waits for nothing gets no message, and comes before the note in many rounds.
 #[test]
-#[should_panic]
+#[should_panic(expected = "left: 0")]
 fn a_use_that_waits_for_nothing_ends_a_test(rt: HostRuntime) {
     let _ = assert_finds_notes(&rt, "drop").report(&rt);
 }

@@ -1,4 +1,4 @@
-//! Messages of no size and of 4,096 bytes, through every receive.
+//! Messages of no size and of 4,096 bytes, by each script of `receives` and by a deadline.
 
 use super::answers::assert_answers;
 use super::channels::channels;
@@ -31,11 +31,11 @@ fn is_received<R: Wait + Clock + RandomSource + AllocGlobal, T: Copy + PartialEq
     reply.message() == Some(message)
 }
 
-// Fails unless `message` comes in each round.
+// Sends `message` in each round. Fails unless `wanted` comes.
 fn assert_comes<
     R: Threads + Wait + Abort + Clock + AllocGlobal + RandomSource + Sync,
     T: Copy + PartialEq + Send + Sync,
->(rt: &R, receives: &str, message: T) -> Result<(), Fail> {
+>(rt: &R, receives: &str, message: T, wanted: T) -> Result<(), Fail> {
     let calls = script::<ReceiverCall>(rt.alloc(), receives)?;
     let tasks = Tasks::new(rt)?;
     let (senders, receivers) = channels(rt, ROUNDS)?;
@@ -45,7 +45,7 @@ fn assert_comes<
         senders,
         receivers,
         |sender| is_sent(sender, message),
-        |receiver| is_received(rt, &tasks, &calls, receiver, message),
+        |receiver| is_received(rt, &tasks, &calls, receiver, wanted),
     );
     assert_answers(rt, receives, &sends, &["true"]);
     assert_answers(rt, receives, &receipts, &["true"]);
@@ -58,9 +58,9 @@ fn assert_comes_by_every_receive<
     T: Copy + PartialEq + Send + Sync,
 >(rt: &R, message: T) -> Result<(), Fail> {
     for receives in BLOCKING.iter().chain(&TRYING) {
-        assert_comes(rt, receives, message)?;
+        assert_comes(rt, receives, message, message)?;
     }
-    assert_comes(rt, "fardeadline", message)
+    assert_comes(rt, "fardeadline", message, message)
 }
 
 #[test]
@@ -80,5 +80,11 @@ fn a_message_of_a_page_comes_whole(rt: HostRuntime) -> Result<(), Fail> {
 #[test]
 #[should_panic(expected = "false came")]
 fn a_message_that_does_not_come_ends_a_test(rt: HostRuntime) {
-    let _ = assert_comes(&rt, "drop", 1u8).report(&rt);
+    let _ = assert_comes(&rt, "drop", 1u8, 1).report(&rt);
+}
+
+#[test]
+#[should_panic(expected = "recv: false came")]
+fn another_message_ends_a_test(rt: HostRuntime) {
+    let _ = assert_comes(&rt, "recv", 1u8, 2).report(&rt);
 }

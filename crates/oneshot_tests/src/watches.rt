@@ -51,8 +51,8 @@ fn a_polled_watch_is_woken_by_the_guards_drop_alone(rt: HostRuntime) -> Result<(
     let is_woken = task.is_woken();
     let (polled, again) = (task.poll(&mut gone), task.poll(&mut gone));
     assert_eq!(rt;
-        (is_woken, polled, again, gone.is_gone()),
-        (true, Poll::Ready(()), Poll::Ready(()), true)
+        (is_woken, polled, again, gone.is_gone(), task.is_woken()),
+        (true, Poll::Ready(()), Poll::Ready(()), true, false)
     );
     Ok(())
 }

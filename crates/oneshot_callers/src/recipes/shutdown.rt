@@ -6,7 +6,7 @@ ghost use Rattle.oneshot_channel.specs.Ends.{IsClosed};
 use oneshot_channel::{Receiver, RecvTimeoutError, Sender, TryRecvError, channel};
 use std::sync::Wait;
 use std::test::Fail;
-use std::thread::join;
+use std::thread::{join, sleep};
 use std::time::{Clock, Duration};
 
 /// Calls `round` until it is told to stop, or its owner is gone, but at most `limit` times.
@@ -65,7 +65,10 @@ fn a_worker_reports_the_rounds_that_it_made(rt: HostRuntime) -> Result<(), Fail>
             let rounds = work(&mut stopped, u64::MAX, || made = made.wrapping_add(1));
             sender.send(rounds).is_ok()
         },
-        || shut_down(stop, report),
+        || {
+            sleep(&rt, Duration::from_millis(20));
+            shut_down(stop, report)
+        },
     );
     assert_eq!(rt; (sent, rounds), (true, Ok(made)));
     Ok(())

@@ -13,9 +13,24 @@ use std::test::Fail;
 use std::thread::Threads;
 use std::time::{Clock, Duration};
 
-/// What the clock reads, in nanoseconds, in each of two waits for five nanoseconds. The deadline of the
-/// first is six and that of the second sixteen. A reading of the deadline itself is not past it.
-const READINGS: [u64; 8] = [1, 6, 6, 7, 11, 16, 16, 17];
+/// How long each wait lasts, in nanoseconds: two hours.
+const LIMIT: u64 = 7_200_000_000_000;
+
+/// When the second wait begins, in nanoseconds.
+const SECOND_START: u64 = LIMIT + 6;
+
+/// What the clock reads, in nanoseconds, in each of two waits: once for its deadline, twice the deadline itself, which
+/// is not past it, and then a nanosecond more.
+const READINGS: [u64; 8] = [
+    1,
+    LIMIT + 1,
+    LIMIT + 1,
+    LIMIT + 2,
+    SECOND_START,
+    SECOND_START + LIMIT,
+    SECOND_START + LIMIT,
+    SECOND_START + LIMIT + 1,
+];
 
 /// How many readings a wait makes.
 const A_WAIT: usize = 4;
@@ -58,15 +73,15 @@ impl<'a, R> Clock for Written<'a, R> {
     }
 }
 
-fn five() -> Duration {
-    Duration::from_nanos(5)
+fn limit() -> Duration {
+    Duration::from_nanos(LIMIT)
 }
 
 #[test]
 fn a_wait_for_a_reply_lasts_to_its_limit(rt: HostRuntime) -> Result<(), Fail> {
     let clock = Written::new(&rt);
     let (_request, asked) = ask(&clock, rt.alloc(), 3)?;
-    let late = asked.wait_within(five()).square;
+    let late = asked.wait_within(limit()).square;
     assert_eq!(rt; (late, clock.made()), (Err(Unanswered::Late), A_WAIT));
     Ok(())
 }
@@ -77,7 +92,7 @@ fn a_wait_for_a_square_lasts_to_its_limit(rt: HostRuntime) -> Result<(), Fail> {
     let (_request, mut ticket) = request::<_, Square, _>(&clock, rt.alloc(), 3).map_err(
         |_| AllocError,
     )?;
-    let late = square_within(&mut ticket, five());
+    let late = square_within(&mut ticket, limit());
     assert_eq!(rt; (late, clock.made()), (Err(Unanswered::Late), A_WAIT));
     Ok(())
 }
@@ -88,14 +103,14 @@ fn a_wait_for_a_report_lasts_to_its_limit(rt: HostRuntime) -> Result<(), Fail> {
     let (_report, reported) = channel(&clock, rt.alloc())?;
     let mut reports = Vec::new(rt.alloc());
     reports.push(reported)?;
-    assert_eq!(rt; (total(reports, five()), clock.made()), (None, A_WAIT));
+    assert_eq!(rt; (total(reports, limit()), clock.made()), (None, A_WAIT));
     Ok(())
 }
 
 #[test]
 fn each_wait_for_a_worker_lasts_to_its_limit(rt: HostRuntime) -> Result<(), Fail> {
     let clock = Written::new(&rt);
-    let done = pooled(&clock, rt.alloc(), 0, &[3, 5], five())?;
+    let done = pooled(&clock, rt.alloc(), 0, &[3, 5], limit())?;
     assert_eq!(rt; (done.answers.len(), clock.made()), (2, 2 * A_WAIT));
     Ok(())
 }
@@ -103,7 +118,7 @@ fn each_wait_for_a_worker_lasts_to_its_limit(rt: HostRuntime) -> Result<(), Fail
 #[test]
 fn each_wait_for_a_worker_by_a_ticket_lasts_to_its_limit(rt: HostRuntime) -> Result<(), Fail> {
     let clock = Written::new(&rt);
-    let answers = asked(&clock, rt.alloc(), 0, &[3, 5], five())?;
+    let answers = asked(&clock, rt.alloc(), 0, &[3, 5], limit())?;
     assert_eq!(rt; (answers.len(), clock.made()), (2, 2 * A_WAIT));
     Ok(())
 }

@@ -3,7 +3,8 @@
 use oneshot_patterns::replies::{both_replies, both_squares, first_reply, first_square};
 use oneshot_patterns::request::ask;
 use std::test::Fail;
-use std::thread::join;
+use std::thread::{join, sleep};
+use std::time::Duration;
 
 #[test]
 fn both_numbers_have_their_squares(rt: HostRuntime) -> Result<(), Fail> {
@@ -22,6 +23,7 @@ fn a_request_that_is_dropped_leaves_the_other_reply(rt: HostRuntime) -> Result<(
         &rt,
         || both_replies(&rt, first, second),
         || {
+            sleep(&rt, Duration::from_millis(20));
             drop(dropped);
             served.serve()
         },
@@ -66,7 +68,10 @@ fn a_request_that_is_dropped_leaves_one_reply_to_await(rt: HostRuntime) -> Resul
     let (awaited, was_awaited) = join(
         &rt,
         || first_reply(&rt, 13, first, second),
-        || served.serve(),
+        || {
+            sleep(&rt, Duration::from_millis(20));
+            served.serve()
+        },
     );
     assert_eq!(rt; (awaited?, was_awaited), (Some(169), true));
     Ok(())

@@ -5,7 +5,7 @@ use oneshot_patterns::request::{Square, Unanswered};
 use oneshot_patterns::tickets::{asked, serve, square_awaited, square_within};
 use std::alloc::{AllocError, Global};
 use std::test::Fail;
-use std::thread::join;
+use std::thread::{join, sleep};
 use std::time::Duration;
 
 fn minute() -> Duration {
@@ -63,7 +63,14 @@ fn a_dropped_request_loses_its_square(rt: HostRuntime) -> Result<(), Fail> {
 #[test]
 fn a_task_awaits_its_square(rt: HostRuntime) -> Result<(), Fail> {
     let (request, ticket) = ask((), rt.alloc(), 12)?;
-    let (awaited, served) = join(&rt, || square_awaited(&rt, ticket), || serve(request));
+    let (awaited, served) = join(
+        &rt,
+        || square_awaited(&rt, ticket),
+        || {
+            sleep(&rt, Duration::from_millis(20));
+            serve(request)
+        },
+    );
     assert_eq!(rt; (served, awaited?), (true, Some(144)));
     Ok(())
 }

@@ -1,6 +1,6 @@
 //! A receive that waits sleeps: it uses little processor time, however long it waits.
 
-use super::beside::{Calls, Pace, WAITS, beside};
+use super::beside::{Before, Calls, Pace, WAITS, beside};
 use super::clocks::assert_spins;
 use oneshot_calls::{ReceiverCall, Reply, SenderCall, script, shows};
 use std::alloc::AllocGlobal;
@@ -26,8 +26,8 @@ const SHORT: u64 = 10;
 /// How many short waits are measured.
 const SHORT_WAITS: u32 = 10;
 
-/// How many hints to the processor are measured. A wait uses less processor time than they do: it gives some five
-/// hundred before it sleeps.
+/// How many hints to the processor are measured. A wait uses less processor time than they do: it gives 512 before it
+/// sleeps.
 const HINTS: u32 = 50_000;
 
 /// The reply of a receive from a sender that sleeps for `lingers` milliseconds and sends 19, and the receive's
@@ -42,8 +42,10 @@ fn time_of<R: Threads + Wait + Clock + CpuClock + RandomSource + AllocGlobal + S
         sends: &[SenderCall::Closed, SenderCall::Send],
         receives,
     };
-    let here = AtomicU64::new(0);
-    let pace = Pace::Sleep(&here, Duration::from_millis(lingers));
+    let pace = Pace {
+        here: AtomicU64::new(0),
+        before: Before::Sleep(Duration::from_millis(lingers)),
+    };
     let outcome = beside(rt, message, calls, &pace)?;
     Ok((outcome.received.numbered(), outcome.used))
 }
@@ -57,8 +59,9 @@ fn time_of_hints(rt: &impl CpuClock) -> io::Result<Duration> {
     Ok(rt.thread_cpu_time()?.saturating_sub(before))
 }
 
-/// Whether a receive from a sender that sleeps for `lingers` milliseconds uses more processor time than
-/// `HINTS` hints, and its reply. The hints are given beside it, since other programs slow both.
+/// Whether a receive from a sender that sleeps for `lingers` milliseconds uses at least the processor time of `HINTS`
+/// hints, and its reply. The hints are given beside it, since other programs slow both. A clock that stands still reads
+/// both as the same.
 fn spins<R: Threads + Wait + Clock + CpuClock + RandomSource + AllocGlobal + Sync>(
     rt: &R,
     receives: &[ReceiverCall],
@@ -66,7 +69,7 @@ fn spins<R: Threads + Wait + Clock + CpuClock + RandomSource + AllocGlobal + Syn
 ) -> Result<(bool, Reply<u64>), Fail> {
     let much = time_of_hints(rt)?;
     let (received, used) = time_of(rt, receives, lingers)?;
-    Ok((used > much, received))
+    Ok((used >= much, received))
 }
 
 /// Whether a receive that waits long sleeps in one of `TRIES` tries. Fails unless it gets the message in each.

@@ -32,11 +32,19 @@ pub(super) struct Calls<'a> {
 
 /// When both threads act.
 #[derive(Drop)]
-pub(super) enum Pace<'a> {
-    /// Both first count themselves here and wait for each other; then the sender sleeps so long.
-    Sleep(&'a AtomicU64, Duration),
-    /// Both first count themselves here and wait for each other; then the sender makes so many loads.
-    Meet(&'a AtomicU64, u64),
+pub(super) struct Pace {
+    /// Counts each thread as it comes, and then the sender as it acts.
+    pub(super) here: AtomicU64,
+    pub(super) before: Before,
+}
+
+/// What the sender does before its act, once both threads are here.
+#[derive(Clone, Copy)]
+pub(super) enum Before {
+    /// It sleeps so long.
+    Sleep(Duration),
+    /// It makes so many loads.
+    Load(u64),
 }
 
 /// What came of a receive beside the sender's act.
@@ -44,6 +52,8 @@ pub(super) enum Pace<'a> {
 pub(super) struct Outcome {
     /// The first reply that has the message, or states that none comes.
     pub(super) received: Reply<Arc<u64>>,
+    /// Whether the sender had come to its act when the receive ended.
+    waited: bool,
     /// The processor time of the receive.
     pub(super) used: Duration,
     /// The last reply of the sender.
@@ -56,41 +66,37 @@ const SPINS: u64 = 100_000_000;
 /// How many loads a running thread makes while the other starts.
 const QUICK: u64 = 20_000;
 
-/// Returns once both threads are here, or after `SPINS` loads. After `QUICK` loads it also yields.
-fn meet(here: &AtomicU64) {
-    here.fetch_add(1, Ordering::SeqCst);
-    for spin in 0..SPINS {
-        if here.load(Ordering::SeqCst) == 2 {
-            return;
-        }
-        if spin > QUICK {
-            yield_now();
-        }
-    }
-}
-
-impl Pace<'_> {
-    /// Waits until the receive begins.
-    fn receive(&self) {
-        match self {
-            Pace::Sleep(here, _) | Pace::Meet(here, _) => meet(here),
-        }
-    }
-
-    /// Waits until the sender acts.
-    fn act(&self, rt: &impl Clock) {
-        match self {
-            Pace::Sleep(here, time) => {
-                meet(here);
-                sleep(rt, *time);
+impl Pace {
+    /// Returns once both threads are here, or after `SPINS` loads. After `QUICK` loads it also yields.
+    fn meet(&self) {
+        self.here.fetch_add(1, Ordering::SeqCst);
+        for spin in 0..SPINS {
+            if self.here.load(Ordering::SeqCst) >= 2 {
+                return;
             }
-            Pace::Meet(here, loads) => {
-                meet(here);
-                for _ in 0..*loads {
-                    here.load(Ordering::SeqCst);
+            if spin > QUICK {
+                yield_now();
+            }
+        }
+    }
+
+    /// Waits until the sender acts, and counts it.
+    fn act(&self, rt: &impl Clock) {
+        self.meet();
+        match self.before {
+            Before::Sleep(time) => sleep(rt, time),
+            Before::Load(loads) => {
+                for _ in 0..loads {
+                    self.here.load(Ordering::SeqCst);
                 }
             }
         }
+        self.here.fetch_add(1, Ordering::SeqCst);
+    }
+
+    /// Whether the sender has come to its act.
+    fn has_acted(&self) -> bool {
+        self.here.load(Ordering::SeqCst) > 2
     }
 }
 
@@ -130,17 +136,19 @@ fn send(calls: &[SenderCall], sender: Sender<Arc<u64>>, message: Arc<u64>) -> Re
     last
 }
 
-/// Receives at this pace, and measures the processor time.
+/// Receives at this pace. Returns the reply, whether the sender has then come to its act, and the processor time.
 fn receive_at<R: Wait + Clock + CpuClock + RandomSource + AllocGlobal>(
     rt: &R,
-    pace: &Pace<'_>,
+    pace: &Pace,
     calls: &[ReceiverCall],
     receiver: Receiver<Arc<u64>, &R>,
-) -> Result<(Reply<Arc<u64>>, Duration), Fail> {
-    pace.receive();
+) -> Result<(Reply<Arc<u64>>, bool, Duration), Fail> {
+    pace.meet();
     let before = rt.thread_cpu_time()?;
     let received = receive(rt, calls, receiver)?;
-    Ok((received, rt.thread_cpu_time()?.saturating_sub(before)))
+    let waited = pace.has_acted();
+    let used = rt.thread_cpu_time()?.saturating_sub(before);
+    Ok((received, waited, used))
 }
 
 /// Makes both ends' calls, each on a thread of its own.
@@ -148,7 +156,7 @@ pub(super) fn beside<R: Threads + Wait + Clock + CpuClock + RandomSource + Alloc
     rt: &R,
     message: Arc<u64>,
     calls: Calls<'_>,
-    pace: &Pace<'_>,
+    pace: &Pace,
 ) -> Result<Outcome, Fail> {
     let (sender, receiver) = channel(rt, rt.alloc())?;
     let (received, sent) = join(
@@ -159,34 +167,38 @@ pub(super) fn beside<R: Threads + Wait + Clock + CpuClock + RandomSource + Alloc
             send(calls.sends, sender, message)
         },
     );
-    let (received, used) = received?;
+    let (received, waited, used) = received?;
     Ok(Outcome {
         received,
+        waited,
         used,
         sent,
     })
 }
 
-/// Fails unless the receive gets the message that the sender sends, and none that it does not, and unless
-/// the message then has no other owner.
+/// Fails unless the receive waits for the sender's act, gets the message if the sender sends it and none otherwise, and
+/// unless the message then has no other owner.
 pub(super) fn assert_receives<
     R: Threads + Wait + Clock + CpuClock + RandomSource + AllocGlobal + Abort + Sync,
->(rt: &R, calls: Calls<'_>, pace: &Pace<'_>) -> Result<(), Fail> {
+>(rt: &R, calls: Calls<'_>, pace: &Pace) -> Result<(), Fail> {
     let shared = Arc::new(rt.alloc(), 19)?;
     let outcome = beside(rt, Arc::try_clone(&shared)?, calls, pace)?;
     assert_outcome(rt, calls, &shared, outcome);
     Ok(())
 }
 
-/// Fails unless this is the outcome of these calls, of which the sender's sends `shared` or drops it, and unless
-/// `shared` then has no other owner.
+/// Fails unless this is the outcome of these calls: the sender's sends `shared` or drops it, and the receive waits for
+/// it. Fails also if `shared` then has another owner.
 fn assert_outcome(rt: &impl Abort, calls: Calls<'_>, shared: &Arc<u64>, outcome: Outcome) {
     let sends = calls.sends.contains(&SenderCall::Send);
     let owners = if sends { 2 } else { 1 };
     let sent = outcome.sent.numbered();
+    let waited = outcome.waited;
     assert!(rt;
-        shows(&sent, if sends { "Ok" } else { "dropped" }) && Arc::strong_count(shared) == owners,
-        "{calls:?}: {sent}"
+        waited
+            && shows(&sent, if sends { "Ok" } else { "dropped" })
+            && Arc::strong_count(shared) == owners,
+        "{calls:?}: {sent}, waited: {waited}"
     );
     assert_received(rt, calls, shared, outcome.received);
 }
@@ -212,16 +224,23 @@ fn assert_received(
     assert!(rt; Arc::strong_count(shared) == 1, "{calls:?}: kept");
 }
 
-/// Fails, since the receive of a dropped sender's channel, or of a sent message, has this reply without a message.
+/// Fails, since this is no outcome of a receive beside this call. A message that it sends has another owner.
 fn assert_without_message(
     rt: &(impl Abort + AllocGlobal),
     call: SenderCall,
+    waited: bool,
     sent: Bare,
     received: Bare,
 ) {
     let shared = Arc::new(rt.alloc(), 19).ok().expect(rt, "memory");
+    let _other = if call == SenderCall::Send {
+        Arc::try_clone(&shared).ok()
+    } else {
+        None
+    };
     let outcome = Outcome {
         received: Reply::Bare(received),
+        waited,
         used: Duration::ZERO,
         sent: Reply::Bare(sent),
     };
@@ -235,13 +254,19 @@ fn assert_without_message(
 #[test]
 #[should_panic(expected = "sends: [Drop], receives: [Recv] }: Err(Timeout)")]
 fn a_receive_that_runs_out_ends_a_test(rt: HostRuntime) {
-    assert_without_message(&rt, SenderCall::Drop, Bare::Dropped, Bare::Timeout);
+    assert_without_message(&rt, SenderCall::Drop, true, Bare::Dropped, Bare::Timeout);
 }
 
 #[test]
-#[should_panic(expected = "sends: [Send], receives: [Recv] }: Err")]
+#[should_panic(expected = "sends: [Drop], receives: [Recv] }: dropped, waited: false")]
+fn a_receive_that_does_not_wait_ends_a_test(rt: HostRuntime) {
+    assert_without_message(&rt, SenderCall::Drop, false, Bare::Dropped, Bare::Ended);
+}
+
+#[test]
+#[should_panic(expected = "sends: [Send], receives: [Recv] }: Err, waited: true")]
 fn a_message_that_is_not_sent_ends_a_test(rt: HostRuntime) {
-    assert_without_message(&rt, SenderCall::Send, Bare::Refused, Bare::Ended);
+    assert_without_message(&rt, SenderCall::Send, true, Bare::Refused, Bare::Ended);
 }
 
 /// Fails unless each receive of `WAITS` waits for the act of these calls.
@@ -254,8 +279,10 @@ fn assert_each_waits<
             sends,
             receives: &receives,
         };
-        let here = AtomicU64::new(0);
-        let pace = Pace::Sleep(&here, Duration::from_millis(2));
+        let pace = Pace {
+            here: AtomicU64::new(0),
+            before: Before::Sleep(Duration::from_millis(2)),
+        };
         assert_receives(rt, calls, &pace)?;
     }
     Ok(())

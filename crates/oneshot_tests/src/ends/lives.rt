@@ -11,7 +11,7 @@ use std::test::Fail;
 use std::time::{Clock, Duration};
 
 /// Futures that become ready.
-pub(super) const READY: &[&str; 4] = &[
+pub(super) const READY: &[&str; 5] = &[
     "async_channel
     S send = Ok | gone full
     R poll1 = Ready(Ok(19)) | gone closed
@@ -23,6 +23,13 @@ pub(super) const READY: &[&str; 4] = &[
     S send = Ok | gone full
     R poll1 = Ready(Ok(19)) | gone closed
     R drop = dropped | gone gone",
+    "async_channel
+    R poll1 = Pending | open open
+    R poll1 = Pending | open open
+    R poll2 = Pending | open open
+    R poll1 = Pending | open open
+    S send = Ok | gone full
+    R poll2 = Ready(Ok(19)) | gone closed",
     "async_channel
     R poll1 = Pending | open open
     S drop = dropped | gone closed
@@ -73,7 +80,7 @@ pub(super) const TRIED: &[&str; 5] = &[
 ];
 
 /// Futures that are dropped before they are ready.
-pub(super) const DROPPED: &[&str; 6] = &[
+pub(super) const DROPPED: &[&str; 7] = &[
     "async_channel
     R drop = dropped | closed gone
     S drop = dropped | gone gone",
@@ -91,6 +98,12 @@ pub(super) const DROPPED: &[&str; 6] = &[
     R poll1 = Pending | open open
     R poll1 = Pending | open open
     R poll1 = Pending | open open
+    R drop = dropped | closed gone
+    S drop = dropped | gone gone",
+    "async_channel
+    R poll1 = Pending | open open
+    R poll1 = Pending | open open
+    R poll2 = Pending | open open
     R drop = dropped | closed gone
     S drop = dropped | gone gone",
     "async_channel

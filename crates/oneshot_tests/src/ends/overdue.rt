@@ -1,7 +1,7 @@
 //! Deadlines that pass during the sender's send or drop. After a lost wakeup, or with one wait more than
 //! wakes, this test would not end.
 
-use super::beside::{Calls, Pace, assert_receives};
+use super::beside::{Before, Calls, Pace, assert_receives};
 use oneshot_calls::{Ask, ReceiverCall, SenderCall};
 use std::io;
 use std::process::Abort;
@@ -36,7 +36,6 @@ fn assert_round<R: Threads + Wait + Clock + CpuClock + RandomSource + AllocGloba
     sends: &[SenderCall],
     round: u64,
 ) -> Result<(), Fail> {
-    let here = AtomicU64::new(0);
     let limit = Duration::from_micros(round % 7);
     let timed = if round % 2 == 0 {
         Ask::Deadline(limit)
@@ -47,7 +46,11 @@ fn assert_round<R: Threads + Wait + Clock + CpuClock + RandomSource + AllocGloba
         sends,
         receives: &[ReceiverCall::Ask(timed), ReceiverCall::Recv],
     };
-    assert_receives(rt, calls, &Pace::Meet(&here, round % 400))
+    let pace = Pace {
+        here: AtomicU64::new(0),
+        before: Before::Load(round % 400),
+    };
+    assert_receives(rt, calls, &pace)
 }
 
 #[test]

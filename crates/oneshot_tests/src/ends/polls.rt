@@ -148,7 +148,7 @@ fn polled_there<T: Send + Drop, Rt: Send + Drop>(
     let lent = Lent {
         receiver: Some(receiver),
     };
-    let ((), polled) = thread::join(rt, || (), move || block_on(rt, lent));
+    let (polled, ()) = thread::join(rt, move || block_on(rt, lent), || ());
     polled.ok()?
 }
 
@@ -157,8 +157,15 @@ fn two_threads_and_two_executors_poll_one_receiver(rt: HostRuntime) -> Result<()
     let (sender, receiver) = async_channel(&rt, rt.alloc())?;
     let receiver = polled_there(&rt, receiver).expect(&rt, "it is given back");
     let receiver = polled_there(&rt, receiver).expect(&rt, "it is given back");
-    assert!(rt; sender.send(19u8).is_ok());
-    assert_eq!(rt; block_on(&rt, receiver)?, Ok(19));
+    let (received, sent) = thread::join(
+        &rt,
+        || block_on(&rt, receiver),
+        || {
+            thread::sleep(&rt, Duration::from_millis(20));
+            sender.send(19u8).is_ok()
+        },
+    );
+    assert_eq!(rt; (received?, sent), (Ok(19), true));
     Ok(())
 }
 

@@ -19,7 +19,7 @@ pub(super) struct Life<'a> {
 }
 
 /// A step of a life.
-#[derive(Clone, Copy, Debug)]
+#[derive(Clone, Copy)]
 pub(super) struct Step<'a> {
     pub(super) line: &'a str,
     pub(super) call: Call,

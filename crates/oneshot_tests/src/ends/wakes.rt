@@ -3,7 +3,7 @@
 use futures::Future;
 use futures::executor::LocalPool;
 use futures::task::{Context, Poll, Source, Waker};
-use oneshot_calls::{Ask, Numbered, ReceiverCall, Receiving, Task, script, shows};
+use oneshot_calls::{Ask, Numbered, ReceiverCall, Receiving, Task, Tasks, script, shows};
 use oneshot_channel::{Promise, Receiver, async_channel};
 use std::alloc::{AllocError, AllocGlobal};
 use std::cell::Cell;
@@ -199,7 +199,7 @@ fn assert_calls_wake<
 }
 
 /// Makes the calls of a future, then the sender's `act`, and then a `try`. Fails at another count of wakes, and unless
-/// the `try` returns `wanted`.
+/// the `try` returns `wanted` and wakes no task.
 pub(crate) fn waited_for<
     T: Numbered + Drop,
     W: Wait + Clock + Drop,
@@ -224,8 +224,9 @@ pub(crate) fn waited_for<
     act();
     pool.run_until_stalled(MOST_POLLS);
     assert_wakes(rt, &bells, woken, step, calls);
-    drop(pool);
     assert_reply(rt, &place, ReceiverCall::Ask(Ask::Try), wanted);
+    pool.run_until_stalled(MOST_POLLS);
+    assert_wakes(rt, &bells, [0, 0], step, calls);
     Ok(())
 }
 
@@ -249,6 +250,29 @@ fn a_task_that_waits_beside_others_is_woken_by_the_sender_alone(
         waited_for(&rt, waits, Receiving::of_future(future), act, "Ok(19)")?;
         assert_a_drop_wakes(&rt, waits)?;
     }
+    Ok(())
+}
+
+// The channel gives back the copy of a task's second poll. The future keeps it until another task polls, and its drop
+// wakes the first task.
+#[test]
+fn a_poll_of_another_task_wakes_the_first(rt: HostRuntime) -> Result<(), Fail> {
+    let tasks = Tasks::new(&rt)?;
+    let (_sender, future) = async_channel::<u64, _>(&rt, rt.alloc())?;
+    let mut future = Receiving::of_future(future);
+    let mut woken = [false; 3];
+    for (task, woken) in [Task::One, Task::One, Task::Two]
+        .into_iter()
+        .zip(&mut woken)
+    {
+        let polled = future.make(&rt, Some(&tasks), ReceiverCall::Poll(task));
+        assert!(rt; shows(&polled.numbered(), "Pending"));
+        *woken = tasks.is_woken(Task::One);
+    }
+    assert_eq!(rt;
+        (woken, tasks.is_woken(Task::Two)),
+        ([false, false, true], false)
+    );
     Ok(())
 }
 

@@ -112,3 +112,9 @@ fn a_reply_of_a_page_comes_whole(rt: HostRuntime) -> Result<(), Fail> {
 fn another_message_ends_a_test(rt: HostRuntime) {
     let _ = assert_comes(&rt, 1u8, 2).report(&rt);
 }
+
+#[test]
+#[should_panic(expected = "right: (Ok(2), Ok(2), Ok(2))")]
+fn another_reply_ends_a_test(rt: HostRuntime) {
+    let _ = assert_reply_comes(&rt, 1u8, 2).report(&rt);
+}

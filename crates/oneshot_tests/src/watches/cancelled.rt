@@ -135,12 +135,15 @@ fn a_reply_is_awaited(rt: HostRuntime) -> Result<(), Fail> {
 
 #[test]
 fn a_dropped_request_closes_the_awaited_reply(rt: HostRuntime) -> Result<(), Fail> {
+    let task = MockTask::new(&rt)?;
     let (request, ticket) = ask((), rt.alloc())?;
-    let reply = ticket.into_future();
+    let mut reply = ticket.into_future();
     let before = (reply.is_closed(), reply.has_message());
     drop(request);
     let after = (reply.is_closed(), reply.has_message());
     assert_eq!(rt; (before, after), ((false, false), (true, false)));
+    let is_lost = matches!(task.poll(&mut reply), Poll::Ready(Err(RecvError)));
+    assert_eq!(rt; (is_lost, task.is_woken()), (true, false));
     assert_eq!(rt; block_on(&rt, reply)?.map(bytes_of), Err(RecvError));
     Ok(())
 }

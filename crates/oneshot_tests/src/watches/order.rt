@@ -1,4 +1,5 @@
-//! A ticket is gone before its server is told: what the ticket drops sees that the guard is still there.
+//! A ticket is gone before its server is told: what the ticket drops sees that the request is cancelled, and that the
+//! guard is still there.
 
 use crate::reply::TEXT;
 use oneshot_channel::reply::{Length, Request};
@@ -8,12 +9,13 @@ use std::cell::Cell;
 use std::process::Abort;
 use std::test::Fail;
 
-/// A server's request with its watch, and whether the server was told before the ticket's runtime was dropped. The
-/// request stays, so the ticket's drop finds it there.
+/// A server's request with its watch, and whether the request was cancelled, and the server told, before the ticket's
+/// runtime was dropped. The request stays, so the ticket's drop finds it there.
 #[derive(Drop)]
 struct Server {
     request: Cell<Option<Request<String, Length>>>,
     watch: Cell<Option<Watch<()>>>,
+    was_cancelled: Cell<Option<bool>>,
     was_told: Cell<Option<bool>>,
 }
 
@@ -22,8 +24,17 @@ impl Server {
         Server {
             request: Cell::new(None),
             watch: Cell::new(None),
+            was_cancelled: Cell::new(None),
             was_told: Cell::new(None),
         }
+    }
+
+    /// Whether the request is cancelled. `None`: there is none.
+    fn is_cancelled(&self) -> Option<bool> {
+        let left = self.request.take()?;
+        let is_cancelled = left.is_cancelled();
+        self.request.set(Some(left));
+        Some(is_cancelled)
     }
 
     /// Whether the server was told. `None`: it has no watch.
@@ -35,7 +46,7 @@ impl Server {
     }
 }
 
-/// The runtime of a ticket. Its drop notes whether the server was told.
+/// The runtime of a ticket. Its drop notes whether the request was cancelled, and the server told.
 struct Witness<'a> {
     server: &'a Server,
 }
@@ -43,6 +54,7 @@ struct Witness<'a> {
 impl Drop for Witness<'_> {
     fn drop(self) {
         let Witness { server } = self;
+        server.was_cancelled.set(server.is_cancelled());
         server.was_told.set(server.is_told());
     }
 }
@@ -61,15 +73,17 @@ fn ticket_of<'a>(
     Ok(ticket)
 }
 
-/// Stops the test unless the server was told only after the ticket's runtime was dropped, and its request is then
-/// cancelled.
+/// Stops the test unless the request was cancelled before the ticket's runtime was dropped, and the server told only
+/// after it.
 fn assert_told_last(rt: &impl Abort, server: &Server) {
     assert_eq!(rt;
-        (server.was_told.get(), server.is_told()),
-        (Some(false), Some(true))
+        (
+            server.was_cancelled.get(),
+            server.was_told.get(),
+            server.is_told()
+        ),
+        (Some(true), Some(false), Some(true))
     );
-    let left = server.request.take();
-    assert_eq!(rt; left.map(|left| left.is_cancelled()), Some(true));
 }
 
 #[test]
