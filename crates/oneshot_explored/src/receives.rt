@@ -48,7 +48,10 @@ pub fn tasks_of<R>(rt: &R, calls: &Vec<ReceiverCall>) -> Option<Tasks>
 where
     R: RandomSource + AllocGlobal,
 {
-    if !calls.iter().any(|call| matches!(call, ReceiverCall::Future)) {
+    if !calls
+        .iter()
+        .any(|call| matches!(call, ReceiverCall::Future))
+    {
         return None;
     }
     Tasks::new(rt).ok()

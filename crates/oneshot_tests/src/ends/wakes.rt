@@ -3,7 +3,7 @@
 use futures::Future;
 use futures::executor::LocalPool;
 use futures::task::{Context, Poll, Source, Waker};
-use oneshot_calls::{Ask, Numbered, ReceiverCall, Receiving, Task, Tasks, script, shows};
+use oneshot_calls::{Ask, Numbered, ReceiverCall, Receiving, Task, script, shows};
 use oneshot_channel::{Promise, Receiver, async_channel};
 use std::alloc::{AllocError, AllocGlobal};
 use std::cell::Cell;
@@ -253,26 +253,22 @@ fn a_task_that_waits_beside_others_is_woken_by_the_sender_alone(
     Ok(())
 }
 
-// The channel gives back the copy of a task's second poll. The future keeps it until another task polls, and its drop
-// wakes the first task.
+// The channel gives back the copy that the first task's second poll replaces. The future keeps it until another task
+// polls, and its drop wakes the first task.
 #[test]
 fn a_poll_of_another_task_wakes_the_first(rt: HostRuntime) -> Result<(), Fail> {
-    let tasks = Tasks::new(&rt)?;
     let (_sender, future) = async_channel::<u64, _>(&rt, rt.alloc())?;
-    let mut future = Receiving::of_future(future);
-    let mut woken = [false; 3];
-    for (task, woken) in [Task::One, Task::One, Task::Two]
-        .into_iter()
-        .zip(&mut woken)
-    {
-        let polled = future.make(&rt, Some(&tasks), ReceiverCall::Poll(task));
-        assert!(rt; shows(&polled.numbered(), "Pending"));
-        *woken = tasks.is_woken(Task::One);
+    let place = Cell::new(Some(Receiving::of_future(future)));
+    let bells = [Bell::new(), Bell::new()];
+    let mut pool = listening(&rt, &bells, &place)?;
+    let calls = "poll1 poll1 poll2";
+    assert_wakes(&rt, &bells, [1, 1], 0, calls);
+    let [first, second] = &bells;
+    for (step, bell, wakes) in [(1, first, [1, 0]), (2, first, [1, 0]), (3, second, [1, 1])] {
+        bell.ring();
+        pool.run_until_stalled(MOST_POLLS);
+        assert_wakes(&rt, &bells, wakes, step, calls);
     }
-    assert_eq!(rt;
-        (woken, tasks.is_woken(Task::Two)),
-        ([false, false, true], false)
-    );
     Ok(())
 }
 
