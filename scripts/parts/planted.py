@@ -49,6 +49,10 @@ IN_PRINTED = [
     ("crates/oneshot_reply/src/ticket.rt", "replies.is_closed()", "replies.has_message()"),
     ("crates/oneshot_reply/src/requests.rt", "self.reply.is_closed()", "while self.reply.is_closed()"),
     ("crates/oneshot_watch/src/replies.rt", "replies.has_message()", "replies.is_closed()"),
+    # which functions pause, and the loops of the drivers
+    ("crates/oneshot_ends/src/sender.rt", "self.side.is_closed()", "{ yield_now(); self.side.is_closed() }"),
+    ("crates/oneshot_drive/src/waiting.rt", "for _ in rt.forever() {", "{"),
+    ("crates/oneshot_reply/src/requests.rt", "use oneshot_ends", "use std::thread::yield_now as go; use oneshot_ends"),
     # what is unsafe, or forgets a value
     *(("crates/oneshot_drive/src/lib.rt", ROOT, f"{words} {ROOT}") for words in FORGETS),
     *((f"crates/oneshot_{crate}/src/lib.rt", ROOT, f"unsafe {ROOT}") for crate in CHANNEL),
