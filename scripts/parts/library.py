@@ -135,6 +135,8 @@ class Library:
             root = "main.rt" if (CRATES / crate / "src" / "main.rt").exists() else "lib.rt"
             self.put(f"crates/{crate}/src/{root}", (CRATES / crate / "src" / root).read_text())
             self.put(f"crates/{crate}/must-fail/first.edit", "left out")
+            if (CRATES / crate / "stdout").exists():
+                self.put(f"crates/{crate}/stdout", (CRATES / crate / "stdout").read_text())
         else:
             shutil.copytree(CRATES / crate, self.top / "crates" / crate, ignore=shutil.ignore_patterns("out"))
 
@@ -202,7 +204,8 @@ class Library:
         found[".gitignore"] = b"crates/*/out/\n"
         found["HANDLES"] = b"Handles allowed: Threads, Wait.\n"
         if program:
-            found[f"crates/{program}/src/main.rt"] = (self.top / "crates" / "hello" / "src" / "main.rt").read_bytes()
+            for name in ("src/main.rt", "stdout"):
+                found[f"crates/{program}/{name}"] = (self.top / "crates" / "hello" / name).read_bytes()
             lines.append(f"{program} may_wait=1: oneshot_channel")
         found["crates.txt"] = "".join(f"{line}\n" for line in lines).encode()
         return found

@@ -95,7 +95,8 @@ fn ask<Rt: Wait + Clock + Drop>(
 fn main(rt: HostRuntime) -> io::Result<()> {
     let made = cancellable_request(&rt, (), rt.alloc(), NUMBER);
     let (request, ticket) = made.map_err(|_| AllocError)?;
-    let (divisor, answered) = join(&rt, || ask(ticket), || serve(&rt, request));
+    // If `join` can start no thread, it calls the second closure first, and `ask` ends by itself.
+    let (answered, divisor) = join(&rt, || serve(&rt, request), || ask(ticket));
     match divisor {
         Ok(divisor) => println!(rt; "asker: a divisor is {divisor}")?,
         Err(_) => println!(rt; "asker: no reply within {LIMIT} ms")?,
