@@ -21,7 +21,8 @@ def sources_of(crate):
     toolchain."""
     files = [file for name in beneath(crate) for part in ("src", "specs", "proofs")
              for file in sorted((CRATES / name / part).rglob("*"))]
-    files += [CRATES.parent / "crates.txt", CRATES / crate / "args", pathlib.Path(shutil.which("rt") or "").resolve()]
+    rt = pathlib.Path(shutil.which("rt") or "").resolve()
+    files += [CRATES.parent / "crates.txt", CRATES / crate / "args", rt, rt.parent.parent / "KIT-ID"]
     return [file for file in files if file.is_file()]
 
 

@@ -28,8 +28,10 @@ def sum_of_line(line):
 
 def commit_of(top):
     """The commit of this checkout, and whether its files differ from it."""
-    describe = ["git", "describe", "--always", "--dirty", "--abbrev=40"]
-    told = subprocess.run(describe, cwd=top, capture_output=True, text=True)
+    # Its own: a folder without one may lie in a repository of somebody else.
+    own = [f"--git-dir={top}/.git", f"--work-tree={top}"]
+    told = subprocess.run(["git", *own, "describe", "--always", "--dirty", "--abbrev=40"], cwd=top,
+                          capture_output=True, text=True)
     return told.stdout.strip() or "of no commit"
 
 

@@ -7,7 +7,8 @@ from parts.sources import CRATES, place, text_of
 
 # A definition that another module can use, at the beginning of a line or in a `module _`. The goals of one function
 # have their names from it, so their files are left out, and so are the fields of records.
-DEFINES = re.compile(r"^(?P<record>(?:abbrev )?(?:pub )?record )?(?:  )?(?:abbrev )?(?:pub )?(?:data |record )?"
+DEFINES = re.compile(r"^(?P<record>(?:abbrev )?(?:pub )?record )?(?:  )?(?:abbrev |unfoldable )?(?:pub )?"
+                     r"(?:data |record )?"
                      r"(?P<name>[A-Za-z_][\w'-]*)(?= [({:])")
 # A public data type, whose constructors stand two columns to the right of it.
 DATA = re.compile(r"(?P<indent>(?:  )?)pub data ")

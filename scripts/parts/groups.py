@@ -30,7 +30,12 @@ def finish(started):
 def run(words, **settings):
     """Runs a program to its end. Returns what it wrote to the standard streams that are piped."""
     started = start(words, **settings)
-    written = started.communicate()
+    try:
+        written = started.communicate()
+    except BaseException:
+        # An interrupt, which the program's own group does not get.
+        end_all()
+        raise
     finish(started)
     return written
 

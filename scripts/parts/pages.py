@@ -1,5 +1,6 @@
 """Pages of Markdown: their blocks of code and their tables."""
 import collections
+import re
 
 from parts.compare import Differs
 from parts.sources import CRATES, text_of
@@ -21,6 +22,8 @@ def blocks(page):
     """The blocks of a page, each with its first line, and whether it is between two marks."""
     is_printed, block = False, None
     for number, line in enumerate(page_text(page).split("\n"), 1):
+        if re.match(r"\s*~~~|\s+```", line):
+            raise Differs(f"{page}:{number}: a block of code begins with ``` at the margin")
         if line.startswith("```"):
             if block:
                 yield block

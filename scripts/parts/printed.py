@@ -7,7 +7,8 @@ from parts.compare import Differs
 from parts.pages import BEGIN, END, TOP, page_text
 from parts.sources import CRATES, TEXTS
 
-PART = re.compile(rf"(?ms)^{BEGIN}(\w+)(?: (\S+))?-->\n(.*?)^{END}$")
+# A part has no other part's mark in it, which would be lost with its text.
+PART = re.compile(rf"(?ms)^{BEGIN}(\w+)(?: (\S+))?-->\n((?:(?!^{BEGIN}).)*?)^{END}$")
 
 
 def printed(page, printers):
@@ -22,7 +23,11 @@ def printed(page, printers):
         begin, _, _ = found[0].partition("\n")
         return "\n".join([begin, *printers[kind](*filter(None, names)), END])
 
-    return PART.sub(part, page_text(page)), named
+    text = page_text(page)
+    made, count = PART.subn(part, text)
+    if {len(re.findall(rf"(?m)^{mark}", text)) for mark in (BEGIN, END)} != {count}:
+        raise Differs(f"{page}: a mark without its other one")
+    return made, named
 
 
 def print_all(pages, files):

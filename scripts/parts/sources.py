@@ -68,4 +68,4 @@ def code_of(file):
 
 @functools.cache
 def without_comments(text):
-    return re.sub(r"//.*", "", text)
+    return re.sub(r'("(?:[^"\\\n]|\\.)*")|//.*', lambda found: found[1] or "", text)
