@@ -58,10 +58,11 @@ fn a_message_is_awaited(rt: HostRuntime) -> Result<(), Fail> {
 fn a_message_is_polled_by_hand(rt: HostRuntime) -> Result<(), Fail> {
     let task = MockTask::new(&rt)?;
     let (sender, mut receiver) = async_channel((), rt.alloc())?;
-    let early = (task.poll(&mut receiver), receiver.try_recv());
+    let polled = task.poll(&mut receiver);
+    let early = (polled, task.poll(&mut receiver), receiver.try_recv());
     let before = task.is_woken();
     let sent = (sender.send(19u64).is_ok(), task.is_woken());
-    let empty = (Poll::Pending, Err(TryRecvError::Empty));
+    let empty = (Poll::Pending, Poll::Pending, Err(TryRecvError::Empty));
     assert_eq!(rt; (early, before, sent), (empty, false, (true, true)));
     let late = (task.poll(&mut receiver), task.poll(&mut receiver));
     assert_eq!(rt;

@@ -18,8 +18,9 @@ use std::marker::Model;
 /// In contracts a request is its sender's value (`SenderView`), whose `channel.about` has the question.
 #[derive(Drop)]
 pub struct Request<Q: Eq, A: Answer<Q>> {
-    asked: Asked<Q>,
+    // First: the drop tells the ticket before it drops the question, which may be code of the caller.
     pub(crate) reply: Sender<A, Asked<Q>>,
+    asked: Asked<Q>,
 }
 
 impl<Q: Eq, A: Answer<Q>> Model for Request<Q, A> {

@@ -1,7 +1,7 @@
 //! Receives by clocks that return written readings, count them, or have the sender act at one.
 
 use oneshot_calls::{SenderCall, Sending};
-use oneshot_channel::{Receiver, RecvTimeoutError, Sender, channel};
+use oneshot_channel::{Receiver, RecvError, RecvTimeoutError, Sender, channel};
 use std::alloc::{AllocError, AllocGlobal, Global};
 use std::cell::Cell;
 use std::io;
@@ -252,6 +252,19 @@ fn a_clock_that_fails_hides_no_message(rt: HostRuntime) -> Result<(), Fail> {
             receiver.recv_timeout(limit)
         ),
         (true, Ok(19), Err(RecvTimeoutError::Disconnected))
+    );
+    Ok(())
+}
+
+#[test]
+fn a_receive_without_a_deadline_reads_no_clock(rt: HostRuntime) -> Result<(), Fail> {
+    let clock = Written::new(&rt, &[]);
+    let (sender, mut receiver) = by_clock(&clock, rt.alloc())?;
+    let sent = sender.send(19).is_ok();
+    let received = (receiver.recv_ref(), receiver.recv_ref(), receiver.recv());
+    assert_eq!(rt;
+        (sent, received, clock.made()),
+        (true, (Ok(19), Err(RecvError), Err(RecvError)), 0)
     );
     Ok(())
 }

@@ -27,8 +27,8 @@ pub fn ask<Rt: Drop>(rt: Rt, alloc: Global) -> Result<Ends<Rt>, AllocError> {
 }
 
 /// Answers with the length of the text. Inner `Err`: the ticket was gone, and the reply came back.
-pub fn answer(
-    request: CancellableRequest<String, Length, ()>,
+pub fn answer<Rt: Drop>(
+    request: CancellableRequest<String, Length, Rt>,
 ) -> Result<Result<(), Length>, AllocError> {
     let length = Length::of(request.question().clone()?);
     if !request.fits(&length) {
@@ -118,18 +118,23 @@ fn a_reply_is_awaited(rt: HostRuntime) -> Result<(), Fail> {
     let task = MockTask::new(&rt)?;
     let (request, ticket) = ask((), rt.alloc())?;
     let mut reply = ticket.into_future();
-    let is_pending = matches!(task.poll(&mut reply), Poll::Pending);
+    for _ in 0..2 {
+        assert!(rt; matches!(task.poll(&mut reply), Poll::Pending));
+    }
     let early = reply.try_recv().map(bytes_of);
     assert_eq!(rt;
-        (is_pending, early, reply.has_message(), task.is_woken()),
-        (true, Err(TryRecvError::Empty), false, false)
+        (early, reply.has_message(), task.is_woken()),
+        (Err(TryRecvError::Empty), false, false)
     );
     let answered = answer(request)?.is_ok();
     assert_eq!(rt;
         (answered, reply.has_message(), task.is_woken()),
         (true, true, true)
     );
-    assert_eq!(rt; block_on(&rt, reply)?.map(bytes_of), Ok(21));
+    let Poll::Ready(received) = task.poll(&mut reply) else {
+        return Err(Fail::new("a reply that was sent is not there"));
+    };
+    assert_eq!(rt; (received.map(bytes_of), task.is_woken()), (Ok(21), false));
     Ok(())
 }
 
@@ -138,6 +143,9 @@ fn a_dropped_request_closes_the_awaited_reply(rt: HostRuntime) -> Result<(), Fai
     let task = MockTask::new(&rt)?;
     let (request, ticket) = ask((), rt.alloc())?;
     let mut reply = ticket.into_future();
+    for _ in 0..2 {
+        assert!(rt; matches!(task.poll(&mut reply), Poll::Pending));
+    }
     let before = (reply.is_closed(), reply.has_message());
     drop(request);
     let after = (reply.is_closed(), reply.has_message());

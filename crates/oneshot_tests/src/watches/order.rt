@@ -1,9 +1,10 @@
-//! A ticket is gone before its server is told: what the ticket drops sees that the request is cancelled, and that the
-//! guard is still there.
+//! What one end of a cancellable request drops finds the other end told: the ticket's runtime finds the request
+//! cancelled, and the guard still there; the runtime of the server's watch finds the reply, or that none will come.
 
+use super::cancelled::answer;
 use crate::reply::TEXT;
 use oneshot_channel::reply::{Length, Request};
-use oneshot_watch::{CancellableTicket, Watch, cancellable_request};
+use oneshot_watch::{CancellableRequest, CancellableTicket, Watch, cancellable_request};
 use std::alloc::{AllocError, Global};
 use std::cell::Cell;
 use std::process::Abort;
@@ -101,5 +102,66 @@ fn an_awaited_reply_is_gone_before_its_server_is_told(rt: HostRuntime) -> Result
     assert_eq!(rt; server.is_told(), Some(false));
     drop(reply);
     assert_told_last(&rt, &server);
+    Ok(())
+}
+
+/// A client's ticket, what it received before the runtime of the server's watch was dropped, and whether it was closed.
+#[derive(Drop)]
+struct Client {
+    ticket: Cell<Option<CancellableTicket<String, Length, ()>>>,
+    received: Cell<Option<bool>>,
+    was_closed: Cell<Option<bool>>,
+}
+
+impl Client {
+    fn new() -> Client {
+        Client {
+            ticket: Cell::new(None),
+            received: Cell::new(None),
+            was_closed: Cell::new(None),
+        }
+    }
+}
+
+/// The runtime of a server's watch. Its drop looks at the client's ticket.
+struct Looking<'a> {
+    client: &'a Client,
+}
+
+impl Drop for Looking<'_> {
+    fn drop(self) {
+        let Looking { client } = self;
+        if let Some(mut ticket) = client.ticket.take() {
+            client.was_closed.set(Some(ticket.is_closed()));
+            client.received.set(Some(ticket.try_take().is_ok()));
+        }
+    }
+}
+
+/// A request whose ticket the client has, and the runtime of whose watch looks at it.
+fn request_of<'a>(
+    alloc: Global,
+    client: &'a Client,
+) -> Result<CancellableRequest<String, Length, Looking<'a>>, AllocError> {
+    let question = String::from_str(alloc, TEXT)?;
+    let made = cancellable_request((), Looking { client }, alloc, question);
+    let (request, ticket) = made.map_err(|_| AllocError)?;
+    client.ticket.set(Some(ticket));
+    Ok(request)
+}
+
+#[test]
+fn a_reply_is_sent_before_the_watch_goes(rt: HostRuntime) -> Result<(), Fail> {
+    let client = Client::new();
+    let answered = answer(request_of(rt.alloc(), &client)?)?.is_ok();
+    assert_eq!(rt; (answered, client.received.get()), (true, Some(true)));
+    Ok(())
+}
+
+#[test]
+fn a_dropped_request_tells_its_ticket_before_the_watch_goes(rt: HostRuntime) -> Result<(), Fail> {
+    let client = Client::new();
+    drop(request_of(rt.alloc(), &client)?);
+    assert_eq!(rt; client.was_closed.get(), Some(true));
     Ok(())
 }
