@@ -64,10 +64,14 @@ fn a_message_is_polled_by_hand(rt: HostRuntime) -> Result<(), Fail> {
     let sent = (sender.send(19u64).is_ok(), task.is_woken());
     let empty = (Poll::Pending, Poll::Pending, Err(TryRecvError::Empty));
     assert_eq!(rt; (early, before, sent), (empty, false, (true, true)));
-    let late = (task.poll(&mut receiver), task.poll(&mut receiver));
+    let late = (task.poll(&mut receiver), task.is_woken());
+    let again = (task.poll(&mut receiver), task.is_woken());
     assert_eq!(rt;
-        (late, task.is_woken()),
-        ((Poll::Ready(Ok(19)), Poll::Ready(Err(RecvError))), false)
+        (late, again),
+        (
+            (Poll::Ready(Ok(19)), false),
+            (Poll::Ready(Err(RecvError)), false)
+        )
     );
     Ok(())
 }

@@ -9,9 +9,9 @@ use std::marker::Model;
 
 /// A question, with the sender of its reply.
 ///
-/// Dropping it unanswered drops that sender: a waiting ticket is woken, and returns an error. The drop does not wait
-/// for the ticket: it blocks only if the drop of the question does. To wake a task, it takes the lock of the queue of
-/// that task's executor.
+/// Dropping it unanswered drops that sender, so that a waiting ticket is woken and returns an error, and then the
+/// question. The drop does not wait for the ticket: it blocks only if the drop of the question does. To wake a task, it
+/// takes the lock of the queue of that task's executor.
 ///
 /// It may be sent to another thread if `Q` and `A` are `Send`.
 ///
