@@ -253,23 +253,28 @@ fn a_task_that_waits_beside_others_is_woken_by_the_sender_alone(
     Ok(())
 }
 
+/// Makes two polls by the first task, and one by the second. Fails unless the last also wakes the first task.
+fn assert_wakes_the_first<T: Numbered + Drop, W: Wait + Clock + Drop, P: Promise<T>>(
+    rt: &(impl Wait + Abort + Clock + RandomSource + AllocGlobal),
+    future: Receiving<T, Receiver<T, W, P>>,
+) -> Result<(), Fail> {
+    let place = Cell::new(Some(future));
+    let bells = [Bell::new(), Bell::new()];
+    let mut pool = listening(rt, &bells, &place)?;
+    assert_wakes(rt, &bells, [1, 1], 0, "");
+    let step = assert_calls_wake(rt, &bells, &place, &mut pool, "poll1 poll1")?;
+    let _ = make(rt, &bells, &place, ReceiverCall::Poll(Task::Two));
+    pool.run_until_stalled(MOST_POLLS);
+    assert_wakes(rt, &bells, [1, 1], step, "poll1 poll1 poll2");
+    Ok(())
+}
+
 // The channel gives back the copy that the first task's second poll replaces. The future keeps it until another task
 // polls, and its drop wakes the first task.
 #[test]
 fn a_poll_of_another_task_wakes_the_first(rt: HostRuntime) -> Result<(), Fail> {
     let (_sender, future) = async_channel::<u64, _>(&rt, rt.alloc())?;
-    let place = Cell::new(Some(Receiving::of_future(future)));
-    let bells = [Bell::new(), Bell::new()];
-    let mut pool = listening(&rt, &bells, &place)?;
-    let calls = "poll1 poll1 poll2";
-    assert_wakes(&rt, &bells, [1, 1], 0, calls);
-    let [first, second] = &bells;
-    for (step, bell, wakes) in [(1, first, [1, 0]), (2, first, [1, 0]), (3, second, [1, 1])] {
-        bell.ring();
-        pool.run_until_stalled(MOST_POLLS);
-        assert_wakes(&rt, &bells, wakes, step, calls);
-    }
-    Ok(())
+    assert_wakes_the_first(&rt, Receiving::of_future(future))
 }
 
 #[test]
