@@ -61,21 +61,26 @@ def find_program(crate, compiler="llvm"):
         print(f"proving and building {crate}, which takes minutes the first time", file=sys.stderr,
               flush=True)
         build_program(crate, compiler)
+        record_of(program).unlink(missing_ok=True)
     if not is_new(program, crate):
         raise Differs(f"{crate} was not built")
     return str(program)
 
 
+def record_of(program):
+    return program.with_name(f"{program.name}.sources")
+
+
 def is_new(program, crate):
-    """Whether a program is built from what its sources are now. A record beside it has the digests of both. A program
-    that no record is of was built by `rt`, which writes none: it has to be newer than each source, and gets one."""
+    """Whether a program is built from what its sources are now. A record beside it has the digests of both; a program
+    beside the record of another is built anew. A program without a record was built by `rt`, which writes none: it has
+    to be newer than each source, and gets one."""
     if not program.exists():
         return False
-    record, sources = program.with_name(f"{program.name}.sources"), sources_of(crate)
+    record, sources = record_of(program), sources_of(crate)
     made, told = digest_of(program), digest_of(*sources)
-    recorded = record.read_text().split() if record.exists() else []
-    if recorded[:1] == [made]:
-        return recorded[1:] == [told]
+    if record.exists():
+        return record.read_text().split() == [made, told]
     is_newer = program.stat().st_mtime >= max(file.stat().st_mtime for file in sources)
     if is_newer:
         record.write_text(f"{made} {told}\n")

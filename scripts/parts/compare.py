@@ -10,7 +10,7 @@ from parts.groups import end_on_signals
 from parts.sources import CRATES, TEXTS, text_of
 
 # A function that returns how many things it compared, by the names of these things; how many these are at least; and
-# the differences that it has to see, each a context in which one is planted.
+# the differences that it has to see, each a context in which one is planted. How many these are is counted too.
 Comparison = collections.namedtuple("Comparison", "compare least plants")
 PLANTED = "planted differences"
 
@@ -53,7 +53,7 @@ def sees(compare, plant):
 def counted(comparison):
     """What a comparison counted, as text."""
     compare, least, plants = comparison
-    name, counts, least = compare.__name__, compare() | {PLANTED: len(plants)}, {PLANTED: 1} | least
+    name, counts = compare.__name__, compare() | {PLANTED: len(plants)}
     none_of([f"{name}: {counts.get(what, 0)} {what}, where there have to be at least {number}"
              for what, number in least.items() if counts.get(what, 0) < number]
             + [f"{name}: no least number of {what}" for what in counts if what not in least])
@@ -89,11 +89,13 @@ def try_run():
         none_of(["it differs"] * (number["is"] != 1))
         return {"numbers": 1}
 
-    right = Comparison(compare, {"numbers": 1}, [(mock.patch.dict, number, {"is": 2})])
+    right = Comparison(compare, {"numbers": 1, PLANTED: 1}, [(mock.patch.dict, number, {"is": 2})])
     wrong = {
         "a difference": right._replace(compare=lambda: none_of(["it differs"])),
-        "too few": right._replace(least={"numbers": 2}),
+        "too few": right._replace(least={"numbers": 2, PLANTED: 1}),
+        "too few planted differences": right._replace(least={"numbers": 1, PLANTED: 2}),
         "no least number": right._replace(least={}),
+        "no least number of planted differences": right._replace(least={"numbers": 1}),
         "a difference that is not seen": right._replace(plants=[*right.plants, (mock.patch.dict, number, {"is": 1})]),
         "no planted difference": right._replace(plants=[]),
     }

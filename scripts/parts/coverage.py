@@ -61,9 +61,11 @@ OF_KIND = {
                 "Receiver::is_closed": "Ticket::is_closed", "Receiver::try_recv": "Ticket::try_take",
                 "Receiver::recv": "Ticket::wait", "Receiver::recv_timeout": "Ticket::wait_for",
                 "Receiver::into_future": "Ticket::into_future", "Receiver::drop": "Ticket::drop"},
+    "watch": {"Sender::drop": "Guard::drop", "Receiver::into_future": "Watch::into_future",
+              "AsyncReceiver::poll": "AsyncWatch::poll", "Receiver::drop": "", "AsyncReceiver::drop": ""},
 }
 # What makes the ends, and what brings one of them on another channel.
-MADE_BY = {"promise": ["channel_for"], "request": ["request"]}
+MADE_BY = {"promise": ["channel_for"], "request": ["request"], "watch": ["watch"]}
 BROUGHT_BY = ["Sender::send", "Receiver::recv"]
 # How the script of a sender, or of a future, stands in a test. Each other script is a receiver's.
 OF_SENDER = re.compile(r'\b(?:Act|duel)\(\s*(?:&rt,\s*)?("[^"]*")|\bfor sends in \[([^]]*)\]')

@@ -62,8 +62,9 @@ WRONG = [RIGHT[:2] + (1, 0), RIGHT[:2] + (0, 1)] + [
 
 
 def sees_planted(wrong_of, pair):
-    """Whether the right result of a pair passes, and each planted difference of it is wrong."""
-    return not wrong_of(Result(pair, *RIGHT)) and all(wrong_of(Result(pair, *planted)) for planted in WRONG)
+    """Whether the right result of a pair passes, and each of ten planted differences of it is wrong."""
+    wrong = [planted for planted in WRONG if wrong_of(Result(pair, *planted))]
+    return not wrong_of(Result(pair, *RIGHT)) and wrong == WRONG and len(wrong) == 10
 
 
 def tell_first(found, told):

@@ -14,6 +14,11 @@ from parts.sources import CRATES, place, text_of
 SCRIPTS, GATE = CRATES.parent / "scripts", CRATES.parent / ".ci" / "run"
 # Scripts for users, and one that measures.
 TOOLS = {"add-to", "release", "benchmark"}
+# What the last line of a script without a comparison is, and what it tries before it begins.
+TRIES = {"schedules": [
+    "sees_planted(lambda result: not is_right([result], 1, 2), told)",
+    "if not wrong_of(explorer.explore(pair, told=told)):", "\nsys.exit(0 if main() else 1)\n",
+]}
 # What stands for `rt` and for each script: it notes its call, and ends as FAILS and KILLS have it.
 CALL = """#!/bin/sh
 call="${0##*/}${1:+ $1}"
@@ -118,5 +123,7 @@ def compare_gate():
     defined = [(file, name) for file, text in texts.items() for name in re.findall(r"(?m)^def (compare_\w+)", text)]
     none_of([f"{place(GATE)} calls no scripts/{name}"
              for name in sorted(there - TOOLS - {call.split()[0] for call in calls})]
-            + [f"{place(file)}: {name} is in no Comparison" for file, name in defined if name not in made])
+            + [f"{place(file)}: {name} is in no Comparison" for file, name in defined if name not in made]
+            + [f"scripts/{name} does not have: {text}" for name, needed in TRIES.items() for text in needed
+               if text not in texts[SCRIPTS / name]])
     return {"calls of scripts": len(calls), "comparisons": len(made)}

@@ -10,7 +10,6 @@ Pair = collections.namedtuple("Pair", "kind sender receiver settings")
 SENDERS = ["send", "drop", "closed send", "send inner into", "send drop", "raw send into", "", "closed closed drop"]
 TRIES = ["try drop", "try try drop", "try try try drop", "drop", "full closed try drop", "full try full closed drop",
          "raw try drop", "raw drop", ""]
-# Beside "drop", also what a guard's drop does beside a poll of its watch (oneshot_watch): a watch is such a future.
 POLLS = ["future drop", "future poll1 drop", "future poll1 poll1 drop", "future poll1 poll2 drop",
          "future poll1 poll2 poll1 drop", "future poll1 poll1 poll1 drop", "future try drop", "future poll1 try drop",
          "future poll1 try poll2 drop", "future poll1 full poll2 full drop", "future try poll1 poll2 try drop",
@@ -26,11 +25,13 @@ ASKED = ["try drop", "closed try drop", "drop", "recv", "try recv", "timeout dro
          "future poll1 drop", "future poll1 poll2 drop"]
 # Of two channels of one pair of threads. Each thread sends by the one script, and then receives by the other.
 BOTH = ["try drop", "drop", "full closed try drop", "raw try drop", "recv", "ref drop", "try recv"]
+# Of a guard and its watch (oneshot_watch).
+GUARDS, WATCHES = ["drop", ""], ["drop", "future drop", "future poll1 drop", "future poll1 poll1 drop"]
 SETTINGS = re.compile(r"(spurious|readings|failing-clock|refused|queues|sent|reduce|seconds)=\d+")
 # Two channels of one pair of threads. In the last two kinds the message of the first brings the sender, or the
 # receiver, of the second, which is then used by these scripts.
 OF_TWO = ["two", "sent-sender", "sent-receiver"]
-KINDS = ["", "promise", "request", "nested", *OF_TWO]
+KINDS = ["", "promise", "request", "nested", "watch", *OF_TWO]
 
 
 def pairs_of(kind, receivers, settings="", senders=SENDERS):
@@ -47,6 +48,7 @@ SHORT = (pairs_of("", TRIES) + pairs_of("", POLLS[:4])
          + pairs_of("nested", ["try drop", "drop"], senders=["send", "send into", "drop"])
          + pairs_of("", ["future poll1 try drop", "future poll1 try poll2 drop", "future full poll1 closed poll2 drop",
                          "future poll1 full poll2 full drop"], senders=["drop"])
+         + pairs_of("watch", WATCHES, senders=["drop"])
          + pairs_of("", POLLS[1:4], "refused=1", ["send"])
          + pairs_of("two", BOTH[:3], senders=["send", "drop"]) + pairs_of("two", ["recv"], "spurious=0", ["send", ""])
          + pairs_of("", ["future poll1 poll1"], "queues=1", ["send"])
@@ -68,6 +70,7 @@ ALL = (pairs_of("", TRIES) + pairs_of("", POLLS) + pairs_of("", WAITS) + pairs_o
        + pairs_of("sent-receiver", ["try drop"], "spurious=0", ["send"])
        + pairs_of("promise", TRIES[:4] + POLLS[1:4] + ["recv", "timeout drop"], "readings=3", SENDERS[:5])
        + pairs_of("nested", TRIES[:4] + POLLS[1:3] + ["recv"], senders=["send", "send into", "send drop", "drop"])
+       + pairs_of("watch", WATCHES, senders=GUARDS)
        + pairs_of("request", ASKED, "readings=3", ["send", "closed send", "send into", "drop", ""])
        + pairs_of("request", ["timeout recv"], "readings=3", ["send", "closed send", "send into", ""]))
 # Every interleaving of short scripts, not one run of each order.
@@ -80,9 +83,10 @@ def words_in(scripts):
 
 def lacking(pair):
     """What the program or the scheduler lacks of a pair; nothing if it has all."""
-    receivers = {"request": ASKED, **{kind: BOTH for kind in OF_TWO}}.get(
+    receivers = {"request": ASKED, "watch": WATCHES, **{kind: BOTH for kind in OF_TWO}}.get(
         pair.kind, TRIES + POLLS + WAITS + TIMED + TWICE)
-    for script, scripts in ((pair.sender, SENDERS), (pair.receiver, receivers)):
+    senders = GUARDS if pair.kind == "watch" else SENDERS
+    for script, scripts in ((pair.sender, senders), (pair.receiver, receivers)):
         for word in script.split():
             if word not in words_in(scripts):
                 return f"unknown word{', with ' + pair.kind if pair.kind else ''}: {word}"

@@ -65,6 +65,7 @@ fn kind_of(text: &str) -> Option<Kind> {
         "promise" => Kind::Promise,
         "request" => Kind::Request,
         "nested" => Kind::Nested,
+        "watch" => Kind::Watch,
         "two" => Kind::TwoChannels,
         "sent-sender" => Kind::SentSender,
         "sent-receiver" => Kind::SentReceiver,

@@ -12,6 +12,7 @@ mod run;
 mod sends;
 mod told;
 mod two;
+mod watched;
 
 use asked::Asked;
 use run::run;

@@ -7,6 +7,7 @@ use crate::receives::{receive_all, tasks_of};
 use crate::sends::send_all;
 use crate::told::{DONE, OPENED, OPENING, READY, RECORD, RELEASE, tell};
 use crate::two::run_two;
+use crate::watched::run_watch;
 use oneshot_calls::{ReceiverCall, SenderCall};
 use oneshot_channel::reply::request;
 use oneshot_channel::{channel, channel_for};
@@ -26,6 +27,8 @@ pub enum Kind {
     Request,
     /// A channel whose message has the sender of another channel.
     Nested,
+    /// A guard with its watch.
+    Watch,
     /// Two channels, of each of which each thread has an end.
     TwoChannels,
     /// Two channels: the message of the first brings the sender of the second.
@@ -60,6 +63,10 @@ pub fn run<R: Threads + Wait + Clock + RandomSource + AllocGlobal + Sync>(
         Kind::Promise => run_promised(rt, scripts, Parcel::new(content, None))?,
         Kind::Request => run_request(rt, scripts, Parcel::new(content, None))?,
         Kind::Nested => run_nested(rt, scripts, content)?,
+        Kind::Watch => {
+            drop(content);
+            run_watch(rt, &scripts)?;
+        }
         Kind::TwoChannels => run_two(rt, &scripts, content)?,
         Kind::SentSender => run_sent_sender(rt, &scripts, content)?,
         Kind::SentReceiver => run_sent_receiver(rt, &scripts, content)?,

@@ -60,10 +60,11 @@ fn code_of(reply: Bare) -> Option<u64> {
 
 /// Reports of each task whether it is woken.
 pub fn tell_woken<R: Clock>(rt: &R, tasks: &Tasks) {
-    tell(rt, woken_code(TASKS, tasks.is_woken(Task::One)));
-    tell(rt, woken_code(TASKS + 2, tasks.is_woken(Task::Two)));
+    tell_task(rt, TASKS, tasks.is_woken(Task::One));
+    tell_task(rt, TASKS + 2, tasks.is_woken(Task::Two));
 }
 
-fn woken_code(task: u64, is_woken: bool) -> u64 {
-    if is_woken { task.wrapping_add(1) } else { task }
+/// Reports whether a task is woken, by the code of one that is not, or the next.
+pub fn tell_task<R: Clock>(rt: &R, task: u64, is_woken: bool) {
+    tell(rt, if is_woken { task.wrapping_add(1) } else { task });
 }
