@@ -99,7 +99,7 @@ class Explorer:
         """The programs have the processor of this thread."""
         reads, writes = os.pipe()
         os.write(writes, scripts_of(told).encode())
-        environment = {"LD_PRELOAD": self.scheduler, "SCHEDULES": f"{pair.settings} {settings}"}
+        environment = {"LD_PRELOAD": self.scheduler, "SCHEDULES": f"{settings} {pair.settings}"}
         explorer = start([self.program, *arguments_of(pair)], env=environment, stdin=subprocess.DEVNULL,
                          stdout=writes, stderr=errors)
         os.close(writes)

@@ -17,7 +17,7 @@ TOOLS = {"add-to", "release", "benchmark"}
 # What the last line of a script without a comparison is, and what it tries before it begins.
 TRIES = {"schedules": [
     "sees_planted(lambda result: not is_right([result], 1, 2), told)",
-    "if not wrong_of(explorer.explore(pair, told=told)):", "\nsys.exit(0 if main() else 1)\n",
+    "if not result.is_told or result.differ == 0:", "\nsys.exit(0 if main() else 1)\n",
 ]}
 # What stands for `rt` and for each script: it notes its call, and ends as FAILS and KILLS have it.
 CALL = """#!/bin/sh

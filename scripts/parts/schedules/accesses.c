@@ -113,6 +113,13 @@ static void stop_at_freed(int block, uintptr_t address) {
     }
 }
 
+// A shared word has loads and changes of one step alone: an access of two could lose what the other end writes.
+static void refuse_unlocked(int block, uintptr_t address, char kind, int size) {
+    if (strchr("lxeadou", kind) == NULL || size > (int)sizeof(uint64_t)) {
+        fault("race:%c+%zu:%c%c", blocks[block].label, (size_t)(address - blocks[block].address), "SR"[self], kind);
+    }
+}
+
 // Waits for the turn where the access is a choice of the scheduler, and orders it.
 static void schedule_access(int block, uintptr_t address, char kind, int size, int writes) {
     const struct shared_word *word = word_at(address);
@@ -122,6 +129,9 @@ static void schedule_access(int block, uintptr_t address, char kind, int size, i
         reach(self, place_at(address), word == NULL || writes);
         stop_at_freed(block, address);
     }
+    if (word != NULL) {
+        refuse_unlocked(block, address, kind, size);
+    }
     int is_atomic = word != NULL || (is_task && is_locked);
     // A load of what was written with a lock is an atomic one.
     if (is_task && !is_locked) {
@@ -130,7 +140,15 @@ static void schedule_access(int block, uintptr_t address, char kind, int size, i
     // Only a free conflicts with an atomic access.
     order_plain(self, block, offset, size, !is_atomic && writes);
     if (is_atomic) {
-        order_atomic(self, block, offset, writes);
+        // A compare and exchange that fails writes nothing: one that does not is ordered once it is made.
+        order_atomic(self, block, offset, writes && kind != 'e');
+    }
+}
+
+static void order_exchanged(uint64_t after) {
+    int is_atomic = step.word != NULL || blocks[step.block].label == OF_TASKS;
+    if (is_end() && is_atomic && step.kind == 'e' && after != step.before) {
+        order_atomic(self, step.block, step.address - blocks[step.block].address, 1);
     }
 }
 
@@ -207,6 +225,7 @@ static void on_step(int signal, siginfo_t *info, void *given) {
     context->uc_mcontext.gregs[REG_EFL] &= ~(greg_t)TRAP_FLAG;
     uint64_t after = *(uint64_t *)(step.address & ~(uintptr_t)7);
     tell_access(after);
+    order_exchanged(after);
     // One that waits for a lock of a queue goes on once the other end has gone.
     int is_of_task = is_end() && blocks[step.block].label == OF_TASKS;
     if (settings.queues && is_of_task && step.kind == 'e' && after == step.before) {

@@ -71,6 +71,8 @@ static long call_futex(uintptr_t address, long operation, uint32_t value, const 
         fault("freed:%c:%c-futex", blocks[block].label, "SR"[self]);
         end_run();
     }
+    // The kernel reads the word of a sleep. A wake reads nothing, and still has to come before the free.
+    order_plain(self, block, address - blocks[block].address, sizeof(uint32_t), 0);
     if (what == FUTEX_WAKE) {
         return wake_at(self, address);
     }

@@ -76,6 +76,9 @@ void fault(const char *format, ...) {
 }
 
 void end_run(void) {
+    if (record->count < record->forced && strstr(record->text, " !") == NULL) {
+        fault("tool:fewer-choices-than-the-schedule");
+    }
     record->ended = 1;
     raw_call(SYS_exit_group, 0, 0, 0, 0, 0, 0);
     abort();
@@ -124,7 +127,8 @@ static void print_run(int status) {
 }
 
 static void count_run(int status) {
-    if (record->pruned) {
+    // What the scheduler has found before it left the run is told.
+    if (record->pruned && strstr(record->text, " !") == NULL) {
         found.pruned++;
         return;
     }
@@ -202,7 +206,7 @@ int explore(void) {
             break;
         }
         count_run(status);
-        more = next_choices();
+        more = settings.runs != 1 && next_choices();
     }
     fprintf(stderr, "runs %ld pruned %ld points %ld longest %ld died %ld complete %d\n", found.runs, found.pruned,
             found.points, found.longest, found.died, !more && found.died == 0);
@@ -292,6 +296,8 @@ __attribute__((constructor)) static void begin(void) {
     }
     find_program();
     signal(SIGINT, on_interrupt);
+    // If nobody reads the runs, the write fails, and the program says so.
+    signal(SIGPIPE, SIG_IGN);
     begin_accesses();
     begin_calls();
     begin_blocks();
