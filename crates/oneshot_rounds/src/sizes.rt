@@ -4,7 +4,8 @@ use super::answers::assert_answers;
 use super::channels::channels;
 use super::races::race;
 use super::receives::{BLOCKING, TRYING};
-use oneshot_calls::{ReceiverCall, Receiving, Tasks, script};
+use super::waits::now;
+use oneshot_calls::{ReceiverCall, Receiving, Tasks, limit, script};
 use oneshot_channel::{Receiver, Sender};
 use std::process::{Abort, Termination};
 use std::random::RandomSource;
@@ -15,18 +16,36 @@ use std::time::Clock;
 
 const ROUNDS: u64 = 100;
 
+/// What stands for `recv_deadline` with the limit of a receive, which no word of a script names.
+const IN_TIME: &str = "recv_deadline";
+
 // A function: in a closure this takes a minute longer to prove.
 fn is_sent<T: Send + Drop>(sender: Sender<T>, message: T) -> bool {
     sender.send(message).is_ok()
 }
 
-fn is_received<R: Wait + Clock + RandomSource + AllocGlobal, T: Copy + PartialEq + Send>(
+fn is_received_in_time<R: Wait + Clock + Abort, T: Copy + PartialEq + Send>(
+    rt: &R,
+    mut receiver: Receiver<T, &R>,
+    message: T,
+) -> bool {
+    let Some(deadline) = now(rt).checked_add(limit()) else {
+        return false;
+    };
+    receiver.recv_deadline(deadline) == Ok(message)
+}
+
+// By these calls; with none, by `recv_deadline`.
+fn is_received<R: Wait + Clock + RandomSource + AllocGlobal + Abort, T: Copy + PartialEq + Send>(
     rt: &R,
     tasks: &Tasks,
     calls: &[ReceiverCall],
     receiver: Receiver<T, &R>,
     message: T,
 ) -> bool {
+    if calls.is_empty() {
+        return is_received_in_time(rt, receiver, message);
+    }
     let reply = Receiving::new(receiver).make_all(rt, Some(tasks), calls);
     reply.message() == Some(message)
 }
@@ -36,7 +55,8 @@ fn assert_comes<
     R: Threads + Wait + Abort + Clock + AllocGlobal + RandomSource + Sync,
     T: Copy + PartialEq + Send + Sync,
 >(rt: &R, receives: &str, message: T, wanted: T) -> Result<(), Fail> {
-    let calls = script::<ReceiverCall>(rt.alloc(), receives)?;
+    let words = if receives == IN_TIME { "" } else { receives };
+    let calls = script::<ReceiverCall>(rt.alloc(), words)?;
     let tasks = Tasks::new(rt)?;
     let (senders, receivers) = channels(rt, ROUNDS)?;
     let (sends, receipts) = race(
@@ -60,7 +80,7 @@ fn assert_comes_by_every_receive<
     for receives in BLOCKING.iter().chain(&TRYING) {
         assert_comes(rt, receives, message, message)?;
     }
-    assert_comes(rt, "fardeadline", message, message)
+    assert_comes(rt, IN_TIME, message, message)
 }
 
 #[test]
