@@ -5,7 +5,7 @@ use oneshot_calls::{
 };
 use oneshot_channel::{Receiver, Sender, channel};
 use std::alloc::AllocGlobal;
-use std::process::{Abort, Termination};
+use std::process::Abort;
 use std::random::RandomSource;
 use std::sync::atomic::{AtomicU64, Ordering};
 use std::sync::{Arc, Wait};
@@ -267,20 +267,6 @@ fn a_receive_that_does_not_wait_ends_a_test(rt: HostRuntime) {
 #[should_panic(expected = "sends: [Send], receives: [Recv] }: Err, waited: true")]
 fn a_message_that_is_not_sent_ends_a_test(rt: HostRuntime) {
     assert_without_message(&rt, SenderCall::Send, true, Bare::Refused, Bare::Ended);
-}
-
-#[test]
-#[should_panic(expected = "sends: [Drop], receives: [] }: ")]
-fn a_receiver_without_a_call_ends_a_test(rt: HostRuntime) {
-    let calls = Calls {
-        sends: &[SenderCall::Drop],
-        receives: &[],
-    };
-    let pace = Pace {
-        here: AtomicU64::new(0),
-        before: Before::Load(0),
-    };
-    let _ = assert_receives(&rt, calls, &pace).report(&rt);
 }
 
 /// Fails unless each receive of `WAITS` waits for the act of these calls.
