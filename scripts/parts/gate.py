@@ -14,7 +14,7 @@ from parts.sources import CRATES, place, text_of
 SCRIPTS, GATE = CRATES.parent / "scripts", CRATES.parent / ".ci" / "run"
 # Scripts for users, and one that measures.
 TOOLS = {"add-to", "release", "benchmark"}
-# What the last line of a script without a comparison is, and what it tries before it begins.
+# What a script without a comparison must have: its last line, and what it tries before it begins.
 TRIES = {"schedules": [
     "sees_planted(lambda result: not is_right([result], 1, 2), told)",
     "if not result.is_told or result.differ == 0:", "\nsys.exit(0 if main() else 1)\n",
