@@ -126,6 +126,7 @@ fn ask_of(word: &str) -> Option<Ask> {
         "ref" => Ask::Ref,
         "deadline" => Ask::Deadline(short()),
         "zerodeadline" => Ask::Deadline(Duration::ZERO),
+        "longdeadline" => Ask::Deadline(limit()),
         "fardeadline" => Ask::Deadline(far()),
         "pastdeadline" => Ask::PastDeadline,
         "timeout" => Ask::Timeout(short()),

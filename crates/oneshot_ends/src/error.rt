@@ -17,13 +17,15 @@ use std::fmt;
 use std::fmt::{Debug, Display, Formatter};
 use std::marker::Model;
 
-/// The error of a `send` that was refused, since the receiver was gone.
+/// The error of a `send` that was refused. The receiver was gone, or was a future that was dropped while `send` was
+/// about to wake its task.
 ///
 /// It owns the message, and the sender's share of the channel's memory. Dropping it drops both; `into_inner` returns
 /// the message and drops the share. None of its calls waits or allocates, and the drop blocks only if that of the
 /// message does.
 ///
-/// It may go to another thread where `T` is `Send`.
+/// It may go to another thread where `T` is `Send`. Several threads may share a `&` to it where `T` is also `Sync`.
+/// Its text is "sending on a closed channel", and does not depend on the message.
 ///
 /// A contract sees the message, the channel, and the sender's log of operations on the word.
 pub struct SendError<T, P: Promise<T> = ()> {

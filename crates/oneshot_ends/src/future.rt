@@ -27,7 +27,8 @@ use oneshot_word::Promise;
 use std::cell::Cell;
 use std::marker::{Model, PhantomData};
 
-/// A future that receives one message from its sender. Its output is `Ok` with the message, or `Err` if the
+/// A future that receives one message from its sender. `Receiver::into_future`, `async_channel` and
+/// `async_channel_for` make it. Its output is `Ok` with the message, or `Err` if the
 /// sender was dropped without a message or the message was received before.
 ///
 /// Dropping it also drops its `rt`, and a message that was sent and not received. A later `send` is
@@ -97,12 +98,16 @@ impl<T, Rt, P: Promise<T>> AsyncReceiver<T, Rt, P> {
 
     /// Whether the sender is gone without a message, or the message was received; if so, every later poll and
     /// `try_recv` returns an error. It performs one load and never blocks.
+    ///
+    /// `true` stays true. `false` may be out of date at once, since the sender may be dropped.
     pub fn is_closed(&self) -> bool {
         self.ground.is_closed()
     }
 
     /// Whether the message is there; if so, the next poll or `try_recv` returns it. It performs one load and never
     /// blocks.
+    ///
+    /// `true` stays true until a receive. `false` may be out of date at once, since the sender may send.
     pub fn has_message(&self) -> bool {
         self.ground.has_message()
     }
@@ -148,6 +153,8 @@ impl<T: Drop, Rt: Drop, P: Promise<T>> Future for AsyncReceiver<T, Rt, P> {
 
     /// Polls once, for the task of `cx`. It never blocks and does not allocate: no poll waits for the sender. If it
     /// makes a new copy of a waker, it may drop one of another task that the future kept, which wakes that task.
+    ///
+    /// The sender wakes at most one task: that of the last poll which left its waker in the channel.
     ///
     /// - `Ready(Ok)`: the message.
     /// - `Ready(Err)`: the sender was dropped without a message, or the message was received before. A

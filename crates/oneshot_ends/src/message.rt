@@ -12,7 +12,7 @@ use crate::ground::{ChannelReceiver, SenderBackend};
 use oneshot_word::Promise;
 
 /// What a channel carries: any value that may be dropped. A function that knows no more of its messages than this can
-/// neither drop nor forget one, or an end.
+/// neither drop nor forget one, or an end. Every type that is `Drop` has it already: write no `impl`.
 pub trait Message: Sized {
     /// Releases a sender after a `send` to a receiver that was there.
     fn sent<P: Promise<Self>>(ground: SenderBackend<Self, P>)

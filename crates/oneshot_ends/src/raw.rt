@@ -7,7 +7,8 @@ use crate::sender::Sender;
 use oneshot_word::Promise;
 use std::marker::Model;
 
-/// An opaque sender, which `Sender::from_raw` turns back. The Rust crate has a pointer here.
+/// An opaque sender, which `Sender::into_raw` makes and `Sender::from_raw` turns back. The Rust crate has a pointer
+/// here.
 ///
 /// Dropping it drops the sender: it wakes a waiting receiver, and no message comes. The drop never blocks. To wake a
 /// task, it takes the lock of the queue of that task's executor, as `send` does.
@@ -63,7 +64,8 @@ impl<T: Drop, P: Promise<T>> Drop for RawSender<T, P> {
     }
 }
 
-/// An opaque receiver, which `Receiver::from_raw` turns back. The Rust crate has a pointer here.
+/// An opaque receiver, which `Receiver::into_raw` makes and `Receiver::from_raw` turns back. The Rust crate has a
+/// pointer here.
 ///
 /// Dropping it drops the receiver with its `rt`, and a message that was sent and not received. A later
 /// `send` is refused: its error owns the message. The drop does not wait for the sender: it blocks only if the

@@ -29,7 +29,7 @@ use std::marker::Model;
 use std::sync::Wait;
 use std::time::{Clock, Duration, Instant};
 
-/// Receives one message from its sender.
+/// Receives one message from its sender. `channel` and `channel_for` make it.
 ///
 /// Dropping it also drops its `rt`, and a message that was sent and not received. A later `send` is
 /// refused: its error owns the message. The drop does not wait for the sender: it blocks only if the drop of the
@@ -96,12 +96,16 @@ impl<T, Rt, P: Promise<T>> Receiver<T, Rt, P> {
 
     /// Whether the sender is gone without a message, or the message was received; if so, every later
     /// receive returns an error. It performs one load and never blocks.
+    ///
+    /// `true` stays true. `false` may be out of date at once, since the sender may be dropped.
     pub fn is_closed(&self) -> bool {
         self.ground.is_closed()
     }
 
     /// Whether the message is there; if so, the next receive returns it. It performs one load and never
     /// blocks.
+    ///
+    /// `true` stays true until a receive. `false` may be out of date at once, since the sender may send.
     pub fn has_message(&self) -> bool {
         self.ground.has_message()
     }
@@ -131,6 +135,8 @@ impl<T: Drop, Rt: Drop, P: Promise<T>> Receiver<T, Rt, P> {
 
     /// Turns the receiver into a future, which a task can poll. It performs no operation on the word, never
     /// blocks and does not allocate. The receiver's parker is dropped.
+    ///
+    /// The future keeps `rt`, and drops it when it is dropped. No call turns a future back into a receiver.
     pub fn into_future(self) -> AsyncReceiver<T, Rt, P>
         ensures channel { result.channel ≡ self.channel }
         ensures log { result.log ≡ self.log }
@@ -151,8 +157,8 @@ impl<T: Drop, Rt: Drop, P: Promise<T>> Receiver<T, Rt, P> {
 impl<T: Drop, Rt: Wait + Clock + Drop, P: Promise<T>> Receiver<T, Rt, P> {
     /// Blocks until the message is there or will never come. It does not allocate.
     ///
-    /// It blocks forever if the sender is neither used nor dropped, for example because this thread
-    /// still holds it.
+    /// It spins some microseconds before it sleeps. It blocks forever if the sender is neither used nor dropped, for
+    /// example because this thread still holds it.
     ///
     /// - `Ok`: the message.
     /// - `Err`: the sender is gone without a message, or the message was received before.
@@ -183,7 +189,10 @@ impl<T: Drop, Rt: Wait + Clock + Drop, P: Promise<T>> Receiver<T, Rt, P> {
     ///
     /// A clock that reads `deadline` itself is not past it. A clock that fails counts as past every
     /// deadline: a rule of this port. Past the deadline the call still waits for a sender that has found
-    /// this receiver waiting and is in its `send` or its drop, as in the Rust crate.
+    /// this receiver waiting and is in its `send` or its drop, as in the Rust crate. Past the deadline it sleeps
+    /// only for such a sender.
+    ///
+    /// It spins before it sleeps, as `recv_ref` does, but only while at least 100 ms are left.
     pub fn recv_deadline(&mut self, deadline: Instant) -> Result<T, RecvTimeoutError>
         ensures channel { self.new.channel ≡ self.old.channel }
         ensures run { ReceiverGrew T RecvDeadline self.old.log self.new.log (timed_reply result) }
@@ -243,8 +252,8 @@ impl<T: Message, Rt: Wait + Clock + Drop, P: Promise<T>> Receiver<T, Rt, P> {
     /// - `Ok`: the message.
     /// - `Err`: the sender is gone without a message, or the message was received before.
     ///
-    /// It blocks forever if the sender is neither used nor dropped, for example because this thread
-    /// still holds it.
+    /// It spins some microseconds before it sleeps. It blocks forever if the sender is neither used nor dropped, for
+    /// example because this thread still holds it.
     pub fn recv(self) -> Result<T, RecvError>
         ensures stays_closed { IsClosed self.log → IsErr result }
         ensures promise { IfOk result (λ message. P.keeps self.channel.about message) }

@@ -17,7 +17,7 @@ use oneshot_drive::{drop_sender, send};
 use oneshot_word::{Promise, SenderSide};
 use std::marker::Model;
 
-/// Sends one message to its receiver.
+/// Sends one message to its receiver. `channel`, `channel_for`, `async_channel` and `async_channel_for` make it.
 ///
 /// Dropping it without a `send` wakes a waiting receiver, and no message comes. The drop never blocks. To wake a task,
 /// it takes the lock of the queue of that task's executor, as `send` does.
@@ -56,6 +56,8 @@ impl<T, P: Promise<T>> Sender<T, P> {
     }
 
     /// Whether the receiver is gone; if so, a `send` is refused. It performs one load and never blocks.
+    ///
+    /// `true` stays true. `false` may be out of date at once, since the receiver may be dropped.
     pub fn is_closed(&self) -> bool {
         self.side.is_closed()
     }
@@ -65,7 +67,8 @@ impl<T: Message> Sender<T> {
     /// Sends `message`, and wakes a waiting receiver. It never blocks and does not allocate.
     /// Waking a task takes the lock of its executor's queue (docs/TRUST.md of Hekotumi).
     ///
-    /// - `Ok`: the receiver was there. It may still be dropped before it receives the message.
+    /// - `Ok`: the receiver was there. If the receiver is dropped before it receives the message, its drop drops the
+    ///   message.
     /// - `Err`: the receiver was gone, or was a future that was dropped while `send` was about to wake its
     ///   task. The error owns the message.
     pub fn send(self, message: T) -> Result<(), SendError<T>>

@@ -63,7 +63,7 @@ impl<Q: Eq, A: Answer<Q> + Drop, Rt: Drop> Ticket<Q, A, Rt> {
     /// - `Err(Empty)`: when the call checked, no reply had come, and the request was not dropped. The ticket stays
     ///   open.
     /// - `Err(Disconnected)`: the request was dropped unanswered, or the reply was taken before. Every later
-    ///   call returns the same.
+    ///   receive fails in the same way.
     pub fn try_take(&mut self) -> Result<A, TryRecvError>
         ensures own { IfOk result (λ reply. Q.eq (A.asked reply) self.old.channel.about.question ≡ true) }
         ensures right { IfOk result (λ reply. A.answers (A.asked reply) reply) }
@@ -117,7 +117,7 @@ impl<Q: Eq, A: Answer<Q> + Drop, Rt: Wait + Clock + Drop> Ticket<Q, A, Rt> {
     /// - `Err(Timeout)`: the deadline is over. When the call last checked, no reply had come, and the request was not
     ///   dropped. The ticket stays open.
     /// - `Err(Disconnected)`: the request was dropped unanswered, or the reply was taken before. Every later
-    ///   call returns the same.
+    ///   receive fails in the same way.
     ///
     /// If no instant can hold the sum of now and `timeout`, the call never returns `Timeout`. If the clock
     /// fails, the deadline is over at once.

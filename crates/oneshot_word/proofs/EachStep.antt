@@ -61,9 +61,9 @@ module _ {T H K P : Type 0} (keeps : P → T → Type 0) (q : P) where
 
   module _ (me : Me (Slot T H K) (View T H K P)) (op : Op) where
     -- what `Allows` requires of a state that was found
-    abbrev Goes : (ℕ → Me (Slot T H K) (View T H K P) → Type 0) → List ℕ → List (Home T H K) → List (View T H K P) → ℕ →
-        Type 0
-    Goes then ws hs vs id =
+    abbrev Leads : (ℕ → Me (Slot T H K) (View T H K P) → Type 0) → List ℕ → List (Home T H K) → List (View T H K P) → ℕ
+        → Type 0
+    Leads then ws hs vs id =
         (v : View T H K P) × (a : Act (Slot T H K)) × Valid hs me.1 a
         × Tied keeps q (set ws 0 (stepped op (get_or ws 0 0))) (homes_after hs me.1 a) (set vs id v)
         × then (get_or ws 0 0) (v, carried_after me.1 a)
@@ -74,7 +74,7 @@ module _ {T H K P : Type 0} (keeps : P → T → Type 0) (q : P) where
 
     sender_goes : {ws : List ℕ} {hs : List (Home T H K)} {vs : List (View T H K P)} {id : ℕ} → me.0.about ≡ q
         → SenderSeat keeps me → SenderAsks me op → Sits keeps q ws hs vs id Sender me.0.log me.0.passed me.0.handed
-        → Goes (SenderStepped keeps me op) ws hs vs id
+        → Leads (SenderStepped keeps me op) ws hs vs id
     sender_goes same seat asks (sender_sits {w = found} {h} {k} ys taken put order there there' one claimed) =
         let m : Held T = message_in me.1 in
         let w : Held (AnyWaker H K) = waker_in me.1 in
@@ -127,7 +127,7 @@ module _ {T H K P : Type 0} (keeps : P → T → Type 0) (q : P) where
     receiver_goes : {ws : List ℕ} {hs : List (Home T H K)} {vs : List (View T H K P)} {id : ℕ} → me.0.about ≡ q
         → ReceiverSeat keeps me → ReceiverAsks me op → Sits keeps q ws hs vs id Receiver me.0.log me.0.passed
         me.0.handed
-        → Goes (ReceiverStepped keeps me op) ws hs vs id
+        → Leads (ReceiverStepped keeps me op) ws hs vs id
     receiver_goes same seat asks (receiver_sits {w = found} {h} {k} xs given woke order there there' one claimed) =
         let m : Held T = message_in me.1 in
         let w : Held (AnyWaker H K) = waker_in me.1 in
