@@ -1,6 +1,6 @@
 //! Tests of what the program writes for an input, or of the fault that it reports.
 
-mod damaged;
+pub(crate) mod damaged;
 mod faults;
 mod long;
 mod overdue;
@@ -14,7 +14,7 @@ use std::process::Abort;
 
 /// Returns the output for `input`, or the status and the one line of the fault. Fails if the program writes
 /// both.
-fn output_of(rt: &(impl Abort + AllocGlobal), input: &[u8]) -> String {
+pub(crate) fn output_of(rt: &(impl Abort + AllocGlobal), input: &[u8]) -> String {
     let mut input = input;
     let mut written = Vec::new(rt.alloc());
     let mut errors = Vec::new(rt.alloc());

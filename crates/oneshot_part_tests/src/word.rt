@@ -99,7 +99,7 @@ fn a_receiver_that_stops_over_the_message_gets_it(rt: HostRuntime) -> Result<(),
 }
 
 #[test]
-fn a_receiver_that_stops_over_an_end_closes(rt: HostRuntime) -> Result<(), Fail> {
+fn a_receiver_that_stops_after_the_senders_drop_closes(rt: HostRuntime) -> Result<(), Fail> {
     let (mut sender, mut receiver) = open::<u8, u8, u8, ()>(rt.alloc(), &())?;
     load_empty(&rt, &mut receiver);
     store_waker(&rt, &mut receiver, AnyWaker::Thread(5));

@@ -15,7 +15,7 @@ use std::test::Fail;
 
 /// Asserts that the program's output for `input` agrees with the second reading: the trace of the run that
 /// it asks for, or its first fault.
-fn assert_as_read(rt: &(impl Abort + AllocGlobal), input: &[u8]) -> Result<Kind, Fail> {
+pub(crate) fn assert_as_read(rt: &(impl Abort + AllocGlobal), input: &[u8]) -> Result<Kind, Fail> {
     assert_output(rt, input, &output_of(rt, input))
 }
 
@@ -27,7 +27,7 @@ fn assert_output(
 ) -> Result<Kind, Fail> {
     match read(rt.alloc(), input)? {
         Ok(asked) => {
-            assert_trace(rt, asked, output)?;
+            assert_trace(rt, input, asked, output)?;
             Ok(Kind::Trace)
         }
         Err(flaw) => {
@@ -41,52 +41,53 @@ fn assert_output(
 /// Asserts an entry for each move, then the message's place, then whether the block is freed, and no more.
 fn assert_trace(
     rt: &(impl Abort + AllocGlobal),
+    input: &[u8],
     asked: Asked<'_>,
     output: &str,
 ) -> Result<(), Fail> {
     let mut lines = output.split_terminator('\n');
     for (index, letter) in asked.letters.chars().enumerate() {
         let entry = lines.next().expect(rt, "an entry a move");
-        assert_entry(rt, entry, index.saturating_add(1), letter)?;
+        assert_entry(rt, input, entry, index.saturating_add(1), letter)?;
     }
-    assert_rest(rt, lines.next().expect(rt, "a rest"), asked.message)?;
-    assert_block(rt, lines.next().expect(rt, "a block"));
-    assert_eq!(rt; lines.next(), None);
+    assert_rest(rt, input, lines.next().expect(rt, "a rest"), asked.message)?;
+    let block = lines.next().expect(rt, "a block");
+    let is_block = block == "block here" || block == "block freed";
+    let ended = (is_block, lines.next());
+    assert_eq!(rt; ended, (true, None), "{block}: {}", input.escape_ascii());
     Ok(())
 }
 
 /// Asserts an entry's number, and that the entry is of the end that `letter` moves.
 fn assert_entry(
     rt: &(impl Abort + AllocGlobal),
+    input: &[u8],
     entry: &str,
     number: usize,
     letter: char,
 ) -> Result<(), Fail> {
     let end = if letter == 's' { "S" } else { "R" };
     let begin = format!(in rt.alloc(); "{number} {end} ")?;
-    assert!(rt; entry.starts_with(begin.as_str()), "{entry}, not {begin}");
+    let begins = entry.starts_with(begin.as_str());
+    assert!(rt; begins, "{entry}, not {begin}: {}", input.escape_ascii());
     Ok(())
 }
 
 /// Asserts that the line `rest` shows this message, if there is one.
 fn assert_rest(
     rt: &(impl Abort + AllocGlobal),
+    input: &[u8],
     rest: &str,
     message: Option<&str>,
 ) -> Result<(), Fail> {
     let Some(message) = message else {
-        assert_eq!(rt; rest, "rest none");
+        assert_eq!(rt; rest, "rest none", "{}", input.escape_ascii());
         return Ok(());
     };
     let end = format!(in rt.alloc(); "({message})")?;
     let whole = rest.starts_with("rest ") && rest.ends_with(end.as_str());
-    assert!(rt; whole, "{rest}, not of {message}");
+    assert!(rt; whole, "{rest}, not of {message}: {}", input.escape_ascii());
     Ok(())
-}
-
-/// Asserts that the line `block` shows whether the block is freed.
-fn assert_block(rt: &impl Abort, block: &str) {
-    assert!(rt; block == "block here" || block == "block freed", "{block}");
 }
 
 #[test]
@@ -99,23 +100,23 @@ fn a_fault_that_is_read_otherwise_ends_a_test(rt: HostRuntime) {
 #[test]
 #[should_panic(expected = "1 R load:3, not 1 S ")]
 fn an_entry_of_the_other_end_ends_a_test(rt: HostRuntime) {
-    let _ = assert_entry(&rt, "1 R load:3", 1, 's').report(&rt);
+    let _ = assert_entry(&rt, b"S", "1 R load:3", 1, 's').report(&rt);
 }
 
 #[test]
 #[should_panic(expected = "2 S add:3, not 1 S ")]
 fn an_entry_of_another_number_ends_a_test(rt: HostRuntime) {
-    let _ = assert_entry(&rt, "2 S add:3", 1, 's').report(&rt);
+    let _ = assert_entry(&rt, b"S", "2 S add:3", 1, 's').report(&rt);
 }
 
 #[test]
 #[should_panic(expected = "rest Cell(8), not of 7")]
 fn another_message_ends_a_test(rt: HostRuntime) {
-    let _ = assert_rest(&rt, "rest Cell(8)", Some("7")).report(&rt);
+    let _ = assert_rest(&rt, b"S", "rest Cell(8)", Some("7")).report(&rt);
 }
 
 #[test]
 #[should_panic(expected = "right: \"rest none\"")]
 fn a_message_that_was_not_sent_ends_a_test(rt: HostRuntime) {
-    let _ = assert_rest(&rt, "rest Cell(8)", None).report(&rt);
+    let _ = assert_rest(&rt, b"S", "rest Cell(8)", None).report(&rt);
 }

@@ -1,44 +1,7 @@
-//! Tests of the faults of an input, with their status: those of the whole input are reported before those of
-//! its lines.
+//! Tests of the faults of a whole input, with their status. The program reports them before the faults of a line.
 
 use crate::answers::output_of;
 use std::test::Fail;
-
-/// Inputs with a fault of a line, each with what the program reports. Other faults of a line are among the
-/// damaged inputs.
-const OF_A_LINE: &[(&str, &str); 14] = &[
-    ("Q\n", "2 line 1: must begin with S"),
-    ("S\nR\nS\n", "2 line 3: must begin with X"),
-    (
-        "S closed closed closed closed closed closed closed closed closed try\n",
-        "2 line 1: unknown word 10",
-    ),
-    (
-        "S\nR try try try try try try try try try try recv try\n",
-        "2 line 2: word 12 follows the last call",
-    ),
-    ("S\nR future try ref\n", "2 line 2: unknown word 3"),
-    ("S\nR future poll try\n", "2 line 2: bad number at word 3"),
-    (
-        "S\nR future poll 1 try drop try\n",
-        "2 line 2: word 6 follows the last call",
-    ),
-    ("S\tsend 7\nR\nX\n", "2 line 1: must begin with S"),
-    ("S send\t7\nR\nX\n", "2 line 1: unknown word 1"),
-    ("S send 7\nR try\t\nX\n", "2 line 2: unknown word 1"),
-    ("S\nR\nX s\tr\n", "2 line 3: unknown word 1"),
-    ("S\nR\nX S\n", "2 line 3: unknown word 1"),
-    ("S\nR\nX srx\n", "2 line 3: unknown word 1"),
-    ("S\nR\nX sr0\n", "2 line 3: unknown word 1"),
-];
-
-#[test]
-fn faults_of_a_line(rt: HostRuntime) {
-    for (input, fault) in OF_A_LINE {
-        let told = output_of(&rt, input.as_bytes());
-        assert_eq!(rt; (*input, told.as_str()), (*input, *fault));
-    }
-}
 
 #[test]
 fn bytes_above_127_are_not_ascii(rt: HostRuntime) {

@@ -158,7 +158,7 @@ rest NotSent(7)
 block here
 ",
     ),
-    // the second tasks waker takes the place of the first
+    // the second task's waker takes the place of the first
     (
         "S send 7\nR future poll 1 poll 2\nX rrrrrrrrrrrsssss\n",
         "1 R plain 3>3 = future

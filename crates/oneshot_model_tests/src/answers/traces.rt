@@ -644,7 +644,7 @@ const SCHEDULES: &[&str; 4] = &[
     "S\nR deadline\nX onornor\n",
 ];
 
-/// `o` acts as `r` at each step but a reading of the clock, and `n` at each but a copy of a waker.
+/// `o` acts as `r` at each step except a reading of the clock, and `n` at each except a copy of a waker.
 #[test]
 fn a_letter_says_only_what_its_step_asks(rt: HostRuntime) {
     let trace = "1 R load 3>3
@@ -662,7 +662,7 @@ block here
     }
 }
 
-/// The moves of a front, the message's place after them, and what is of the block.
+/// The moves of a front, the message's place after them, and the line of the block.
 const FRONTS: &[(&str, &str, &str); 8] = &[
     ("", "NotSent(7)", "block here"),
     (" s", "InCell(7)", "block here"),
@@ -685,7 +685,7 @@ fn traces_of_fronts_of_a_schedule(rt: HostRuntime) -> Result<(), Fail> {
     Ok(())
 }
 
-/// The first entries of `SENT_TRACE`, then the message's place and what is of the block.
+/// The first entries of `SENT_TRACE`, then the message's place and the line of the block.
 fn trace_of_front(
     alloc: Global,
     entries: usize,

@@ -1,9 +1,9 @@
-//! Texts with one fault, for each fault.
+//! Texts for each fault. Later lines may be missing.
 
 use crate::text::{Case, assert_faults};
 use std::test::Fail;
 
-const OF_A_TEXT: &[Case; 54] = &[
+const OF_A_TEXT: &[Case; 53] = &[
     ("", "line 1 is missing"),
     ("S", "line 2 is missing"),
     ("S\n", "line 2 is missing"),
@@ -71,7 +71,6 @@ const OF_A_TEXT: &[Case; 54] = &[
     ("S\nR try drop \n", "line 2: word 3 follows the last call"),
     ("S\nR\nX s r\n", "line 3: word 2 follows the last call"),
     ("S\nR\nX s \n", "line 3: word 2 follows the last call"),
-    ("S\nR\nX\ns", "input after line 3"),
     ("S\nR\nX\n\n", "input after line 3"),
 ];
 
@@ -154,9 +153,49 @@ const AFTER_A_SEND: &[Case; 15] = &[
     ),
 ];
 
+const OF_A_LONG_LINE: &[Case; 2] = &[
+    (
+        "S closed closed closed closed closed closed closed closed closed try\n",
+        "line 1: unknown word 10",
+    ),
+    (
+        "S\nR try try try try try try try try try try recv try\n",
+        "line 2: word 12 follows the last call",
+    ),
+];
+
+const OF_A_FUTURE: &[Case; 3] = &[
+    ("S\nR future try ref\n", "line 2: unknown word 3"),
+    ("S\nR future poll try\n", "line 2: bad number at word 3"),
+    (
+        "S\nR future poll 1 try drop try\n",
+        "line 2: word 6 follows the last call",
+    ),
+];
+
+const OF_LETTERS_AND_TABS: &[Case; 9] = &[
+    ("Q\n", "line 1: must begin with S"),
+    ("S\nR\nS\n", "line 3: must begin with X"),
+    ("S\tsend 7\nR\nX\n", "line 1: must begin with S"),
+    ("S send\t7\nR\nX\n", "line 1: unknown word 1"),
+    ("S send 7\nR try\t\nX\n", "line 2: unknown word 1"),
+    ("S\nR\nX s\tr\n", "line 3: unknown word 1"),
+    ("S\nR\nX S\n", "line 3: unknown word 1"),
+    ("S\nR\nX srx\n", "line 3: unknown word 1"),
+    ("S\nR\nX sr0\n", "line 3: unknown word 1"),
+];
+
 #[test]
 fn each_fault_is_reported(rt: HostRuntime) -> Result<(), Fail> {
-    let tables: [&[Case]; 4] = [OF_A_TEXT, OF_LOOKS, OF_RECEIVES, AFTER_A_SEND];
+    let tables: [&[Case]; 7] = [
+        OF_A_TEXT,
+        OF_LOOKS,
+        OF_RECEIVES,
+        AFTER_A_SEND,
+        OF_A_LONG_LINE,
+        OF_A_FUTURE,
+        OF_LETTERS_AND_TABS,
+    ];
     for cases in tables {
         assert_faults(&rt, cases)?;
     }

@@ -79,7 +79,7 @@ const OF_RECEIVES: &[Case; 8] = &[
     ("S\nR ref recv\n", "line 3 is missing"),
 ];
 
-const OF_A_FUTURE: &[Case; 19] = &[
+const OF_A_FUTURE: &[Case; 21] = &[
     ("S send 7\nR ", "line 2: unknown word 1"),
     ("S send 7\nR f", "line 2: unknown word 1"),
     ("S send 7\nR fu", "line 2: unknown word 1"),
@@ -99,6 +99,11 @@ const OF_A_FUTURE: &[Case; 19] = &[
     ("S send 7\nR future poll 1 dr", "line 2: unknown word 4"),
     ("S send 7\nR future poll 1 dro", "line 2: unknown word 4"),
     ("S send 7\nR future poll 1 drop", "line 3 is missing"),
+    ("S send 7\nR future poll 1 drop\n", "line 3 is missing"),
+    (
+        "S send 7\nR future poll 1 drop\nX ",
+        "line 3: unknown word 1",
+    ),
 ];
 
 #[test]

@@ -1,6 +1,6 @@
 //! The life of a receiver or of a future over a ground in memory as text. Its first line is `channel` or
-//! `async_channel`. Each further line is a deed, a call's reply, and after `|` what the receiver's hand has, which
-//! begins with 9, or the counts of the future's tasks.
+//! `async_channel`. Each further line is a deed and its reply. After `|`, a line of a receiver has the content of its
+//! hand, which is 9 at first, and a line of a future has the counts of its tasks.
 
 ghost use Rattle.std.specs.Prelude.{◌≡◌};
 ghost use Rattle.oneshot_machine.specs.Logs.{receiver_of};
@@ -33,7 +33,7 @@ enum Deed {
     Goes,
     /// The sender will send 7 after this many pauses of the receiver, and linger for this many.
     WillSend(u64, u64),
-    /// The sender will be dropped then.
+    /// As `WillSend`, but the sender will be dropped.
     WillGo(u64, u64),
     /// The deadline will be over after this many readings of the clock. Without this deed it is over at once.
     OverAfter(u64),
@@ -135,7 +135,7 @@ fn read_line(text: &str) -> Result<Line<'_>, Fail> {
     Ok(read(text).ok_or("a line of a life")?)
 }
 
-/// Has happen what is no call.
+/// Lets happen what is no call of the receiver.
 fn happen<W: Drop + Wakes, R: Wait>(g: &mut MemoryReceiver<'_, u64, W, R>, deed: Deed) -> Reply<u64>
     ensures { g.new.state ≡ g.old.state }
 {
@@ -279,7 +279,7 @@ fn assert_life<R: Wait + Abort + AllocGlobal>(rt: &R, life: &Life) -> Result<(),
         "async_channel" => poll_all(rt, lines, last)?,
         _ => return Err(Fail::new("a life of no channel")),
     };
-    assert_eq!(rt; made.as_str(), steps);
+    assert_eq!(rt; (text, made.as_str()), (text, steps));
     Ok(())
 }
 

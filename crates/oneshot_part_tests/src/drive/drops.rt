@@ -19,7 +19,7 @@ fn the_errors_drop_drops_the_message_once(rt: HostRuntime) {
     let drops = Cell::new(0);
     let mut g = MemorySender::<Counted, (), _>::new(&rt, rt.alloc(), false);
     if send(&mut g, Counted(&drops)) {
-        panic!(rt; "the receiver is gone")
+        panic!(rt; "a send to a receiver that is gone returned true")
     }
     let refused = drops.get();
     drop_error(&mut g);
@@ -36,7 +36,7 @@ fn a_receiver_that_left_meanwhile_costs_its_waker_and_the_message_once(rt: HostR
     let mut g = MemorySender::<Counted, Counted, _>::with_waiting_receiver(&rt, rt.alloc(), waker);
     g.receiver_will_leave();
     if send(&mut g, Counted(&messages)) {
-        panic!(rt; "the receiver left")
+        panic!(rt; "a send to a receiver that left returned true")
     }
     let refused = (messages.get(), wakers.get());
     drop_error(&mut g);

@@ -88,7 +88,7 @@ fn a_refused_copy_wakes_its_task_and_leaves_the_stored_one(rt: HostRuntime) -> R
     assert_lives(&rt, REFUSED_COPIES)
 }
 
-const LOOKS: &[Life; 3] = &[
+const TRIES: &[Life; 3] = &[
     (
         "async_channel
         R try = Err(Empty) | (0, 0, 0) (0, 0, 0)
@@ -122,12 +122,12 @@ const LOOKS: &[Life; 3] = &[
 ];
 
 #[test]
-fn a_look_waits_for_nothing_and_leaves_the_copy_in_its_slot(rt: HostRuntime) -> Result<(), Fail> {
-    assert_lives(&rt, LOOKS)
+fn a_try_waits_for_nothing_and_leaves_the_copy_in_its_slot(rt: HostRuntime) -> Result<(), Fail> {
+    assert_lives(&rt, TRIES)
 }
 
-const BETWEEN_TWO_SWAPS: &[Life; 2] = &[
-    // Each poll performs one load, and wakes its task.
+const ABOUT_TO_FINISH: &[Life; 2] = &[
+    // Each of the last three polls performs one load, and wakes its task.
     (
         "async_channel
         R poll1 = Pending | (1, 0, 0) (0, 0, 0)
@@ -154,10 +154,8 @@ const BETWEEN_TWO_SWAPS: &[Life; 2] = &[
 ];
 
 #[test]
-fn no_poll_takes_longer_because_the_sender_is_between_its_two_swaps(
-    rt: HostRuntime,
-) -> Result<(), Fail> {
-    assert_lives(&rt, BETWEEN_TWO_SWAPS)
+fn no_poll_waits_for_a_sender_that_is_about_to_finish(rt: HostRuntime) -> Result<(), Fail> {
+    assert_lives(&rt, ABOUT_TO_FINISH)
 }
 
 const DROPS: &[Life; 4] = &[

@@ -1,4 +1,5 @@
-//! Writes the steps of a ground in memory as a line of text, in the words in which `oneshot-run` prints a step.
+//! Writes the steps of a ground in memory as a line of text: the name of each step as `oneshot-run` prints it, its
+//! operands, and what it saw.
 
 use oneshot_machine::machine::{Seen, Step};
 use oneshot_machine::states::Op;

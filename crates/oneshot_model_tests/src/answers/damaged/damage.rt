@@ -47,7 +47,7 @@ pub(super) enum WordDamage {
     Exchanged,
     /// A word of the grammar is inserted.
     Put,
-    /// Each number becomes one of `NUMBERS`.
+    /// Each number, and each empty word, becomes one of `NUMBERS`.
     Number,
     /// A tab follows it, in place of a space.
     Tabbed,

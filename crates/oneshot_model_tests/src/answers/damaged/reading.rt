@@ -34,7 +34,7 @@ pub(super) enum Flaw {
 
 /// The result of a reading, without lines and words.
 #[derive(Clone, Copy, Debug, Eq, PartialEq)]
-pub(super) enum Kind {
+pub(crate) enum Kind {
     Trace,
     NotAscii,
     Missing,

@@ -7,7 +7,8 @@ use std::io::ErrorKind;
 use std::process::Abort;
 use std::test::Fail;
 
-/// As `SENT`, with the largest message. The line of an entry that shows it is too long to wait with others.
+/// As `SENT`, with the largest message. The line that shows this message has more than 64 bytes, so it does not
+/// wait with others.
 const LONG: &str = "S send 18446744073709551615\nR try drop\nX ssrrrrr\n";
 
 /// The output for `LONG`.
@@ -61,13 +62,14 @@ fn assert_ends(
     let calls_after = writer.failures.after;
     assert_eq!(rt;
         (
+            input,
             kind,
             ended.as_str(),
             writer.written.len(),
             begun,
             calls_after
         ),
-        (kind, "1 write failed\n", before, true, 0)
+        (input, kind, "1 write failed\n", before, true, 0)
     );
 }
 
@@ -92,11 +94,10 @@ fn assert_made_again(
     let interrupts = Failures::of(before, count, ErrorKind::Interrupted);
     let mut writer = Writer::new(rt.alloc(), 1, interrupts);
     let ended = ending(rt, &mut input.as_bytes(), &mut writer);
-    assert_eq!(rt; (count, before, ended.as_str()), (count, before, "0 "));
+    let written = writer.written.as_slice();
     assert_eq!(rt;
-        writer.written.as_slice(),
-        trace.as_bytes(),
-        "{count} after {before} writes"
+        (input, count, before, ended.as_str(), written),
+        (input, count, before, "0 ", trace.as_bytes())
     );
 }
 
