@@ -9,17 +9,12 @@ from parts.sources import CRATES
 SOURCE = CRATES / "oneshot_trace_audit/src/drawn.rt"
 SEEDS = range(1, 10_001)
 MOVES = 64
-SENDING = {"Send": "S send 7", "Drop": "S drop", "LookAndSend": "S closed send 7 inner into"}
-RECEIVING = {
-    "TryTryDrop": "R try try drop", "Recv": "R recv", "RefDrop": "R ref drop", "DeadlineTryDrop": "R deadline try drop",
-    "Forever": "R forever", "PollPollPollDrop": "R future poll 1 poll 2 poll 3 drop",
-    "PollTryPollTryDrop": "R future poll 1 try poll 2 try drop"}
-PAIR = re.compile(r"Sending::(\w+),\s*Receiving::(\w+),\s*0x[0-9a-f_]+,\s*(0x[0-9a-f_]+)")
+PAIR = re.compile(r'"(S[^"\\]*)\\n(R[^"\\]*)",\s*0x[0-9a-f_]+,\s*(0x[0-9a-f_]+)')
 MASK = 2**64 - 1
 
 
 def pairs():
-    """The names of each pair's scripts, with the digest of the pair's texts."""
+    """The lines of each pair of scripts, with the digest of the pair's texts."""
     return [(sender, receiver, int(digest, 16)) for sender, receiver, digest in PAIR.findall(SOURCE.read_text())]
 
 
@@ -35,7 +30,7 @@ def schedule(seed):
 
 
 def text_of(sender, receiver, seed):
-    return "\n".join(reference(SENDING[sender], RECEIVING[receiver], schedule(seed))) + "\n"
+    return "\n".join(reference(sender, receiver, schedule(seed))) + "\n"
 
 
 def digest_of(sender, receiver):
@@ -57,7 +52,7 @@ def hold_digests(sender, receiver, digest):
 def hold_program(program, sender, receiver):
     """A program prints the reference's text for each input of a pair; else the first line of the first that differs."""
     for seed in SEEDS:
-        given = f"{SENDING[sender]}\n{RECEIVING[receiver]}\nX {schedule(seed)}\n"
+        given = f"{sender}\n{receiver}\nX {schedule(seed)}\n"
         printed = subprocess.run([program], input=given, capture_output=True, text=True, check=False).stdout.split("\n")
         wanted = text_of(sender, receiver, seed).split("\n")
         for number, (one, other) in enumerate(zip([*printed, "", ""], wanted), 1):

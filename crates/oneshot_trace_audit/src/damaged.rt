@@ -9,9 +9,8 @@ mod waits;
 
 use crate::auditor::{DrawnTrace, Fault, Finding, Scripts, audit};
 use crate::damage::{Edit, apply};
-use crate::moves::move_of;
-use crate::run::{run, scripts_of};
-use crate::scripts::{MESSAGE, Receiving, Sending};
+use crate::run::run;
+use crate::scripts::{MESSAGE, moves_of, scripts_of};
 use oneshot_machine::machine::End;
 use oneshot_text::EntryLine;
 use std::alloc::{AllocError, AllocGlobal, Global};
@@ -21,22 +20,18 @@ use std::test::Fail;
 /// What is wrong, the schedule of the right trace, the changes that damage it, and the auditor's finding.
 type Damage = (&'static str, &'static str, &'static [Edit], Finding);
 
-/// Both scripts, and damages to their traces.
-type Damaged = (Sending, Receiving, &'static [Damage]);
+/// The lines of both scripts, and damages to their traces.
+type Damaged = (&'static str, &'static [Damage]);
 
 /// The right trace of both scripts by this schedule.
 fn right_trace(
     rt: &(impl Abort + AllocGlobal),
-    sender: Sending,
-    receiver: Receiving,
+    lines: &str,
     letters: &str,
 ) -> Result<DrawnTrace, Fail> {
-    let mut moves = Vec::new(rt.alloc());
-    for letter in letters.chars() {
-        moves.push(move_of(rt, letter))?;
-    }
-    let scripts = scripts_of(rt.alloc(), sender, receiver)?;
-    run(rt.alloc(), scripts, moves.as_slice())
+    let scripts = scripts_of(rt.alloc(), lines)?;
+    let moves = moves_of(rt.alloc(), letters)?;
+    run(rt.alloc(), scripts, &moves)
 }
 
 /// Damages the trace by these changes.
@@ -68,10 +63,10 @@ fn assert_accepts(rt: &impl Abort, scripts: &Scripts, trace: &DrawnTrace, name: 
 
 /// Asserts for each damage that the auditor accepts the right trace, and finds this in the damaged one.
 fn assert_refused(rt: &(impl Abort + AllocGlobal), damaged: Damaged) -> Result<(), Fail> {
-    let (sender, receiver, damages) = damaged;
-    let scripts = scripts_of(rt.alloc(), sender, receiver)?;
+    let (lines, damages) = damaged;
+    let scripts = scripts_of(rt.alloc(), lines)?;
     for damage in damages {
-        let trace = right_trace(rt, sender, receiver, damage.1)?;
+        let trace = right_trace(rt, lines, damage.1)?;
         assert_finds(rt, &scripts, trace, damage)?;
     }
     Ok(())
@@ -79,8 +74,7 @@ fn assert_refused(rt: &(impl Abort + AllocGlobal), damaged: Damaged) -> Result<(
 
 /// A trace without a damage, with a finding that the auditor does not make.
 const NO_DAMAGE: Damaged = (
-    Sending::Send,
-    Receiving::TryDrop,
+    "S send 7\nR try drop",
     &[(
         "no damage",
         "ssrrrrr",
@@ -97,10 +91,10 @@ fn a_damage_that_is_not_found_ends_a_test(rt: HostRuntime) {
 
 // Passes a trace that has lost an entry as a right one.
 fn find_in_a_damaged_trace(rt: &(impl Abort + AllocGlobal)) -> Result<(), Fail> {
-    let (sender, receiver, damages) = NO_DAMAGE;
-    let scripts = scripts_of(rt.alloc(), sender, receiver)?;
+    let (lines, damages) = NO_DAMAGE;
+    let scripts = scripts_of(rt.alloc(), lines)?;
     for damage in damages {
-        let trace = right_trace(rt, sender, receiver, damage.1)?;
+        let trace = right_trace(rt, lines, damage.1)?;
         let trace = damaged_by(rt, trace, &[Edit::Remove(5)])?;
         assert_finds(rt, &scripts, trace, damage)?;
     }
@@ -151,7 +145,7 @@ fn a_receiver_that_nothing_wakes(rt: HostRuntime) -> Result<(), Fail> {
     assert_refused(&rt, unwoken::POLLED_AGAIN)
 }
 
-/// The lines of a trace in which no receive returns a message.
+/// The lines of a trace whose message is `MESSAGE`.
 fn lines_of(alloc: Global, trace: &DrawnTrace) -> Result<String, AllocError> {
     let mut text = String::new(alloc);
     for (number, entry) in (1usize..).zip(trace.entries.as_slice()) {
@@ -168,10 +162,10 @@ fn lines_of(alloc: Global, trace: &DrawnTrace) -> Result<String, AllocError> {
 }
 
 // A drop that waits for its sender breaks no definition: only the transition table and the bounds refuse it. In
-// the damaged trace it frees the block while the sender, about to finish, still holds it.
+// the damaged trace the drop frees the block while the sender, about to finish, still holds it.
 #[test]
 fn a_future_whose_drop_waits_for_its_sender(rt: HostRuntime) -> Result<(), Fail> {
-    let scripts = scripts_of(rt.alloc(), Sending::Send, Receiving::PollDrop)?;
+    let scripts = scripts_of(rt.alloc(), "S send 7\nR future poll 1 drop")?;
     let trace = waited::trace(rt.alloc())?;
     let lines = lines_of(rt.alloc(), &trace)?;
     assert_eq!(rt;

@@ -8,7 +8,7 @@ use std::io;
 use std::io::Write;
 use std::test::Fail;
 
-/// The 64-bit FNV-1a digest of the numbers that were added, or of the bytes that were written.
+/// A digest of 64 bits: FNV-1a of the bytes that were written. A number is added as FNV-1a adds a byte.
 #[derive(Drop)]
 pub(crate) struct Digest {
     state: u64,

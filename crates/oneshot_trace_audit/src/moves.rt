@@ -1,19 +1,8 @@
-//! Moves, given by letters or drawn from a seed.
+//! Moves that are drawn from a seed.
 
+use crate::scripts::moves_of;
 use oneshot_replay::Move;
-use std::process::Abort;
-
-/// The move of a letter: `s` the sender's, `r` the receiver's, `o` the receiver's with a clock past its
-/// deadline, `n` the receiver's with a copy refused.
-pub(crate) fn move_of(rt: &impl Abort, letter: char) -> Move {
-    match letter {
-        's' => Move::Sender,
-        'r' => receiver(false, false),
-        'o' => receiver(true, false),
-        'n' => receiver(false, true),
-        _ => panic!(rt; "no move {letter:?}"),
-    }
-}
+use std::test::Fail;
 
 fn receiver(over: bool, refuse: bool) -> Move {
     Move::Receiver { over, refuse }
@@ -68,11 +57,12 @@ const DRAWN: &[(u64, &str); 3] = &[
 ];
 
 #[test]
-fn seeds_draw_their_moves(rt: HostRuntime) {
+fn seeds_draw_their_moves(rt: HostRuntime) -> Result<(), Fail> {
     for &(seed, letters) in DRAWN {
         let mut draws = Draws::new(seed);
-        for letter in letters.chars() {
-            assert_eq!(rt; (seed, draws.draw()), (seed, move_of(&rt, letter)));
+        for (place, &wanted) in moves_of(rt.alloc(), letters)?.iter().enumerate() {
+            assert_eq!(rt; (seed, place, draws.draw()), (seed, place, wanted));
         }
     }
+    Ok(())
 }

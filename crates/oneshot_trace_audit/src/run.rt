@@ -1,25 +1,12 @@
 //! Runs two scripts, for their trace or for its text.
 
 use crate::auditor::{DrawnTrace, Scripts};
-use crate::scripts::{Receiving, Sending};
 use oneshot_replay::{Move, Place, Replayer, Rest, SenderLast, replay};
 use oneshot_text::write_run;
-use std::alloc::{AllocError, Global};
+use std::alloc::Global;
 use std::io;
 use std::io::Write;
 use std::test::Fail;
-
-/// Makes both scripts.
-pub(crate) fn scripts_of(
-    alloc: Global,
-    sender: Sending,
-    receiver: Receiving,
-) -> Result<Scripts, AllocError> {
-    Ok(Scripts {
-        sender: sender.script(),
-        receiver: receiver.script(alloc)?,
-    })
-}
 
 /// Runs both scripts under a schedule, and returns their trace.
 pub(crate) fn run(alloc: Global, scripts: Scripts, moves: &[Move]) -> Result<DrawnTrace, Fail> {

@@ -3,7 +3,6 @@
 use crate::auditor::Fault;
 use crate::damage::Edit;
 use crate::damaged::Damaged;
-use crate::scripts::{Receiving, Sending};
 use oneshot_machine::machine::{End, Reply, Step};
 use oneshot_replay::{Place, WakerName, WakerPlace};
 
@@ -28,8 +27,7 @@ const FIRST: WakerName = WakerName::Copy {
 // Under rrrrrrrrr the drop meets no sender: 6 R load 0, 7 R exchange 0>3, 8 R withdraw Cell>Dropped,
 // 9 R swap 3>2 = dropped.
 pub(crate) const POLLED_ONCE: Damaged = (
-    Sending::Send,
-    Receiving::PollDrop,
+    "S send 7\nR future poll 1 drop",
     &[
         (
             "the block is freed before the sender's final swap",
@@ -182,7 +180,7 @@ pub(crate) const POLLED_ONCE: Damaged = (
             ),
         ),
         (
-            "another message is trace",
+            "another message is reported",
             "rrrrrssssrrrrs",
             &[Edit::Rest(Some((Place::Dropped, 8)))],
             (
@@ -200,8 +198,7 @@ pub(crate) const POLLED_ONCE: Damaged = (
 // If S begins to send at 8 and 9: 10 R exchange 1>1 Hand>Dropped, 11 R wake = Pending, 12 to 14 S = Ok,
 // 15 to 17 the third poll takes the message, 18 to 20 R drop.
 pub(crate) const POLLED_ANEW: Damaged = (
-    Sending::Send,
-    Receiving::PollPollPollDrop,
+    "S send 7\nR future poll 1 poll 2 poll 3 drop",
     &[
         (
             "the first waker stays in the cell",
@@ -252,8 +249,7 @@ pub(crate) const POLLED_ANEW: Damaged = (
 // 9 R swap 1>2 = dropped, 10 S take-waker Cell>SenderHand, 11 S swap 2>4,
 // 12 S wake InCell>InError SenderHand>Used = Err, 13 S drop-message InError>Dropped, 14 S free = dropped.
 pub(crate) const LEFT_BY_A_FUTURE: Damaged = (
-    Sending::SendAndDropError,
-    Receiving::PollDrop,
+    "S send 7 drop\nR future poll 1 drop",
     &[
         (
             "a send that came late says that it sent",
@@ -310,8 +306,7 @@ pub(crate) const LEFT_BY_A_FUTURE: Damaged = (
 // 8 R swap 1>2 = dropped, 9 S take-waker Cell>SenderHand, 10 S swap 2>2, 11 S wake SenderHand>Used,
 // 12 S free = dropped.
 pub(crate) const POLLED_BESIDE_A_DROP: Damaged = (
-    Sending::Drop,
-    Receiving::PollDrop,
+    "S drop\nR future poll 1 drop",
     &[
         (
             "the stored waker is left in the cell",

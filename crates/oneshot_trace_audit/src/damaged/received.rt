@@ -3,15 +3,13 @@
 use crate::auditor::Fault;
 use crate::damage::Edit;
 use crate::damaged::Damaged;
-use crate::scripts::{Receiving, Sending};
 use oneshot_machine::machine::{End, Reply, Step};
 use oneshot_replay::{Place, WakerName, WakerPlace};
 
 // 1 S write-message NotSent>InCell, 2 S add 3>4 = Ok, 3 R load 4, 4 R store 2,
 // 5 R take-message InCell>Delivered = Ok(7), 6 R swap 2>2, 7 R free = dropped.
 pub(crate) const TAKEN: Damaged = (
-    Sending::Send,
-    Receiving::TryDrop,
+    "S send 7\nR try drop",
     &[
         (
             "the take is missing",
@@ -112,13 +110,13 @@ pub(crate) const TAKEN: Damaged = (
             (2, Fault::MessagePut { to: Place::InError }),
         ),
         (
-            "the rest is trace as none",
+            "the last place of the message is reported as none",
             "ssrrrrr",
             &[Edit::Rest(None)],
             (7, Fault::ToldRest { rest: None }),
         ),
         (
-            "the rest is trace at another place",
+            "another last place is reported",
             "ssrrrrr",
             &[Edit::Rest(Some((Place::Dropped, 7)))],
             (
@@ -224,13 +222,13 @@ pub(crate) const TAKEN: Damaged = (
             (1, Fault::IdleTooEarly(End::Sender)),
         ),
         (
-            "the end of the block is not trace",
+            "the freed block is not reported",
             "ssrrrrr",
             &[Edit::BlockFreed(false)],
             (7, Fault::ToldFreed { block_freed: false }),
         ),
         (
-            "the end of the block is trace too early",
+            "the block is reported as freed too early",
             "ssrrrr",
             &[Edit::BlockFreed(true)],
             (6, Fault::ToldFreed { block_freed: true }),
@@ -241,8 +239,7 @@ pub(crate) const TAKEN: Damaged = (
 // 1 S write-message NotSent>InCell, 2 S add 3>4 = Ok, 3 R swap 4>2, 4 R drop-message InCell>Dropped,
 // 5 R free = dropped.
 pub(crate) const DROPPED: Damaged = (
-    Sending::Send,
-    Receiving::Drop,
+    "S send 7\nR drop",
     &[
         (
             "the drop drops nothing",
@@ -300,8 +297,7 @@ pub(crate) const DROPPED: Damaged = (
 
 // 1 S write-message NotSent>InCell, 2 S add 3>4 = Ok, 3 R load 4 = true, 4 R load 4 = false.
 pub(crate) const LOOKED_AT: Damaged = (
-    Sending::Send,
-    Receiving::LookLookDrop,
+    "S send 7\nR full closed drop",
     &[
         (
             "the look misses the message",

@@ -3,7 +3,6 @@
 use crate::auditor::Fault;
 use crate::damage::Edit;
 use crate::damaged::Damaged;
-use crate::scripts::{Receiving, Sending};
 use oneshot_machine::machine::{End, Reply, Step};
 use oneshot_machine::states::DISCONNECTED;
 use oneshot_replay::Place;
@@ -11,8 +10,7 @@ use oneshot_replay::Place;
 // 1 R swap 3>2 = dropped, 2 S load 2 = true, 3 S write-message NotSent>InCell,
 // 4 S add 2>3 InCell>InError = Err, 5 S plain = 7, 6 S take-message InError>FromError, 7 S free = 7.
 pub(crate) const TAKEN_BACK: Damaged = (
-    Sending::LookAndSend,
-    Receiving::Drop,
+    "S closed send 7 inner into\nR drop",
     &[
         (
             "the look misses that the receiver is gone",
@@ -140,8 +138,7 @@ pub(crate) const TAKEN_BACK: Damaged = (
 // 1 R swap 3>2 = dropped, 2 S write-message NotSent>InCell, 3 S add 2>3 InCell>InError = Err,
 // 4 S drop-message InError>Dropped, 5 S free = dropped. Under srs the first two change places.
 pub(crate) const DROPPED: Damaged = (
-    Sending::SendAndDropError,
-    Receiving::Drop,
+    "S send 7 drop\nR drop",
     &[
         (
             "the receiver puts the message into the error",
@@ -199,8 +196,7 @@ pub(crate) const DROPPED: Damaged = (
 
 // 1 R load 3, 2 S write-message NotSent>InCell, 3 S add 3>4 = Ok, 4 R write-waker Hand>Cell.
 pub(crate) const BESIDE_A_RECEIVE: Damaged = (
-    Sending::Send,
-    Receiving::Recv,
+    "S send 7\nR recv",
     &[(
         "the receive takes the message that was refused",
         "rssr",

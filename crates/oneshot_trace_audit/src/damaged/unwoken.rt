@@ -3,16 +3,14 @@
 use crate::auditor::Fault;
 use crate::damage::Edit;
 use crate::damaged::Damaged;
-use crate::scripts::{Receiving, Sending};
 use oneshot_machine::machine::{Reply, Seen};
 
 // 1 R load 3, 2 R write-waker Hand>Cell, 3 R swap 3>0, 4 S xor 0>1, 5 S take-waker Cell>SenderHand,
 // 6 S swap 1>2, 7 S wake SenderHand>Used token+ = dropped, 8 R park token-.
 pub(crate) const PARKED_AT_A_DROP: Damaged = (
-    Sending::Drop,
-    Receiving::Recv,
+    "S drop\nR recv",
     &[(
-        "the wake is cut out",
+        "the wake of the parked receiver is cut out",
         "rrrssssr",
         &[
             Edit::Remove(7),
@@ -27,8 +25,7 @@ pub(crate) const PARKED_AT_A_DROP: Damaged = (
 // 6 S take-waker Cell>SenderHand, 7 R park spurious, 8 R load 1, 9 S swap 1>4,
 // 10 S wake SenderHand>Used token+ = Ok, 11 R park token-.
 pub(crate) const PARKED_AT_A_SEND: Damaged = (
-    Sending::Send,
-    Receiving::RefDrop,
+    "S send 7\nR ref drop",
     &[(
         "the sender wakes before its final swap, and the receiver parks again",
         "rrrsssrrssr",
@@ -48,8 +45,7 @@ pub(crate) const PARKED_AT_A_SEND: Damaged = (
 // 10 S wake SenderHand>Used = Ok.
 // Under rrnrss the copy is refused: 3 R copy refused, 4 R wake own:1 = Pending, 5 S write-message, 6 S add = Ok.
 pub(crate) const POLLED: Damaged = (
-    Sending::Send,
-    Receiving::PollDrop,
+    "S send 7\nR future poll 1 drop",
     &[
         (
             "the wake is cut out",
@@ -81,8 +77,7 @@ pub(crate) const POLLED: Damaged = (
 // 1 to 5 store the copy of the first task; 6 R load 0 of the second, 7 S write-message, 8 S add 0>1,
 // 9 S take-waker Cell>SenderHand, 10 S swap 1>4, 11 S wake SenderHand>Used = Ok.
 pub(crate) const POLLED_BY_ANOTHER_TASK: Damaged = (
-    Sending::Send,
-    Receiving::PollPollPollDrop,
+    "S send 7\nR future poll 1 poll 2 poll 3 drop",
     &[(
         "the second poll is left pending with the first task's waker stored",
         "rrrrrrsssss",
@@ -94,8 +89,7 @@ pub(crate) const POLLED_BY_ANOTHER_TASK: Damaged = (
 // 1 to 5 store the copy of the first poll; 6 S write-message, 7 S add 0>1, 8 S take-waker Cell>SenderHand,
 // 9 R load 1 of the second poll by the same task, 10 S swap 1>4, 11 S wake SenderHand>Used = Ok.
 pub(crate) const POLLED_AGAIN: Damaged = (
-    Sending::Send,
-    Receiving::PollAgainDrop,
+    "S send 7\nR future poll 1 poll 1 drop",
     &[(
         "the task is woken before its last poll, which is left pending",
         "rrrrrsssrss",

@@ -159,7 +159,7 @@ fn ended() -> [Made; 4] {
     ]
 }
 
-/// The trace, of `Sending::Send` beside `Receiving::PollDrop`.
+/// The trace, of `S send 7` beside `R future poll 1 drop`.
 pub(crate) fn trace(alloc: Global) -> Result<DrawnTrace, AllocError> {
     let mut entries = Vec::new(alloc);
     let all = polled().into_iter().chain(waited()).chain(ended());

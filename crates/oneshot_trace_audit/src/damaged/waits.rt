@@ -3,15 +3,13 @@
 use crate::auditor::Fault;
 use crate::damage::Edit;
 use crate::damaged::Damaged;
-use crate::scripts::{Receiving, Sending};
 use oneshot_machine::machine::{End, Reply, Seen, Step};
 use oneshot_replay::{Place, WakerName, WakerPlace};
 
 // 1 R load 3, 2 R write-waker Hand>Cell, 3 R swap 3>0, 4 R clock over, 5 R swap 0>3,
 // 6 R withdraw Cell>Hand = Err(Timeout).
 pub(crate) const OVERDUE: Damaged = (
-    Sending::Send,
-    Receiving::DeadlineTryDrop,
+    "S send 7\nR deadline try drop",
     &[
         (
             "the waker is not written",
@@ -89,8 +87,7 @@ pub(crate) const OVERDUE: Damaged = (
 // 6 S swap 1>2, 7 S wake SenderHand>Used token+ = dropped, 8 R park token-, 9 R load 2,
 // 10 R free = Err(RecvError).
 pub(crate) const WOKEN: Damaged = (
-    Sending::Drop,
-    Receiving::Recv,
+    "S drop\nR recv",
     &[
         (
             "a message comes from nowhere",
@@ -111,7 +108,7 @@ pub(crate) const WOKEN: Damaged = (
             ),
         ),
         (
-            "a rest is trace where none was sent",
+            "a last place is reported where no message was sent",
             "rrrssssrrr",
             &[Edit::Rest(Some((Place::Dropped, 7)))],
             (
@@ -172,8 +169,7 @@ pub(crate) const WOKEN: Damaged = (
 
 // 1 S xor 3>2 = dropped.
 pub(crate) const LEFT_EARLY: Damaged = (
-    Sending::Drop,
-    Receiving::TryDrop,
+    "S drop\nR try drop",
     &[(
         "the sender frees the block that the receiver holds",
         "s",
