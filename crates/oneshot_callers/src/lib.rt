@@ -1,13 +1,10 @@
-//! Callers that docs/CALLING.md shows or names, each proved by the contracts of the channel, and tested; tests of the
-//! errors of the receives.
+//! Callers that docs/CALLING.md shows or names, each proved by the contracts of the channel, and tested.
 #![tactic(auto)]
 
 #[cfg(test)]
 mod awaited;
 #[cfg(test)]
 mod bare;
-#[cfg(test)]
-mod errors;
 #[cfg(test)]
 mod inbox;
 #[cfg(test)]

@@ -29,9 +29,8 @@ const AWAITED: By = By::Receiver("future await");
 
 fn send_before_await<R: Wait + RandomSource + AllocGlobal + Abort>(rt: &R) -> Result<(), Fail> {
     let (sender, receiver) = channel(rt, rt.alloc())?;
-    let sent = sender.send(19i128).is_ok();
-    let received = block_on(rt, receiver.into_future())?;
-    assert_eq!(rt; (sent, received), (true, Ok(19)));
+    assert!(rt; sender.send(19i128).is_ok());
+    assert_eq!(rt; block_on(rt, receiver.into_future())?, Ok(19));
     Ok(())
 }
 
@@ -50,6 +49,7 @@ fn await_with_dropped_sender<R: Wait + RandomSource + AllocGlobal + Abort>(
 ) -> Result<(), Fail> {
     let (sender, receiver) = channel::<u128, _>(rt, rt.alloc())?;
     drop(sender);
+    assert!(rt; receiver.is_closed());
     assert_eq!(rt; block_on(rt, receiver.into_future())?, Err(RecvError));
     Ok(())
 }
@@ -71,7 +71,7 @@ fn await_before_send<R: Threads + Wait + Clock + RandomSource + AllocGlobal + Ab
     let act = Act("send into", drops.message(79u128));
     let (sent, received) = outcome_of(rt, Duration::from_millis(10), act, AWAITED)?;
     let Some(returned) = received.message() else {
-        panic!(rt; "it was sent");
+        panic!(rt; "the message that was sent did not come");
     };
     let before_drop = (drops.count(), returned.value);
     drop(returned);

@@ -57,7 +57,7 @@ fn ask_and_block(
     Ok((asked, received))
 }
 
-/// The same, with a receiver that is awaited.
+/// Asks for the length of `text`, and awaits it. Returns what `ask` returned, and what was received.
 fn ask_and_await(
     rt: &(impl Wait + Clock + RandomSource + AllocGlobal),
     requests: &queue::Sender<Request>,

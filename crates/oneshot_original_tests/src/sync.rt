@@ -60,8 +60,8 @@ fn send_before_recv(rt: HostRuntime) -> Result<(), Fail> {
 #[test]
 fn send_before_recv_ref(rt: HostRuntime) -> Result<(), Fail> {
     let (sender, mut receiver) = channel(&rt, rt.alloc())?;
-    let sent = sender.send(19i128).is_ok();
-    assert_eq!(rt; (sent, receiver.recv_ref()), (true, Ok(19)));
+    assert!(rt; sender.send(19i128).is_ok());
+    assert_eq!(rt; (receiver.recv_ref(), receiver.is_closed()), (Ok(19), true));
     let by_ref = receiver.recv_ref();
     let tried = receiver.try_recv();
     let timed = receiver.recv_timeout(second());
@@ -136,6 +136,7 @@ fn try_recv_with_dropped_sender(rt: HostRuntime) -> Result<(), Fail> {
 #[test]
 fn recv_with_dropped_sender(rt: HostRuntime) -> Result<(), Fail> {
     let (_, receiver) = channel::<u128, _>(&rt, rt.alloc())?;
+    assert!(rt; receiver.is_closed());
     assert_eq!(rt; receiver.recv(), Err(RecvError));
     Ok(())
 }

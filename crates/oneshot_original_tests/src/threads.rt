@@ -37,7 +37,7 @@ pub(super) struct Pace {
     pub(super) pause: u64,
 }
 
-/// How many rounds most tests have. The original tries each interleaving.
+/// How many rounds most tests have. The original's `tests/loom.rs` tries each interleaving.
 pub(super) const ROUNDS: u64 = 500;
 
 /// As many rounds, in which the sender never sleeps.

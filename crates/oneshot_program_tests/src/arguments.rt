@@ -117,7 +117,7 @@ const NO_COMMANDS: &[&[&str]; 6] = &[
 ];
 
 #[test]
-fn two_words_or_three_or_none(rt: HostRuntime) -> Result<(), Fail> {
+fn a_command_has_no_word_or_two_or_three(rt: HostRuntime) -> Result<(), Fail> {
     assert_eq!(rt; parsed(rt.alloc(), &[])?, Some(Command::Usage));
     for words in NO_COMMANDS {
         let read = parsed(rt.alloc(), words)?;

@@ -16,7 +16,7 @@ use oneshot_loops::tally::Tally;
 use std::alloc::{Alloc, AllocGlobal, Global};
 use std::cell::Cell;
 use std::io;
-use std::process::Abort;
+use std::process::{Abort, Termination};
 use std::random::RandomSource;
 use std::sync::Wait;
 use std::sync::atomic::{AtomicU64, Ordering};
@@ -110,7 +110,13 @@ where
     Ok(())
 }
 
-// One channel, however many polls.
+#[test]
+#[should_panic(expected = "Oneshot, MakeDrop, 3, Tally { channels: 3, room: 27,")]
+fn a_round_with_other_counts_ends_a_test(rt: HostRuntime) {
+    let _ = assert_rounds(&rt, Channel::Oneshot, Loop::MakeDrop, made(9)).report(&rt);
+}
+
+// `poll_pending` makes one channel for all its polls.
 #[test]
 fn each_poll_before_the_message_is_pending(rt: HostRuntime) -> Result<(), Fail> {
     for channel in OF_FUTURES {
@@ -353,8 +359,10 @@ fn no_round_is_made_before_the_time_or_after_it(rt: HostRuntime) -> Result<(), F
         let kind = Loop::Awaited(Awaited::MakeSendBlockOn);
         let time = measure(&asked, channel, kind, 20)?.time;
         let times = asked.times.load(Ordering::SeqCst);
-        assert!(rt; times >= 20);
-        assert_eq!(rt; time, Duration::from_nanos(times));
+        assert_eq!(rt;
+            (channel, times >= 20, time),
+            (channel, true, Duration::from_nanos(times))
+        );
     }
     Ok(())
 }
@@ -374,7 +382,7 @@ where
     Ok(asked.times.load(Ordering::SeqCst))
 }
 
-// Tasks of one queue, for which no round asks the allocator.
+// All rounds run as tasks of one queue, so no round asks for the allocator.
 #[test]
 fn a_round_that_awaits_makes_no_executor(rt: HostRuntime) -> Result<(), Fail> {
     for channel in OF_FUTURES {
@@ -422,8 +430,8 @@ fn rounds_end_at_the_first_fault(rt: HostRuntime) {
             Ok(())
         }
     });
-    assert!(rt; matches!(ended, Err(Fault::MessageLost)));
-    assert_eq!(rt; made, 3);
+    let is_lost = matches!(ended, Err(Fault::MessageLost));
+    assert_eq!(rt; (is_lost, made), (true, 3));
 }
 
 #[test]
@@ -465,9 +473,12 @@ fn rounds_in_a_task_end_at_the_first_fault(rt: HostRuntime) -> Result<(), Fail> 
     let mut tally = Tally::new();
     let begun = Cell::new(0);
     let lost = repeat_in_task(&rt, 5, LostAtTheThird { begun: &begun }, &mut tally);
-    assert!(rt; matches!(lost, Err(Fault::MessageLost)));
-    assert_eq!(rt; begun.get(), 3);
+    let is_lost = matches!(lost, Err(Fault::MessageLost));
+    let begun_first = begun.get();
     repeat_in_task(&rt, 2, LostAtTheThird { begun: &begun }, &mut tally)?;
-    assert_eq!(rt; (begun.get(), tally), (5, tally_of(2, made(8))));
+    assert_eq!(rt;
+        (is_lost, begun_first, begun.get(), tally),
+        (true, 3, 5, tally_of(2, made(8)))
+    );
     Ok(())
 }

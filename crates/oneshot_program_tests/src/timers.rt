@@ -95,8 +95,13 @@ fn a_client_awaits_replies_and_reports_to_its_limit(rt: HostRuntime) -> Result<(
     );
     let replied = (at_once.0, before_limit.0, after_limit.0);
     let reported = (at_once.1, before_limit.1, after_limit.1);
-    assert_eq!(rt; ("reply", replied), ("reply", (false, false, true)));
-    assert_eq!(rt; ("report", reported), ("report", (false, false, true)));
+    assert_eq!(rt;
+        (("reply", replied), ("report", reported)),
+        (
+            ("reply", (false, false, true)),
+            ("report", (false, false, true))
+        )
+    );
     Ok(())
 }
 
@@ -171,8 +176,10 @@ fn timers_fire_each_millisecond(rt: HostRuntime) -> Result<(), Fail> {
     let (_stop, stopped) = channel(&clock, rt.alloc())?;
     let own = Solo::new(&rt, Doorbell::parking())?;
     let clock_failed = keep_time(&clock, timers, own, stopped).is_err();
-    assert!(rt; clock_failed, "the clock fails at last");
-    assert_eq!(rt; (is_pending, clock.saw_it_woken.get()), (true, true));
+    assert_eq!(rt;
+        (is_pending, clock_failed, clock.saw_it_woken.get()),
+        (true, true, true)
+    );
     Ok(())
 }
 

@@ -25,7 +25,7 @@ fn each_wait_returns_that_no_message_will_come(rt: HostRuntime) -> Result<(), Fa
 }
 
 #[test]
-fn each_try_returns_that_no_message_will_come(rt: HostRuntime) -> Result<(), Fail> {
+fn tries_return_at_last_that_no_message_will_come(rt: HostRuntime) -> Result<(), Fail> {
     duel(&rt, "drop", "tries", &["dropped"], &["Err(Disconnected)"])?;
     Ok(())
 }
@@ -43,7 +43,7 @@ fn each_poll_returns_that_no_message_will_come(rt: HostRuntime) -> Result<(), Fa
 }
 
 #[test]
-fn one_look_returns_that_or_nothing(rt: HostRuntime) -> Result<(), Fail> {
+fn one_try_or_poll_finds_the_drop_or_nothing(rt: HostRuntime) -> Result<(), Fail> {
     let tried = ["Err(Disconnected)", "Err(Empty)"];
     duel(&rt, "drop", "try", &["dropped"], &tried)?;
     let polled = ["Ready(Err(RecvError))", "Pending"];

@@ -19,7 +19,7 @@ fn each_wait_gives_the_message(rt: HostRuntime) -> Result<(), Fail> {
 }
 
 #[test]
-fn each_try_gives_the_message(rt: HostRuntime) -> Result<(), Fail> {
+fn tries_get_the_message_at_last(rt: HostRuntime) -> Result<(), Fail> {
     duel(&rt, "send into", "tries", &["Ok"], &["Ok(999)"])?;
     Ok(())
 }
@@ -37,7 +37,7 @@ fn each_poll_gives_the_message(rt: HostRuntime) -> Result<(), Fail> {
 }
 
 #[test]
-fn one_look_gives_the_message_or_nothing(rt: HostRuntime) -> Result<(), Fail> {
+fn one_try_or_poll_gets_the_message_or_nothing(rt: HostRuntime) -> Result<(), Fail> {
     let tried = ["Ok(999)", "Err(Empty)"];
     duel(&rt, "send into", "try", &["Ok", "999"], &tried)?;
     let polled = ["Ready(Ok(999))", "Pending"];

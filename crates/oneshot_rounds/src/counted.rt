@@ -50,23 +50,23 @@ impl Numbered for Counted {
 }
 
 impl Drops {
-    /// Fails unless there were so many messages, and each was dropped once.
-    pub(super) fn assert_once(&self, rt: &impl Abort, messages: u64) {
-        assert_eq!(rt; self.0.len() as u64, messages);
-        for drops in &self.0 {
+    /// Fails unless there were so many messages, and each was dropped once. `about` names the rounds.
+    pub(super) fn assert_once(&self, rt: &impl Abort, about: &str, messages: u64) {
+        assert_eq!(rt; (about, self.0.len() as u64), (about, messages));
+        for (round, drops) in (1u64..).zip(&self.0) {
             let count = drops.load(Ordering::SeqCst);
-            assert!(rt; count == 1, "{count} drops of a message");
+            assert!(rt; count == 1, "{about}: {count} drops of message {round}");
         }
     }
 }
 
 #[test]
-#[should_panic(expected = "0 drops of a message")]
+#[should_panic(expected = "recv: 0 drops of message 1")]
 fn a_message_that_is_not_dropped_ends_a_test(rt: HostRuntime) {
     let mut counts = Vec::new(rt.alloc());
     let drops = Arc::new(rt.alloc(), AtomicU64::new(0)).ok();
     counts
         .push(drops.expect(&rt, "memory"))
         .expect(&rt, "memory");
-    Drops(counts).assert_once(&rt, 1);
+    Drops(counts).assert_once(&rt, "recv", 1);
 }

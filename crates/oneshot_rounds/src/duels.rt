@@ -54,9 +54,11 @@ pub(super) fn duel<R: Threads + Wait + Abort + Clock + AllocGlobal + RandomSourc
         |(sender, message)| send_by(&sends, sender, message),
         |receiver| receive_by(rt, &tasks, &receives, receiver),
     );
-    assert_answers(rt, &about, &ones, sent);
-    assert_answers(rt, &about, &others, received);
-    drops.assert_once(rt, ROUNDS);
+    let sender = format!(in rt.alloc(); "sender of {about}")?;
+    assert_answers(rt, &sender, &ones, sent);
+    let receiver = format!(in rt.alloc(); "receiver of {about}")?;
+    assert_answers(rt, &receiver, &others, received);
+    drops.assert_once(rt, &about, ROUNDS);
     assert_both_orders(rt, &about, &others);
     Ok(ones)
 }

@@ -27,9 +27,10 @@ struct Round {
 }
 
 impl Round {
-    /// Fails unless the note has the number.
-    fn assert_noted(&self, rt: &impl Abort) {
-        assert_eq!(rt; self.note.load(Ordering::SeqCst), self.number);
+    /// Fails unless the note has the number after these receives.
+    fn assert_noted(&self, rt: &impl Abort, receives: &str) {
+        let noted = self.note.load(Ordering::SeqCst);
+        assert_eq!(rt; (receives, noted), (receives, self.number));
     }
 }
 
@@ -60,12 +61,12 @@ fn write_and_send(round: &Round, sender: Sender<()>) -> bool {
 fn receive_and_look<R: Wait + Clock + RandomSource + AllocGlobal + Abort>(
     rt: &R,
     tasks: &Tasks,
-    calls: &[ReceiverCall],
+    (receives, calls): (&str, &[ReceiverCall]),
     round: &Round,
     receiver: Receiver<(), &R>,
 ) -> bool {
     let reply = Receiving::new(receiver).make_all(rt, Some(tasks), calls);
-    round.assert_noted(rt);
+    round.assert_noted(rt, receives);
     reply.message().is_some()
 }
 
@@ -86,9 +87,10 @@ fn assert_finds_notes<R: Threads + Wait + Abort + Clock + AllocGlobal + RandomSo
         senders,
         receivers,
         |(round, sender)| write_and_send(round, sender),
-        |(round, receiver)| receive_and_look(rt, &tasks, &calls, round, receiver),
+        |(round, receiver)| receive_and_look(rt, &tasks, (receives, &calls), round, receiver),
     );
-    assert_answers(rt, receives, &sends, &["true"]);
+    let send = format!(in rt.alloc(); "send beside {receives}")?;
+    assert_answers(rt, &send, &sends, &["true"]);
     assert_answers(rt, receives, &receipts, &["true"]);
     assert_both_orders(rt, receives, &receipts);
     Ok(())
@@ -103,15 +105,15 @@ fn each_wait_comes_after_the_note(rt: HostRuntime) -> Result<(), Fail> {
 }
 
 #[test]
-#[should_panic(expected = "right: 7")]
+#[should_panic(expected = "right: (\"recv\", 7)")]
 fn a_note_that_is_not_there_ends_a_test(rt: HostRuntime) {
     let note = AtomicU64::new(0);
-    Round { number: 7, note }.assert_noted(&rt);
+    Round { number: 7, note }.assert_noted(&rt, "recv");
 }
 
 // A call that waits for nothing gets no message, and comes before the note in many rounds.
 #[test]
-#[should_panic(expected = "left: 0")]
+#[should_panic(expected = "left: (\"drop\", 0)")]
 fn a_use_that_waits_for_nothing_ends_a_test(rt: HostRuntime) {
     let _ = assert_finds_notes(&rt, "drop").report(&rt);
 }

@@ -4,8 +4,7 @@ use super::answers::assert_answers;
 use super::channels::channels;
 use super::races::race;
 use super::receives::{BLOCKING, TRYING};
-use super::waits::now;
-use oneshot_calls::{ReceiverCall, Receiving, Tasks, limit, script};
+use oneshot_calls::{ReceiverCall, Receiving, Tasks, script};
 use oneshot_channel::{Receiver, Sender};
 use std::process::{Abort, Termination};
 use std::random::RandomSource;
@@ -16,26 +15,11 @@ use std::time::Clock;
 
 const ROUNDS: u64 = 100;
 
-/// What stands for `recv_deadline` with the limit of a receive, which no word of a script names.
-const IN_TIME: &str = "recv_deadline";
-
 // A function: in a closure this takes a minute longer to prove.
 fn is_sent<T: Send + Drop>(sender: Sender<T>, message: T) -> bool {
     sender.send(message).is_ok()
 }
 
-fn is_received_in_time<R: Wait + Clock + Abort, T: Copy + PartialEq + Send>(
-    rt: &R,
-    mut receiver: Receiver<T, &R>,
-    message: T,
-) -> bool {
-    let Some(deadline) = now(rt).checked_add(limit()) else {
-        return false;
-    };
-    receiver.recv_deadline(deadline) == Ok(message)
-}
-
-// By these calls; with none, by `recv_deadline`.
 fn is_received<R: Wait + Clock + RandomSource + AllocGlobal + Abort, T: Copy + PartialEq + Send>(
     rt: &R,
     tasks: &Tasks,
@@ -43,9 +27,6 @@ fn is_received<R: Wait + Clock + RandomSource + AllocGlobal + Abort, T: Copy + P
     receiver: Receiver<T, &R>,
     message: T,
 ) -> bool {
-    if calls.is_empty() {
-        return is_received_in_time(rt, receiver, message);
-    }
     let reply = Receiving::new(receiver).make_all(rt, Some(tasks), calls);
     reply.message() == Some(message)
 }
@@ -55,8 +36,7 @@ fn assert_comes<
     R: Threads + Wait + Abort + Clock + AllocGlobal + RandomSource + Sync,
     T: Copy + PartialEq + Send + Sync,
 >(rt: &R, receives: &str, message: T, wanted: T) -> Result<(), Fail> {
-    let words = if receives == IN_TIME { "" } else { receives };
-    let calls = script::<ReceiverCall>(rt.alloc(), words)?;
+    let calls = script::<ReceiverCall>(rt.alloc(), receives)?;
     let tasks = Tasks::new(rt)?;
     let (senders, receivers) = channels(rt, ROUNDS)?;
     let (sends, receipts) = race(
@@ -67,12 +47,13 @@ fn assert_comes<
         |sender| is_sent(sender, message),
         |receiver| is_received(rt, &tasks, &calls, receiver, wanted),
     );
-    assert_answers(rt, receives, &sends, &["true"]);
+    let send = format!(in rt.alloc(); "send beside {receives}")?;
+    assert_answers(rt, &send, &sends, &["true"]);
     assert_answers(rt, receives, &receipts, &["true"]);
     Ok(())
 }
 
-// A receive with a limit of ten seconds comes first, and fails if its wake is lost.
+// Fails unless `message` comes by each receive. The first has a limit of ten seconds, and so fails if its wake is lost.
 fn assert_comes_by_every_receive<
     R: Threads + Wait + Abort + Clock + AllocGlobal + RandomSource + Sync,
     T: Copy + PartialEq + Send + Sync,
@@ -80,7 +61,7 @@ fn assert_comes_by_every_receive<
     for receives in BLOCKING.iter().chain(&TRYING) {
         assert_comes(rt, receives, message, message)?;
     }
-    assert_comes(rt, IN_TIME, message, message)
+    assert_comes(rt, "longdeadline", message, message)
 }
 
 #[test]

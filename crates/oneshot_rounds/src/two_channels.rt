@@ -13,7 +13,7 @@ use std::time::Clock;
 
 const ROUNDS: u64 = 1_000;
 
-/// The sender to a thread's other, and the receiver from it.
+/// A thread's ends: its sender to the other thread, and its receiver from the other thread.
 type BothEnds<'r, R> = (Sender<u64>, Receiver<u64, &'r R>);
 
 fn both_ends<'r, R>(

@@ -6,7 +6,7 @@ use futures::test::MockTask;
 use oneshot_channel::async_channel;
 use oneshot_channel::reply::{Answer, Request, request};
 use std::alloc::AllocError;
-use std::process::Abort;
+use std::process::{Abort, Termination};
 use std::sync::atomic::{AtomicU64, Ordering};
 use std::test::Fail;
 
@@ -91,6 +91,24 @@ fn assert_woken_first<'a, F: FnOnce(Request<Asking<'a>, Told<'a>>) -> bool>(
 }
 
 #[test]
+#[should_panic(expected = "left: (true, false, false, 2)")]
+fn an_end_that_fails_ends_a_test(rt: HostRuntime) {
+    let Ok(task) = MockTask::new(&rt) else {
+        return;
+    };
+    let woken = AtomicU64::new(0);
+    let seen = Seen {
+        task: &task,
+        woken: &woken,
+    };
+    let ended = assert_woken_first(&rt, seen, |request| {
+        drop(request);
+        false
+    });
+    let _ = ended.report(&rt);
+}
+
+#[test]
 fn a_dropped_request_tells_its_ticket_before_its_question_goes(
     rt: HostRuntime,
 ) -> Result<(), Fail> {
@@ -144,9 +162,12 @@ fn a_dropped_future_wakes_its_tasks_before_its_runtime_goes(rt: HostRuntime) -> 
         woken: &woken,
     };
     let (_sender, mut future) = async_channel::<u8, _>(Late { seen }, rt.alloc())?;
-    for task in [&one, &one, &two] {
-        assert_eq!(rt; task.poll(&mut future), Poll::Pending);
-    }
+    let polled = (
+        one.poll(&mut future),
+        one.poll(&mut future),
+        two.poll(&mut future),
+    );
+    assert_eq!(rt; polled, (Poll::Pending, Poll::Pending, Poll::Pending));
     // The future keeps a waker of the first task, and the channel one of the second's.
     one.enter(|_| ());
     let before = one.is_woken();

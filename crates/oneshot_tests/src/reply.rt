@@ -14,14 +14,15 @@ use std::time::Duration;
 /// A text of 21 bytes.
 pub(crate) const TEXT: &str = "data from sync thread";
 
-pub(crate) type Ends<Rt> = (Request<String, Length>, Ticket<String, Length, Rt>);
+type Ends<Rt> = (Request<String, Length>, Ticket<String, Length, Rt>);
 
 /// A request for the length of `TEXT`.
 pub(crate) fn ask<Rt: Drop>(rt: Rt, alloc: Global) -> Result<Ends<Rt>, AllocError> {
     request(rt, alloc, String::from_str(alloc, TEXT)?).map_err(|_| AllocError)
 }
 
-/// Answers with the length of the text. Inner `Err`: the ticket was gone, and the reply came back.
+/// Answers with the length of the text. Inner `Err`: the ticket was gone, and the reply came back. Outer `Err`: out of
+/// memory, or the reply does not fit.
 pub(crate) fn answer(request: Request<String, Length>) -> Result<Result<(), Length>, AllocError> {
     let length = Length::of(request.question().clone()?);
     if !request.fits(&length) {
@@ -48,13 +49,12 @@ fn a_reply_is_taken_once(rt: HostRuntime) -> Result<(), Fail> {
         ),
         (TEXT, false, false)
     );
-    let answered = answer(request)?.is_ok();
-    assert_eq!(rt; (answered, ticket.is_closed()), (true, false));
+    let sent = (answer(request)?.is_ok(), ticket.is_closed());
     let taken = ticket.try_take().map(bytes_of);
     let again = ticket.try_take().map(bytes_of);
     assert_eq!(rt;
-        (taken, again, ticket.is_closed()),
-        (Ok(21), Err(TryRecvError::Disconnected), true)
+        (sent, taken, again, ticket.is_closed()),
+        ((true, false), Ok(21), Err(TryRecvError::Disconnected), true)
     );
     Ok(())
 }
@@ -63,11 +63,14 @@ fn a_reply_is_taken_once(rt: HostRuntime) -> Result<(), Fail> {
 fn an_answer_without_a_ticket_gives_the_reply_back(rt: HostRuntime) -> Result<(), Fail> {
     let (request, ticket) = ask((), rt.alloc())?;
     drop(ticket);
-    assert!(rt; request.is_cancelled());
+    let is_cancelled = request.is_cancelled();
     let Err(length) = answer(request)? else {
         return Err(Fail::new("an answer without a ticket"));
     };
-    assert_eq!(rt; (length.bytes(), length.question().as_str()), (21, TEXT));
+    assert_eq!(rt;
+        (is_cancelled, length.bytes(), length.question().as_str()),
+        (true, 21, TEXT)
+    );
     Ok(())
 }
 
@@ -105,7 +108,7 @@ fn a_request_that_is_there_has_no_reply_yet(rt: HostRuntime) -> Result<(), Fail>
 }
 
 #[test]
-fn a_reply_is_waited_for(rt: HostRuntime) -> Result<(), Fail> {
+fn a_wait_returns_a_reply_that_has_come(rt: HostRuntime) -> Result<(), Fail> {
     let (request, ticket) = ask(&rt, rt.alloc())?;
     assert!(rt; answer(request)?.is_ok());
     assert_eq!(rt; ticket.wait().map(bytes_of), Ok(21));

@@ -70,7 +70,7 @@ fn a_watch_is_awaited(rt: HostRuntime) -> Result<(), Fail> {
             drop(guard);
         },
     );
-    assert_eq!(rt; went?, 1, "it is ready before its guard goes");
+    assert_eq!(rt; went?, 1, "the watch is ready before its guard goes");
     Ok(())
 }
 
@@ -79,12 +79,12 @@ fn what_is_selected_beside_a_watch_comes_back(rt: HostRuntime) -> Result<(), Fai
     let (guard, watch) = watch((), rt.alloc())?;
     let selected = block_on(&rt, select(watch.into_future(), ready(7u8)))?;
     let Either::Right((number, mut gone)) = selected else {
-        return Err(Fail::new("a guard that is there is gone"));
+        return Err(Fail::new("the watch reports a guard as gone that is there"));
     };
     assert_eq!(rt; (number, gone.is_gone()), (7, false));
     drop(guard);
     let Either::Left(((), _)) = block_on(&rt, select(gone, ready(7u8)))? else {
-        return Err(Fail::new("a guard that is gone is there"));
+        return Err(Fail::new("the watch reports a guard as there that is gone"));
     };
     Ok(())
 }

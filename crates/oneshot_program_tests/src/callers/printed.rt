@@ -80,15 +80,13 @@ fn a_message_comes_back_and_its_lines_are_printed(rt: HostRuntime) -> Result<(),
     let [dropped, written, refused] = lines.as_slice() else {
         panic!(rt; "a line a move")
     };
-    assert_eq!(rt;
-        (dropped.as_str(), written.as_str(), refused.as_str()),
-        (
-            "1 R swap 3>2 = dropped",
-            "2 S write-message 2>2 m:NotSent>InCell",
-            "3 S add 2>3 m:InCell>InError = Err",
-        )
+    let entries = (dropped.as_str(), written.as_str(), refused.as_str());
+    let wanted = (
+        "1 R swap 3>2 = dropped",
+        "2 S write-message 2>2 m:NotSent>InCell",
+        "3 S add 2>3 m:InCell>InError = Err",
     );
-    assert!(rt; !run.block_freed());
+    assert_eq!(rt; (entries, run.block_freed()), (wanted, false));
     Ok(())
 }
 
@@ -125,4 +123,16 @@ fn assert_called(rt: &impl Abort, lines: &[String]) {
     for (line, called) in lines.iter().zip(&CALLED) {
         assert_eq!(rt; line.as_str(), *called);
     }
+}
+
+#[test]
+#[should_panic(expected = "right: \"3 S load 3>3 = false (closed)\"")]
+fn a_line_of_another_call_ends_a_test(rt: HostRuntime) {
+    let Ok(lines) = called_lines(
+        rt.alloc(),
+        "S drop\nR full closed try drop\nX rrsrrrrrrrrrr\n",
+    ) else {
+        return;
+    };
+    assert_called(&rt, lines.as_slice());
 }

@@ -65,7 +65,7 @@ fn a_rehearsal_has_an_entry_for_each_move(rt: HostRuntime) {
     };
     let moves = [Move::Sender; 3];
     match rehearsed(rt.alloc(), sender, receiver, &moves) {
-        Ok(trace) => assert!(rt; trace.entries().len() == 3),
-        Err(_) => assert!(rt; false),
+        Ok(trace) => assert_eq!(rt; trace.entries().len(), 3),
+        Err(_) => panic!(rt; "out of memory"),
     }
 }

@@ -9,7 +9,10 @@ fn a_divisor_is_awaited(rt: HostRuntime) -> Result<(), Fail> {
     // The search of 91 tries 2, 3, 4, 5, 6 and 7.
     for (number, divisor, tried) in [(91, 7, 6), (1_000, 2, 1)] {
         let searched = divisor_of(&rt, rt.alloc(), number)?;
-        assert_eq!(rt; (searched.found, searched.tried), (Ok(divisor), tried));
+        assert_eq!(rt;
+            (number, searched.found, searched.tried),
+            (number, Ok(divisor), tried)
+        );
     }
     Ok(())
 }
@@ -18,9 +21,12 @@ fn a_divisor_is_awaited(rt: HostRuntime) -> Result<(), Fail> {
 fn a_search_that_finds_none_drops_its_sender(rt: HostRuntime) -> Result<(), Fail> {
     // The search of 97 tries each number from 2 to 96.
     for (number, tried) in [(0, 0), (1, 0), (2, 0), (97, 95)] {
-        assert!(rt; least_divisor(number).is_none());
+        let has_none = least_divisor(number).is_none();
         let searched = divisor_of(&rt, rt.alloc(), number)?;
-        assert_eq!(rt; (searched.found, searched.tried), (Err(RecvError), tried));
+        assert_eq!(rt;
+            (number, has_none, searched.found, searched.tried),
+            (number, true, Err(RecvError), tried)
+        );
     }
     Ok(())
 }

@@ -33,7 +33,8 @@ fn without_a_worker_each_answer_is_late(rt: HostRuntime) -> Result<(), Fail> {
     let done = pooled(&rt, rt.alloc(), 0, &[3, 5], moment())?;
     assert_eq!(rt; done.served, Some(0));
     for answer in done.answers {
-        assert_eq!(rt; answer.square, Err(Unanswered::Late));
+        let root = answer.root;
+        assert_eq!(rt; (root, answer.square), (root, Err(Unanswered::Late)));
     }
     Ok(())
 }
@@ -52,7 +53,8 @@ fn a_closed_queue_loses_its_requests(rt: HostRuntime) -> Result<(), Fail> {
     drop(taken);
     let all = ask_all(&rt, rt.alloc(), &requests, &[3, 5])?;
     for answer in answers_to(rt.alloc(), all, minute())? {
-        assert_eq!(rt; answer.square, Err(Unanswered::Lost));
+        let root = answer.root;
+        assert_eq!(rt; (root, answer.square), (root, Err(Unanswered::Lost)));
     }
     Ok(())
 }
@@ -74,7 +76,8 @@ fn a_worker_counts_the_replies_that_were_waited_for(rt: HostRuntime) -> Result<(
     work(&rt, &taken, report);
     assert_eq!(rt; (sent, reported.recv_timeout(minute())), (true, Ok(2)));
     for answer in answers_to(rt.alloc(), all, minute())? {
-        assert!(rt; answer.square.is_ok());
+        let root = answer.root;
+        assert_eq!(rt; (root, answer.square.is_ok()), (root, true));
     }
     Ok(())
 }

@@ -5,11 +5,20 @@ use oneshot_patterns::shutdown::{Ending, Order, Report, watched, work_until};
 use std::process::Abort;
 use std::test::Fail;
 
-/// Fails unless a worker with three rounds makes so many of them, and ends so.
+/// Fails unless a worker of three rounds makes `rounds` of them and ends by `ending`.
 fn assert_works(rt: &impl Abort, stop: &mut Receiver<(), ()>, rounds: u64, ending: Ending) {
     let mut made = 0u64;
     let report = work_until(stop, 3, || made = made.wrapping_add(1));
     assert_eq!(rt; (report, made), (Report { rounds, ending }, rounds));
+}
+
+#[test]
+#[should_panic(expected = "right: (Report { rounds: 2, ending: Done }, 2)")]
+fn a_worker_that_makes_another_round_ends_a_test(rt: HostRuntime) {
+    let Ok((_sender, mut stop)) = channel((), rt.alloc()) else {
+        return;
+    };
+    assert_works(&rt, &mut stop, 2, Ending::Done);
 }
 
 #[test]

@@ -7,8 +7,7 @@ use std::test::Fail;
 #[test]
 fn a_result_is_waited_for(rt: HostRuntime) -> Result<(), Fail> {
     let awaited = awaited(&rt, rt.alloc(), || 7u8)?;
-    assert_eq!(rt; awaited.received, Ok(7));
-    assert_eq!(rt; awaited.unclaimed, None);
+    assert_eq!(rt; (awaited.received, awaited.unclaimed), (Ok(7), None));
     Ok(())
 }
 

@@ -38,7 +38,8 @@ fn each_ticket_has_its_square(rt: HostRuntime) -> Result<(), Fail> {
 #[test]
 fn without_a_worker_each_square_is_late(rt: HostRuntime) -> Result<(), Fail> {
     for answer in asked(&rt, rt.alloc(), 0, &[3, 5], moment())? {
-        assert_eq!(rt; answer.square, Err(Unanswered::Late));
+        let root = answer.root;
+        assert_eq!(rt; (root, answer.square), (root, Err(Unanswered::Late)));
     }
     Ok(())
 }

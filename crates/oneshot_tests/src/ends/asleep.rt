@@ -60,8 +60,8 @@ fn time_of_hints(rt: &impl CpuClock) -> io::Result<Duration> {
 }
 
 /// Whether a receive from a sender that sleeps for `lingers` milliseconds uses at least the processor time of `HINTS`
-/// hints, and its reply. The hints are given beside it, since other programs slow both. A clock that stands still reads
-/// both as the same.
+/// hints, and its reply. The hints are timed just before the receive, since other programs slow both. If the clock
+/// stood still, both times would be zero, and the receive would count as one that spins.
 fn spins<R: Threads + Wait + Clock + CpuClock + RandomSource + AllocGlobal + Sync>(
     rt: &R,
     receives: &[ReceiverCall],
@@ -115,7 +115,7 @@ fn spinning_waits<R: Threads + Wait + Clock + CpuClock + RandomSource + AllocGlo
 #[test]
 fn a_receive_spins_little_before_it_sleeps(rt: HostRuntime) -> Result<(), Fail> {
     assert_spins(&rt)?;
-    // These read no clock that could count their spins.
+    // `recv` and `recv_ref` read no clock, so `assert_spins` cannot count their spins.
     for receives in ["recv", "ref try ref"] {
         let calls = script::<ReceiverCall>(rt.alloc(), receives)?;
         let spinning = spinning_waits(&rt, &calls)?;

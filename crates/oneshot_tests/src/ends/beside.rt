@@ -5,7 +5,7 @@ use oneshot_calls::{
 };
 use oneshot_channel::{Receiver, Sender, channel};
 use std::alloc::AllocGlobal;
-use std::process::Abort;
+use std::process::{Abort, Termination};
 use std::random::RandomSource;
 use std::sync::atomic::{AtomicU64, Ordering};
 use std::sync::{Arc, Wait};
@@ -41,9 +41,9 @@ pub(super) struct Pace {
 /// What the sender does before its act, once both threads are here.
 #[derive(Clone, Copy)]
 pub(super) enum Before {
-    /// It sleeps so long.
+    /// It sleeps for this duration.
     Sleep(Duration),
-    /// It makes so many loads.
+    /// It makes this number of loads.
     Load(u64),
 }
 
@@ -100,8 +100,8 @@ impl Pace {
     }
 }
 
-/// What the calls return: the first reply that has the message, or states that none comes. After it, a receive that
-/// gets one is an error.
+/// Makes the calls. Returns the first reply that has the message or states that none comes. Fails if a later receive
+/// returns a message.
 fn receive<R: Wait + Clock + RandomSource + AllocGlobal>(
     rt: &R,
     calls: &[ReceiverCall],
@@ -123,7 +123,7 @@ fn receive<R: Wait + Clock + RandomSource + AllocGlobal>(
     Ok(first)
 }
 
-/// The last reply of the calls, or `true` of a look that finds the receiver gone.
+/// Makes the calls, and returns the last reply. Stops at a look that finds the receiver gone.
 fn send(calls: &[SenderCall], sender: Sender<Arc<u64>>, message: Arc<u64>) -> Reply<Arc<u64>> {
     let mut sending = Sending::new(sender, Some(message));
     let mut last = Reply::Bare(Bare::Nothing);
@@ -224,8 +224,8 @@ fn assert_received(
     assert!(rt; Arc::strong_count(shared) == 1, "{calls:?}: kept");
 }
 
-/// Fails, since this is no outcome of a receive beside this call. A message that it sends has another owner.
-fn assert_without_message(
+/// Asserts an outcome that no receive beside `call` has, and so fails. A message that `call` sends has another owner.
+fn refuse_outcome(
     rt: &(impl Abort + AllocGlobal),
     call: SenderCall,
     waited: bool,
@@ -254,19 +254,33 @@ fn assert_without_message(
 #[test]
 #[should_panic(expected = "sends: [Drop], receives: [Recv] }: Err(Timeout)")]
 fn a_receive_that_runs_out_ends_a_test(rt: HostRuntime) {
-    assert_without_message(&rt, SenderCall::Drop, true, Bare::Dropped, Bare::Timeout);
+    refuse_outcome(&rt, SenderCall::Drop, true, Bare::Dropped, Bare::Timeout);
 }
 
 #[test]
 #[should_panic(expected = "sends: [Drop], receives: [Recv] }: dropped, waited: false")]
 fn a_receive_that_does_not_wait_ends_a_test(rt: HostRuntime) {
-    assert_without_message(&rt, SenderCall::Drop, false, Bare::Dropped, Bare::Ended);
+    refuse_outcome(&rt, SenderCall::Drop, false, Bare::Dropped, Bare::Ended);
 }
 
 #[test]
 #[should_panic(expected = "sends: [Send], receives: [Recv] }: Err, waited: true")]
 fn a_message_that_is_not_sent_ends_a_test(rt: HostRuntime) {
-    assert_without_message(&rt, SenderCall::Send, true, Bare::Refused, Bare::Ended);
+    refuse_outcome(&rt, SenderCall::Send, true, Bare::Refused, Bare::Ended);
+}
+
+#[test]
+#[should_panic(expected = "sends: [Drop], receives: [] }: ")]
+fn a_receiver_without_a_call_ends_a_test(rt: HostRuntime) {
+    let calls = Calls {
+        sends: &[SenderCall::Drop],
+        receives: &[],
+    };
+    let pace = Pace {
+        here: AtomicU64::new(0),
+        before: Before::Load(0),
+    };
+    let _ = assert_receives(&rt, calls, &pace).report(&rt);
 }
 
 /// Fails unless each receive of `WAITS` waits for the act of these calls.
@@ -286,6 +300,12 @@ fn assert_each_waits<
         assert_receives(rt, calls, &pace)?;
     }
     Ok(())
+}
+
+#[test]
+#[should_panic(expected = "sends: [], receives: [Recv] }: nothing")]
+fn a_wait_without_an_act_ends_a_test(rt: HostRuntime) {
+    let _ = assert_each_waits(&rt, &[]).report(&rt);
 }
 
 #[test]

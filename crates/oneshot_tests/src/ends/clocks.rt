@@ -5,7 +5,7 @@ use oneshot_channel::{Receiver, RecvError, RecvTimeoutError, Sender, channel};
 use std::alloc::{AllocError, AllocGlobal, Global};
 use std::cell::Cell;
 use std::io;
-use std::process::Abort;
+use std::process::{Abort, Termination};
 use std::sync::Wait;
 use std::test::Fail;
 use std::time::{Clock, Duration, Instant};
@@ -117,7 +117,7 @@ pub(crate) const TIMEOUTS: [(u64, &[u64], usize); 13] = [
     // The deadline is six. Six is not past it, even after the park; seven is, and eight is not read.
     (5, &[1, 7, 8], 2),
     (5, &[1, 6, 6, 7, 8], 4),
-    // So it is with a longer timeout.
+    // The same holds for longer timeouts.
     (SECOND, &[1, SECOND + 1, SECOND + 1, SECOND + 2, 0], 4),
     (
         2 * HOUR,
@@ -155,7 +155,7 @@ fn a_timeout_counts_from_one_reading(rt: HostRuntime) -> Result<(), Fail> {
 /// How often a receive spins before it sleeps.
 const SPINS: usize = 17;
 
-/// The most readings of a receive that times out after `SPINS` rounds that spin and one that sleeps.
+/// More readings than a receive makes that times out after `SPINS` rounds that spin and one that sleeps.
 const MOST: usize = SPINS + 5;
 
 /// A clock's readings: a nanosecond so many times, and then two seconds.
@@ -168,7 +168,7 @@ fn still_for(times: usize) -> [u64; MOST] {
 }
 
 /// A receive with a deadline.
-#[derive(Clone, Copy)]
+#[derive(Clone, Copy, Debug, PartialEq)]
 enum Limit {
     /// `recv_timeout`, which also reads the clock for its deadline.
     Timeout,
@@ -190,8 +190,8 @@ impl Limit {
         })
     }
 
-    /// How many readings a receive makes, by a clock on which its deadline is a second away in so many rounds, and is
-    /// then past. Fails unless it times out.
+    /// How many readings a receive makes after the one for its deadline. By this clock the deadline is a second away in
+    /// `rounds` rounds, and past in the next. Fails unless the receive times out.
     fn readings(
         self,
         rt: &(impl Wait + AllocGlobal + Abort),
@@ -203,11 +203,34 @@ impl Limit {
         };
         let readings = still_for(same);
         let clock = Written::new(rt, &readings);
-        assert_eq!(rt; self.receive(rt, &clock)?, Err(RecvTimeoutError::Timeout));
-        // That for the deadline.
+        let received = self.receive(rt, &clock)?;
+        assert_eq!(rt;
+            (self, rounds, received),
+            (self, rounds, Err(RecvTimeoutError::Timeout))
+        );
+        // A receive with a timeout makes one reading for its deadline.
         let first = same.saturating_sub(rounds);
         Ok(clock.made().saturating_sub(first))
     }
+}
+
+/// Fails unless a receive whose deadline is far in `rounds` rounds makes `wanted` readings after the one for its
+/// deadline.
+fn assert_readings(
+    rt: &(impl Wait + AllocGlobal + Abort),
+    limit: Limit,
+    rounds: usize,
+    wanted: usize,
+) -> Result<(), Fail> {
+    let made = limit.readings(rt, rounds)?;
+    assert_eq!(rt; (limit, rounds, made), (limit, rounds, wanted));
+    Ok(())
+}
+
+#[test]
+#[should_panic(expected = "right: (Deadline, 0, 2)")]
+fn another_count_of_readings_ends_a_test(rt: HostRuntime) {
+    let _ = assert_readings(&rt, Limit::Deadline, 0, 2).report(&rt);
 }
 
 /// Fails unless a receive with a far deadline spins seventeen times and then sleeps. A round that spins reads the clock
@@ -215,14 +238,14 @@ impl Limit {
 pub(super) fn assert_spins(rt: &(impl Wait + AllocGlobal + Abort)) -> Result<(), Fail> {
     for limit in [Limit::Timeout, Limit::Deadline] {
         for rounds in 0..=SPINS {
-            assert_eq!(rt; limit.readings(rt, rounds)?, rounds.saturating_add(1));
+            assert_readings(rt, limit, rounds, rounds.saturating_add(1))?;
         }
-        assert_eq!(rt; limit.readings(rt, SPINS + 1)?, SPINS + 3);
+        assert_readings(rt, limit, SPINS + 1, SPINS + 3)?;
     }
     Ok(())
 }
 
-/// The least time left, in nanoseconds, with which a receive spins.
+/// The least time left before its deadline, in nanoseconds, with which a receive spins.
 const FAR: u64 = 100_000_000;
 
 #[test]
@@ -260,11 +283,12 @@ fn a_clock_that_fails_hides_no_message(rt: HostRuntime) -> Result<(), Fail> {
 fn a_receive_without_a_deadline_reads_no_clock(rt: HostRuntime) -> Result<(), Fail> {
     let clock = Written::new(&rt, &[]);
     let (sender, mut receiver) = by_clock(&clock, rt.alloc())?;
-    let sent = sender.send(19).is_ok();
-    let received = (receiver.recv_ref(), receiver.recv_ref(), receiver.recv());
+    assert!(rt; sender.send(19).is_ok());
+    assert_eq!(rt; (receiver.recv_ref(), receiver.is_closed()), (Ok(19), true));
+    let received = (receiver.recv_ref(), receiver.recv());
     assert_eq!(rt;
-        (sent, received, clock.made()),
-        (true, (Ok(19), Err(RecvError), Err(RecvError)), 0)
+        (received, clock.made()),
+        ((Err(RecvError), Err(RecvError)), 0)
     );
     Ok(())
 }
@@ -314,7 +338,7 @@ fn a_receive_that_waits_reads_the_clock_few_times(rt: HostRuntime) -> Result<(),
     Ok(())
 }
 
-/// More readings than a receive with a far deadline makes: one for the sum, one before each of its
+/// More readings than a receive with a far deadline makes: one for the deadline, one before each of its
 /// seventeen spins, and a few before its sleep, in it and after it.
 const READINGS: u64 = 40;
 
@@ -331,7 +355,7 @@ fn a_receive_spins_few_times_before_it_sleeps(rt: HostRuntime) -> Result<(), Fai
     let (_sender, mut receiver) = channel::<u8, _>(&counting, rt.alloc())?;
     let far = receiver.recv_timeout(Duration::from_millis(150));
     let spins_few_times = counting.readings.replace(0) < READINGS;
-    // With less than a tenth of a second left it does not spin: it reads the clock for the sum, before its
+    // With less than a tenth of a second left it does not spin: it reads the clock for the deadline, before its
     // sleep, twice in it, and after it.
     let near = receiver.recv_timeout(Duration::from_millis(5));
     let does_not_spin = counting.readings.get() < SPINLESS;

@@ -3,7 +3,7 @@
 
 use super::lives::{DROPPED, OVER, RAW, READY, RECEIVED, TRIED, UNRECEIVED, live};
 use super::steps::read;
-use crate::pages::{grown_pages, resident_pages};
+use crate::pages::{grown_pages, reserved_pages, resident_pages};
 use crate::reply::{answer, ask};
 use crate::watches::cancelled;
 use std::alloc::{AllocError, Global};
@@ -20,6 +20,9 @@ const ROUNDS: u64 = 200_000;
 
 /// How many pages a test may grow by.
 const MOST_PAGES: u64 = 128;
+
+/// The most pages that a process reserves without a sanitizer: a terabyte, if a page has 4,096 bytes.
+const MOST_RESERVED: u64 = 1 << 28;
 
 /// How many pages the process grows by in `rounds` rounds, after a tenth as many.
 fn growth<F: FnMut() -> io::Result<()>>(
@@ -58,30 +61,52 @@ fn compares_memory(rt: &(impl Files + Print + AllocGlobal)) -> Result<bool, Fail
     Ok(compares)
 }
 
-/// Fails if each of many rounds leaks some memory. `number` is that of the life in them.
+/// Fails if each of many rounds leaks some memory. `about` names what a round does.
 fn assert_leaves_nothing<F: FnMut() -> io::Result<()>>(
     rt: &(impl Files + AllocGlobal + Abort),
-    number: usize,
+    about: &str,
     round: F,
 ) -> Result<(), Fail>
     requires { F.IsAlwaysCallable round }
 {
     let grown = growth(rt, ROUNDS, round)?;
-    assert!(rt; grown <= MOST_PAGES, "life {number}: {grown} pages");
+    assert!(rt; grown <= MOST_PAGES, "{about}: {grown} pages");
     Ok(())
 }
 
-/// Fails if a channel leaks some memory each time that it lives one of these lives.
+/// Lives each of these lives many times, or once where no leak would be seen. Fails if a channel leaks some memory each
+/// time, or if a call returns something else than its line states.
 fn assert_none_leaks(
     rt: &(impl Files + Print + Wait + Clock + AllocGlobal + RandomSource + Abort),
     lives: &[&str],
 ) -> Result<(), Fail> {
-    if compares_memory(rt)? {
-        for (number, text) in lives.iter().enumerate() {
-            let life = read(rt.alloc(), text)?;
-            assert_leaves_nothing(rt, number, || live(rt, &life))?;
+    let compares = compares_memory(rt)?;
+    for text in lives {
+        let life = read(rt.alloc(), text)?;
+        if compares {
+            assert_leaves_nothing(rt, life.text, || live(rt, &life))?;
+        } else {
+            live(rt, &life)?;
         }
     }
+    Ok(())
+}
+
+#[test]
+#[should_panic(expected = "S send = Err | gone full: Ok")]
+fn a_life_that_goes_otherwise_ends_a_test(rt: HostRuntime) {
+    let lives = [
+        "channel\nS drop = dropped | gone closed",
+        "channel\nS send = Err | gone full",
+    ];
+    let _ = assert_none_leaks(&rt, &lives).report(&rt);
+}
+
+#[test]
+fn a_process_without_a_sanitizer_looks_for_leaks(rt: HostRuntime) -> Result<(), Fail> {
+    let compares = compares_memory(&rt)?;
+    let reserved = reserved_pages(&rt)?;
+    assert!(rt; compares || reserved > MOST_RESERVED, "{reserved} pages");
     Ok(())
 }
 
@@ -106,7 +131,7 @@ fn a_future_that_was_ready_leaves_nothing(rt: HostRuntime) -> Result<(), Fail> {
 }
 
 #[test]
-fn a_future_that_is_looked_at_leaves_nothing(rt: HostRuntime) -> Result<(), Fail> {
+fn a_future_that_is_tried_leaves_nothing(rt: HostRuntime) -> Result<(), Fail> {
     assert_none_leaks(&rt, TRIED)
 }
 
@@ -170,20 +195,25 @@ fn end_cancellable_requests(alloc: Global) -> Result<(), AllocError> {
 #[test]
 fn requests_leave_nothing(rt: HostRuntime) -> Result<(), Fail> {
     if compares_memory(&rt)? {
-        assert_leaves_nothing(&rt, 0, || Ok(end_requests(rt.alloc())?))?;
-        assert_leaves_nothing(&rt, 1, || Ok(end_cancellable_requests(rt.alloc())?))?;
+        assert_leaves_nothing(&rt, "requests", || Ok(end_requests(rt.alloc())?))?;
+        return assert_leaves_nothing(
+            &rt,
+            "cancellable requests",
+            || Ok(end_cancellable_requests(rt.alloc())?),
+        );
     }
-    Ok(())
+    end_requests(rt.alloc())?;
+    Ok(end_cancellable_requests(rt.alloc())?)
 }
 
 // Keeps what each round allocates.
 fn keep_each_round(rt: &(impl Files + AllocGlobal + Abort)) -> Result<(), Fail> {
     let mut kept = Vec::new(rt.alloc());
-    assert_leaves_nothing(rt, 3, || Ok(kept.push([0u64; 8])?))
+    assert_leaves_nothing(rt, "kept", || Ok(kept.push([0u64; 8])?))
 }
 
 #[test]
-#[should_panic(expected = "life 3: ")]
+#[should_panic(expected = "kept: ")]
 fn a_round_that_leaves_something_ends_a_test(rt: HostRuntime) {
     let _ = keep_each_round(&rt).report(&rt);
 }

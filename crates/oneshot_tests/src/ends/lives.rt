@@ -356,7 +356,7 @@ fn assert_steps<W: Wait + Clock + Drop>(
 }
 
 #[test]
-fn the_looks_of_both_ends_and_what_they_own(rt: HostRuntime) -> Result<(), Fail> {
+fn each_step_of_a_life_returns_what_its_line_states(rt: HostRuntime) -> Result<(), Fail> {
     for lives in LIVES {
         for life in *lives {
             assert_looks(&rt, life)?;
@@ -384,6 +384,18 @@ fn assert_gets_a_message(
         R {receive} = Err(Disconnected) | gone closed"
     )?;
     assert_looks(rt, &sent)
+}
+
+#[test]
+#[should_panic(expected = "R ref = Err(Disconnected) | gone closed: Err(RecvError)")]
+fn a_receive_with_another_error_ends_a_test(rt: HostRuntime) {
+    let _ = assert_gets_a_message(&rt, "ref").report(&rt);
+}
+
+#[test]
+#[should_panic(expected = "R ref = Err(Disconnected) | gone closed: Err(RecvError)")]
+fn a_drop_with_another_error_ends_a_test(rt: HostRuntime) {
+    let _ = assert_finds_a_drop(&rt, "ref").report(&rt);
 }
 
 /// Fails unless this timed receive finds that the sender was dropped before it.
@@ -424,7 +436,7 @@ fn a_shorter_reply_ends_a_test(rt: HostRuntime) {
 }
 
 #[test]
-fn a_line_with_an_unknown_word_is_no_step(rt: HostRuntime) -> Result<(), Fail> {
+fn a_line_that_is_no_step_is_reported(rt: HostRuntime) -> Result<(), Fail> {
     for line in [
         "R tri = Ok(19) | gone open",
         "R try Ok(19) | gone open",

@@ -1,10 +1,10 @@
-//! Deadlines that pass during the sender's send or drop. After a lost wakeup, or with one wait more than
-//! wakes, this test would not end.
+//! Deadlines that pass during the sender's send or drop. If a wakeup were lost, or the receive parked once more than it
+//! is woken, this test would not end.
 
 use super::beside::{Before, Calls, Pace, assert_receives};
 use oneshot_calls::{Ask, ReceiverCall, SenderCall};
 use std::io;
-use std::process::Abort;
+use std::process::{Abort, Termination};
 use std::random::RandomSource;
 use std::sync::Wait;
 use std::sync::atomic::AtomicU64;
@@ -14,7 +14,7 @@ use std::time::{Clock, CpuClock, Duration, Instant};
 
 const ROUNDS: u64 = 20_000;
 
-/// How many rounds each act is made even on a busy machine. If it cannot, the test exceeds its time limit.
+/// The fewest rounds of each act. If a busy machine is too slow for them, the test exceeds its time limit.
 const FEWEST_ROUNDS: u64 = 1_000;
 
 /// For how many seconds each act is made in more than the fewest rounds.
@@ -30,7 +30,7 @@ fn is_enough(rt: &impl Clock, first: Instant, round: u64) -> io::Result<bool> {
     Ok(is_late && round >= FEWEST_ROUNDS)
 }
 
-/// Makes an act beside a receive whose limit is up to six microseconds. The sender makes up to 399 loads.
+/// Makes an act, after up to 399 loads, beside a receive with a limit of up to six microseconds.
 fn assert_round<R: Threads + Wait + Clock + CpuClock + RandomSource + AllocGlobal + Abort + Sync>(
     rt: &R,
     sends: &[SenderCall],
@@ -51,6 +51,12 @@ fn assert_round<R: Threads + Wait + Clock + CpuClock + RandomSource + AllocGloba
         before: Before::Load(round % 400),
     };
     assert_receives(rt, calls, &pace)
+}
+
+#[test]
+#[should_panic(expected = "sends: [], receives: [Ask(")]
+fn a_round_without_an_act_ends_a_test(rt: HostRuntime) {
+    let _ = assert_round(&rt, &[], 0).report(&rt);
 }
 
 #[test]

@@ -15,7 +15,7 @@ use std::test::Fail;
 use std::thread;
 use std::time::{Clock, Duration};
 
-/// More polls than a receiver has that is polled when its task is woken.
+/// The most polls of a receiver that is polled only when its task is woken.
 const MOST_POLLS: u64 = 10;
 
 /// How often a test is tried whose receiver may be polled while its sender is about to finish.
@@ -137,7 +137,7 @@ fn two_joined_receivers_are_polled_as_often_as_they_are_woken(rt: HostRuntime) -
             return Ok(());
         }
     }
-    Err(Fail::new("they are polled without end"))
+    Err(Fail::new("two joined receivers are polled too often in each try"))
 }
 
 /// Polls a receiver once on another thread, and returns it.
@@ -155,8 +155,8 @@ fn polled_there<T: Send + Drop, Rt: Send + Drop>(
 #[test]
 fn two_threads_and_two_executors_poll_one_receiver(rt: HostRuntime) -> Result<(), Fail> {
     let (sender, receiver) = async_channel(&rt, rt.alloc())?;
-    let receiver = polled_there(&rt, receiver).expect(&rt, "it is given back");
-    let receiver = polled_there(&rt, receiver).expect(&rt, "it is given back");
+    let receiver = polled_there(&rt, receiver).expect(&rt, "the first poll returns the receiver");
+    let receiver = polled_there(&rt, receiver).expect(&rt, "the second poll returns the receiver");
     let (received, sent) = thread::join(
         &rt,
         || block_on(&rt, receiver),

@@ -14,10 +14,10 @@ use std::test::Fail;
 use std::time::Clock;
 
 /// The calls of a future before its sender acts, and how often that act wakes each task.
-pub(crate) type Waits = (&'static str, [u64; 2]);
+type Waits = (&'static str, [u64; 2]);
 
-/// In no row does one task poll twice and then the other: that drops the spare copy of the first, which
-/// wakes it.
+/// In no row does one task poll twice and then the other: that poll would drop the first task's spare copy, whose drop
+/// wakes the first task.
 pub(crate) const WAITS: &[Waits; 7] = &[
     ("poll1 poll1 poll1 poll1 poll1", [1, 0]),
     ("poll1 poll2 poll1 poll2 poll1 poll2", [0, 1]),
@@ -238,6 +238,12 @@ fn assert_a_drop_wakes(
     let (sender, future) = async_channel::<u64, _>(rt, rt.alloc())?;
     let future = Receiving::of_future(future);
     waited_for(rt, waits, future, || drop(sender), "Err(Disconnected)")
+}
+
+#[test]
+#[should_panic(expected = "at step 2 of poll1")]
+fn a_drop_that_wakes_another_task_ends_a_test(rt: HostRuntime) {
+    let _ = assert_a_drop_wakes(&rt, &("poll1", [0, 1])).report(&rt);
 }
 
 #[test]

@@ -21,13 +21,14 @@ type Ends<Rt> = (
 );
 
 /// A request for the length of `TEXT`.
-pub fn ask<Rt: Drop>(rt: Rt, alloc: Global) -> Result<Ends<Rt>, AllocError> {
+pub(crate) fn ask<Rt: Drop>(rt: Rt, alloc: Global) -> Result<Ends<Rt>, AllocError> {
     let question = String::from_str(alloc, TEXT)?;
     cancellable_request(rt, (), alloc, question).map_err(|_| AllocError)
 }
 
-/// Answers with the length of the text. Inner `Err`: the ticket was gone, and the reply came back.
-pub fn answer<Rt: Drop>(
+/// Answers with the length of the text. Inner `Err`: the ticket was gone, and the reply came back. Outer `Err`: out of
+/// memory, or the reply does not fit.
+pub(crate) fn answer<Rt: Drop>(
     request: CancellableRequest<String, Length, Rt>,
 ) -> Result<Result<(), Length>, AllocError> {
     let length = Length::of(request.question().clone()?);
@@ -52,16 +53,18 @@ fn a_reply_is_taken_once(rt: HostRuntime) -> Result<(), Fail> {
         (TEXT, false, false)
     );
     let early = ticket.try_take().map(bytes_of);
-    let answered = answer(request)?.is_ok();
-    assert_eq!(rt;
-        (early, answered, ticket.is_closed()),
-        (Err(TryRecvError::Empty), true, false)
-    );
+    let sent = (answer(request)?.is_ok(), ticket.is_closed());
     let taken = ticket.try_take().map(bytes_of);
     let again = ticket.try_take().map(bytes_of);
     assert_eq!(rt;
-        (taken, again, ticket.is_closed()),
-        (Ok(21), Err(TryRecvError::Disconnected), true)
+        (early, sent, taken, again, ticket.is_closed()),
+        (
+            Err(TryRecvError::Empty),
+            (true, false),
+            Ok(21),
+            Err(TryRecvError::Disconnected),
+            true
+        )
     );
     Ok(())
 }
@@ -95,7 +98,7 @@ fn a_ticket_waits_to_the_nanosecond(rt: HostRuntime) -> Result<(), Fail> {
 }
 
 #[test]
-fn a_reply_is_waited_for(rt: HostRuntime) -> Result<(), Fail> {
+fn a_wait_returns_a_reply_that_has_come(rt: HostRuntime) -> Result<(), Fail> {
     let (request, ticket) = ask(&rt, rt.alloc())?;
     let (request, mut watch) = request.into_parts();
     assert!(rt; crate::reply::answer(request)?.is_ok());
@@ -118,18 +121,16 @@ fn a_reply_is_awaited(rt: HostRuntime) -> Result<(), Fail> {
     let task = MockTask::new(&rt)?;
     let (request, ticket) = ask((), rt.alloc())?;
     let mut reply = ticket.into_future();
-    for _ in 0..2 {
-        assert!(rt; matches!(task.poll(&mut reply), Poll::Pending));
-    }
-    let early = reply.try_recv().map(bytes_of);
-    assert_eq!(rt;
-        (early, reply.has_message(), task.is_woken()),
-        (Err(TryRecvError::Empty), false, false)
-    );
+    let first = matches!(task.poll(&mut reply), Poll::Pending);
+    let second = matches!(task.poll(&mut reply), Poll::Pending);
+    assert_eq!(rt; (first, second), (true, true));
+    let tried = reply.try_recv().map(bytes_of);
+    let before = (reply.has_message(), task.is_woken());
     let answered = answer(request)?.is_ok();
+    let after = (reply.has_message(), task.is_woken());
     assert_eq!(rt;
-        (answered, reply.has_message(), task.is_woken()),
-        (true, true, true)
+        (tried, before, answered, after),
+        (Err(TryRecvError::Empty), (false, false), true, (true, true))
     );
     let Poll::Ready(received) = task.poll(&mut reply) else {
         return Err(Fail::new("a reply that was sent is not there"));
@@ -143,21 +144,25 @@ fn a_dropped_request_closes_the_awaited_reply(rt: HostRuntime) -> Result<(), Fai
     let task = MockTask::new(&rt)?;
     let (request, ticket) = ask((), rt.alloc())?;
     let mut reply = ticket.into_future();
-    for _ in 0..2 {
-        assert!(rt; matches!(task.poll(&mut reply), Poll::Pending));
-    }
+    let first = matches!(task.poll(&mut reply), Poll::Pending);
+    let second = matches!(task.poll(&mut reply), Poll::Pending);
+    assert_eq!(rt; (first, second), (true, true));
     let before = (reply.is_closed(), reply.has_message());
     drop(request);
     let after = (reply.is_closed(), reply.has_message());
-    assert_eq!(rt; (before, after), ((false, false), (true, false)));
     let is_lost = matches!(task.poll(&mut reply), Poll::Ready(Err(RecvError)));
-    assert_eq!(rt; (is_lost, task.is_woken()), (true, false));
+    assert_eq!(rt;
+        (before, after, is_lost, task.is_woken()),
+        ((false, false), (true, false), true, false)
+    );
     assert_eq!(rt; block_on(&rt, reply)?.map(bytes_of), Err(RecvError));
     Ok(())
 }
 
 #[test]
-fn a_ticket_that_goes_is_told_and_its_reply_comes_back(rt: HostRuntime) -> Result<(), Fail> {
+fn a_dropped_ticket_cancels_its_request_and_the_reply_comes_back(
+    rt: HostRuntime,
+) -> Result<(), Fail> {
     let (request, ticket) = ask((), rt.alloc())?;
     drop(ticket);
     let is_cancelled = request.is_cancelled();
@@ -169,17 +174,18 @@ fn a_ticket_that_goes_is_told_and_its_reply_comes_back(rt: HostRuntime) -> Resul
 }
 
 #[test]
-fn a_ticket_that_goes_is_told_to_the_watch(rt: HostRuntime) -> Result<(), Fail> {
+fn a_watch_is_told_of_a_dropped_ticket(rt: HostRuntime) -> Result<(), Fail> {
     let (request, ticket) = ask((), rt.alloc())?;
     let (request, mut watch) = request.into_parts();
-    assert_eq!(rt; (watch.is_gone(), request.is_cancelled()), (false, false));
+    let before = (watch.is_gone(), request.is_cancelled());
     drop(ticket);
-    assert_eq!(rt; (watch.is_gone(), request.is_cancelled()), (true, true));
+    let after = (watch.is_gone(), request.is_cancelled());
+    assert_eq!(rt; (before, after), ((false, false), (true, true)));
     Ok(())
 }
 
 #[test]
-fn an_awaited_reply_that_goes_is_told(rt: HostRuntime) -> Result<(), Fail> {
+fn a_watch_is_told_of_a_dropped_awaited_reply(rt: HostRuntime) -> Result<(), Fail> {
     let (request, ticket) = ask((), rt.alloc())?;
     let (request, mut watch) = request.into_parts();
     let reply = ticket.into_future();
@@ -193,7 +199,7 @@ fn an_awaited_reply_that_goes_is_told(rt: HostRuntime) -> Result<(), Fail> {
 }
 
 #[test]
-fn a_ticket_that_is_asked_is_there(rt: HostRuntime) -> Result<(), Fail> {
+fn a_watch_is_told_nothing_while_its_ticket_is_called(rt: HostRuntime) -> Result<(), Fail> {
     let (request, mut ticket) = ask(&rt, rt.alloc())?;
     let (request, mut watch) = request.into_parts();
     let tried = ticket.try_take().map(bytes_of);
@@ -208,14 +214,17 @@ fn a_ticket_that_is_asked_is_there(rt: HostRuntime) -> Result<(), Fail> {
     );
     let answered = crate::reply::answer(request)?.is_ok();
     let taken = ticket.try_take().map(bytes_of);
-    assert_eq!(rt; (answered, taken, watch.is_gone()), (true, Ok(21), false));
+    let was_gone = watch.is_gone();
     drop(ticket);
-    assert!(rt; watch.is_gone());
+    assert_eq!(rt;
+        (answered, taken, was_gone, watch.is_gone()),
+        (true, Ok(21), false, true)
+    );
     Ok(())
 }
 
 #[test]
-fn an_awaited_reply_that_is_asked_is_there(rt: HostRuntime) -> Result<(), Fail> {
+fn a_watch_is_told_nothing_while_the_awaited_reply_is_called(rt: HostRuntime) -> Result<(), Fail> {
     let task = MockTask::new(&rt)?;
     let (request, ticket) = ask((), rt.alloc())?;
     let (request, mut watch) = request.into_parts();
@@ -230,17 +239,17 @@ fn an_awaited_reply_that_is_asked_is_there(rt: HostRuntime) -> Result<(), Fail> 
     let full = (reply.is_closed(), reply.has_message());
     let received = reply.try_recv().map(bytes_of);
     let closed = (reply.is_closed(), reply.has_message());
-    assert_eq!(rt;
-        (answered, full, received, closed, watch.is_gone()),
-        (true, (false, true), Ok(21), (true, false), false)
-    );
+    let was_gone = watch.is_gone();
     drop(reply);
-    assert!(rt; watch.is_gone());
+    assert_eq!(rt;
+        (answered, full, received, closed, was_gone, watch.is_gone()),
+        (true, (false, true), Ok(21), (true, false), false, true)
+    );
     Ok(())
 }
 
 #[test]
-fn a_ticket_that_waits_is_there(rt: HostRuntime) -> Result<(), Fail> {
+fn a_watch_is_told_nothing_while_its_ticket_waits(rt: HostRuntime) -> Result<(), Fail> {
     let (request, ticket) = ask(&rt, rt.alloc())?;
     let (request, mut watch) = request.into_parts();
     let (reply, was_there) = join(

@@ -1,5 +1,5 @@
-//! What one end of a cancellable request drops finds the other end told: the ticket's runtime finds the request
-//! cancelled, and the guard still there; the runtime of the server's watch finds the reply, or that none will come.
+//! The order of drops. The drop of a ticket first cancels the request, then drops the ticket's runtime, and last tells
+//! the server. An answer or the drop of a request tells the ticket before it drops the runtime of the server's watch.
 
 use super::cancelled::answer;
 use crate::reply::TEXT;
@@ -74,8 +74,7 @@ fn ticket_of<'a>(
     Ok(ticket)
 }
 
-/// Stops the test unless the request was cancelled before the ticket's runtime was dropped, and the server told only
-/// after it.
+/// Fails unless the request was cancelled before the ticket's runtime was dropped, and the server told only after it.
 fn assert_told_last(rt: &impl Abort, server: &Server) {
     assert_eq!(rt;
         (
@@ -85,6 +84,12 @@ fn assert_told_last(rt: &impl Abort, server: &Server) {
         ),
         (Some(true), Some(false), Some(true))
     );
+}
+
+#[test]
+#[should_panic(expected = "left: (None, None, None)")]
+fn a_server_without_a_ticket_ends_a_test(rt: HostRuntime) {
+    assert_told_last(&rt, &Server::new());
 }
 
 #[test]
@@ -105,7 +110,8 @@ fn an_awaited_reply_is_gone_before_its_server_is_told(rt: HostRuntime) -> Result
     Ok(())
 }
 
-/// A client's ticket, what it received before the runtime of the server's watch was dropped, and whether it was closed.
+/// A client's ticket, and what a look and a try found before the watch's runtime was dropped: whether the ticket was
+/// closed, and whether a reply was received.
 #[derive(Drop)]
 struct Client {
     ticket: Cell<Option<CancellableTicket<String, Length, ()>>>,

@@ -2,6 +2,7 @@
 
 use super::MOMENT;
 use crate::ends::clocks::{DEADLINES, TIMEOUTS, Written, instant_at};
+use oneshot_calls::{is_overdue, limit};
 use oneshot_watch::{Watch, watch};
 use std::process::Abort;
 use std::sync::Wait;
@@ -9,15 +10,11 @@ use std::test::Fail;
 use std::thread::{Threads, join, sleep};
 use std::time::{Clock, Duration, Instant};
 
-/// The longest wait for a guard that goes, in seconds.
-const LIMIT: u64 = 10;
-
-/// What no such wait may last, in seconds.
-const MOST: u64 = 5;
-
-/// Whether a wait finds the guard gone that another thread drops meanwhile. Fails if it lasts too long.
+/// Whether a wait finds the guard gone that another thread drops meanwhile. Fails if it lasts too long. `call` names
+/// the wait.
 fn sees_it_go<R: Threads + Wait + Clock + AllocGlobal + Abort + Sync, F>(
     rt: &R,
+    call: &str,
     wait: F,
 ) -> Result<bool, Fail>
 where
@@ -34,23 +31,25 @@ where
             drop(guard);
         },
     );
-    assert!(rt; start.elapsed(rt)? < Duration::from_secs(MOST));
+    let took = start.elapsed(rt)?;
+    assert!(rt; !is_overdue(took), "{call} took {took:?}");
     Ok(gone)
 }
 
 #[test]
 fn a_wait_ends_once_the_guard_is_gone(rt: HostRuntime) -> Result<(), Fail> {
-    let waited = sees_it_go(&rt, |mut watch| {
+    let waited = sees_it_go(&rt, "wait", |mut watch| {
         watch.wait();
         watch.is_gone()
     })?;
-    let timed = sees_it_go(
-        &rt,
-        |mut watch| watch.wait_timeout(Duration::from_secs(LIMIT)),
-    )?;
-    let deadline = Instant::now(&rt)?.checked_add(Duration::from_secs(LIMIT));
+    let timed = sees_it_go(&rt, "wait_timeout", |mut watch| watch.wait_timeout(limit()))?;
+    let deadline = Instant::now(&rt)?.checked_add(limit());
     let deadline = deadline.expect(&rt, "an instant in ten seconds");
-    let until = sees_it_go(&rt, |mut watch| watch.wait_deadline(deadline))?;
+    let until = sees_it_go(
+        &rt,
+        "wait_deadline",
+        |mut watch| watch.wait_deadline(deadline),
+    )?;
     assert_eq!(rt; (waited, timed, until), (true, true, true));
     Ok(())
 }
