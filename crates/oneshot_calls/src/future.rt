@@ -1,6 +1,6 @@
 //! Makes the calls of a future, which tasks poll.
 
-use crate::limits::{LOOKS, pass_time};
+use crate::limits::{TRIES, pass_time};
 use crate::reply::{Bare, Reply};
 use crate::words::{Ask, ReceiverCall, Task};
 use futures::executor::block_on;
@@ -109,7 +109,7 @@ fn poll_until<T: Drop, Rt: Drop, P: Promise<T>>(
     tasks: Option<&Tasks>,
     future: &mut AsyncReceiver<T, Rt, P>,
 ) -> Reply<T> {
-    for looks in 0..LOOKS {
+    for looks in 0..TRIES {
         let reply = poll(tasks, Task::One, future);
         if !matches!(reply, Reply::Bare(Bare::Pending)) {
             return reply;

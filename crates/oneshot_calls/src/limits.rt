@@ -9,7 +9,7 @@ pub fn limit() -> Duration {
     Duration::from_secs(10)
 }
 
-/// Whether a receive took longer than any that is woken: a wake takes microseconds, and on a busy machine not
+/// Whether a receive took so long that nothing can have woken it: a wake takes microseconds, and on a busy machine not
 /// seconds. A receive that nothing wakes takes all of its limit.
 pub fn is_overdue(took: Duration) -> bool {
     took >= Duration::from_secs(5)
@@ -25,15 +25,15 @@ pub(crate) fn far() -> Duration {
     Duration::from_secs(3_600)
 }
 
-/// More looks than are made before the sender acts: some ten seconds of them.
-pub(crate) const LOOKS: u64 = 20_000_000;
+/// More tries or polls than are made before the sender acts. They take some ten seconds.
+pub(crate) const TRIES: u64 = 20_000_000;
 
-/// How many looks are made without a yield, before those that yield first.
-const QUICK_LOOKS: u64 = 100;
+/// After how many tries a thread spins. After each later one it yields.
+const QUICK_TRIES: u64 = 100;
 
-/// Passes the time after so many looks.
-pub(crate) fn pass_time(looks: u64) {
-    if looks < QUICK_LOOKS {
+/// Spins or yields after the try or poll with this number, counted from 0.
+pub(crate) fn pass_time(number: u64) {
+    if number < QUICK_TRIES {
         spin_loop();
     } else {
         yield_now();

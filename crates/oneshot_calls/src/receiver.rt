@@ -44,7 +44,8 @@ impl<T: Drop, E: Receives<T>> Receiving<T, E> {
         self.receiver.is_some()
     }
 
-    /// Makes the calls in their order, as `make` does. Returns the last reply, and drops what is left.
+    /// Makes the calls in their order, as `make` does. Returns the reply of the last call that was made, and drops what
+    /// is left.
     pub fn make_all<R: Wait + Clock + RandomSource + AllocGlobal>(
         mut self,
         rt: &R,

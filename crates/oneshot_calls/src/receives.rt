@@ -1,6 +1,6 @@
 //! The receivers that a script may be of.
 
-use crate::limits::{LOOKS, far, pass_time, short};
+use crate::limits::{TRIES, far, pass_time, short};
 use crate::reply::{Bare, Reply};
 use crate::words::Ask;
 use oneshot_channel::reply::{Answer, Asked, Ticket};
@@ -8,7 +8,7 @@ use oneshot_channel::{AsyncReceiver, Promise, Receiver, TryRecvError};
 use std::sync::Wait;
 use std::time::{Clock, Duration, Instant};
 
-/// A receiver of some kind. One that has no raw value stays an end.
+/// A receiver, or a ticket, which has no raw value.
 pub trait Receives<T>: Drop + Sized {
     /// The runtime of its receives that block.
     type Rt: Wait + Clock + Drop;
@@ -24,7 +24,7 @@ pub trait Receives<T>: Drop + Sized {
     /// The receiver as a future.
     fn into_future(self) -> AsyncReceiver<T, Self::Rt, Self::About>;
 
-    /// The receiver as a raw value, and back.
+    /// Makes the receiver a raw value and a receiver again. Returns a ticket unchanged.
     fn there_and_back(self) -> Self;
 
     /// Drops the receiver's raw value.
@@ -44,7 +44,7 @@ impl<T: Drop, W: Wait + Clock + Drop, P: Promise<T>> Receives<T> for Receiver<T,
             Ask::Tries => try_until(self),
             Ask::Ref => Reply::received(self.recv_ref()),
             Ask::Deadline(time) => receive_until(self, later(rt, time)),
-            Ask::PastDeadline => receive_until(self, an_hour_ago(rt)),
+            Ask::PastDeadline => receive_until(self, long_ago(rt)),
             Ask::Timeout(time) => Reply::timed(self.recv_timeout(time)),
         }
     }
@@ -67,7 +67,7 @@ impl<T: Drop, W: Wait + Clock + Drop, P: Promise<T>> Receives<T> for Receiver<T,
 }
 
 fn try_until<T: Drop, W: Drop, P: Promise<T>>(receiver: &mut Receiver<T, W, P>) -> Reply<T> {
-    for looks in 0..LOOKS {
+    for looks in 0..TRIES {
         let tried = receiver.try_recv();
         if !matches!(tried, Err(TryRecvError::Empty)) {
             return Reply::tried(tried);
@@ -77,7 +77,7 @@ fn try_until<T: Drop, W: Drop, P: Promise<T>>(receiver: &mut Receiver<T, W, P>) 
     Reply::Bare(Bare::Empty)
 }
 
-/// Makes no call where there is no such instant.
+/// Makes no call if there is no deadline.
 fn receive_until<T: Drop, W: Wait + Clock + Drop, P: Promise<T>>(
     receiver: &mut Receiver<T, W, P>,
     deadline: Option<Instant>,
@@ -88,16 +88,16 @@ fn receive_until<T: Drop, W: Wait + Clock + Drop, P: Promise<T>>(
     }
 }
 
-/// The instant so long from now. `None`: the clock cannot be read.
+/// The instant `time` after now. `None`: the clock cannot be read, or no instant is so late.
 fn later<R: Clock>(rt: &R, time: Duration) -> Option<Instant> {
     Instant::now(rt).ok()?.checked_add(time)
 }
 
-fn an_hour_ago<R: Clock>(rt: &R) -> Option<Instant> {
+fn long_ago<R: Clock>(rt: &R) -> Option<Instant> {
     let now = Instant::now(rt).ok()?;
-    // On a machine that was started within the hour no instant is so long ago.
-    let long_ago = now.checked_sub(far()).or(now.checked_sub(short()));
-    Some(long_ago.unwrap_or(now))
+    // On a machine that started within the hour, the clock has no instant an hour ago.
+    let earlier = now.checked_sub(far()).or(now.checked_sub(short()));
+    Some(earlier.unwrap_or(now))
 }
 
 impl<Q: Eq + Drop, A: Answer<Q> + Drop, W: Wait + Clock + Drop> Receives<A> for Ticket<Q, A, W> {

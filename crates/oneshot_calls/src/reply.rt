@@ -51,7 +51,7 @@ pub enum Bare {
     Raw,
     /// `block_on` failed: out of memory.
     NotAwaited,
-    /// The end has no such call, and none was made.
+    /// No call was made: the end is gone, or has no such call.
     Nothing,
 }
 
@@ -159,7 +159,7 @@ impl<T: Numbered + Drop> Reply<T> {
     }
 }
 
-/// A text, of which a value that is written takes off its own.
+/// What is left of a text. Each write removes its own text from the front, and fails if the front differs.
 #[derive(Drop)]
 struct Rest<'a>(&'a str);
 

@@ -33,7 +33,7 @@ impl<T: Numbered + Drop, S: Sends<T>> Sending<T, S> {
         self.error.is_some()
     }
 
-    /// Makes the calls in their order. Returns the last reply, and drops what is left.
+    /// Makes the calls in their order. Returns the reply of the last call that was made, and drops what is left.
     pub fn make_all(mut self, calls: &[SenderCall]) -> Reply<T> {
         let mut last = Reply::Bare(Bare::Nothing);
         for call in calls {

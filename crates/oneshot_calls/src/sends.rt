@@ -4,7 +4,7 @@ use crate::numbered::Numbered;
 use oneshot_channel::reply::{Answer, Asked, Request};
 use oneshot_channel::{Promise, SendError, Sender};
 
-/// A sender of some kind. One that has no raw value stays an end.
+/// A sender, or a request, which has no raw value.
 pub trait Sends<T>: Drop + Sized {
     /// The error of a refused message.
     type Refused: Refuses<T>;

@@ -58,9 +58,9 @@ pub enum Ask {
     /// `try_recv` until it does not return `Empty`.
     Tries,
     Ref,
-    /// `recv_deadline`, so long after now.
+    /// `recv_deadline` with an instant this long after now.
     Deadline(Duration),
-    /// `recv_deadline`, an hour ago if the clock goes back so far, and else now.
+    /// `recv_deadline` with an instant an hour ago; if the clock has none, 50 milliseconds ago; if it has none, now.
     PastDeadline,
     /// `recv_timeout`.
     Timeout(Duration),
@@ -116,7 +116,7 @@ impl Word for ReceiverCall {
     }
 }
 
-// `deadline` and `timeout` last 50 milliseconds, or what stands before them.
+// `deadline` and `timeout` alone last 50 milliseconds. A prefix names another time.
 fn ask_of(word: &str) -> Option<Ask> {
     let call = match word {
         "closed" => Ask::Closed,
@@ -133,7 +133,7 @@ fn ask_of(word: &str) -> Option<Ask> {
         "zerotimeout" => Ask::Timeout(Duration::ZERO),
         "longtimeout" => Ask::Timeout(limit()),
         "fartimeout" => Ask::Timeout(far()),
-        // No instant is that late.
+        // Its deadline is later than every instant.
         "forever" => Ask::Timeout(Duration::MAX),
         _ => return None,
     };

@@ -70,8 +70,8 @@ registered_if _ _ = None
 abbrev pub registered_by : {T H K P : Type 0} → Side T (AnyWaker H K) P → Option K
 registered_by side = registered_if (is_registered (receiver_at side.log)) side.handed
 
--- After a poll, its task has been asked to be polled again, perhaps before this poll, or its future is registered by a
--- copy for this task.
+-- After a poll: somebody has asked for this task to be polled again, perhaps before this poll, or the future is
+-- registered by a copy of this task's waker.
 abbrev pub WillBeWoken : {T P : Type 0} → Context → FutureView T P → Type 0
 WillBeWoken cx future = (cx.is_woken ≡ true) ⊎ IsSomeAnd future.registered (IsCopyFor cx)
 

@@ -21,11 +21,12 @@ use std::marker::Model;
 /// about to wake its task.
 ///
 /// It owns the message, and the sender's share of the channel's memory. Dropping it drops both; `into_inner` returns
-/// the message and drops the share. None of its calls waits or allocates, and the drop blocks only if that of the
+/// the message and drops the share. No call of it allocates or blocks, except that the drop blocks if that of the
 /// message does.
 ///
 /// It may go to another thread where `T` is `Send`. Several threads may share a `&` to it where `T` is also `Sync`.
-/// Its text is "sending on a closed channel", and does not depend on the message.
+///
+/// `Display` writes "sending on a closed channel", and `Debug` writes "SendError(_)". Neither shows the message.
 ///
 /// A contract sees the message, the channel, and the sender's log of operations on the word.
 pub struct SendError<T, P: Promise<T> = ()> {
@@ -78,7 +79,7 @@ impl<T, P: Promise<T>> SendError<T, P> {
 }
 
 impl<T: Drop, P: Promise<T>> SendError<T, P> {
-    /// Returns the message, and releases the error's share of the channel's memory.
+    /// Returns the message, and drops the sender's share of the channel's memory. It never blocks.
     pub fn into_inner(self) -> T
         ensures { result ≡ self.message }
     {

@@ -27,16 +27,18 @@ use oneshot_word::Promise;
 use std::cell::Cell;
 use std::marker::{Model, PhantomData};
 
-/// A future that receives one message from its sender. `Receiver::into_future`, `async_channel` and
-/// `async_channel_for` make it. Its output is `Ok` with the message, or `Err` if the
-/// sender was dropped without a message or the message was received before.
+/// A future that receives one message from its sender. `Receiver::into_future`, `Ticket::into_future`, `async_channel`
+/// and `async_channel_for` make it. Its output is `Ok` with the message, or `Err` if the sender was dropped without a
+/// message or the message was received before.
 ///
-/// Dropping it also drops its `rt`, and a message that was sent and not received. A later `send` is
-/// refused: its error owns the message. So is a `send` that is about to finish, since the drop does not wait for
-/// the sender: it blocks only if the drop of the message or of `rt` does.
+/// Dropping it drops a message that was sent and not received, and drops `rt` last. A later `send` is refused: its
+/// error owns the message. A `send` that has found the future waiting is refused too, unless it finishes first. The
+/// drop does not wait for the sender: it blocks only if the drop of the message or of `rt` does.
 ///
-/// The drop wakes the task of each copy of a waker that the future still has, since the drop of a waker wakes its task.
-/// To wake a task, it takes the lock of the queue of that task's executor, as `Sender::send` does.
+/// A copy is a clone of a task's waker, and the drop of a waker wakes its task. A future has at most two copies, also
+/// after it was ready, and one of them may be in the channel. The drop of the future drops them, and so wakes their
+/// tasks. A copy that the sender has taken is left to the sender. Waking a task takes locks, as the drop of a `Sender`
+/// does.
 ///
 /// A contract sees the future's channel, with the value that it is about, the log of the future's
 /// operations on the word, which determines whether it is closed, the source at which its polls register, the
@@ -97,7 +99,7 @@ impl<T, Rt, P: Promise<T>> AsyncReceiver<T, Rt, P> {
     }
 
     /// Whether the sender is gone without a message, or the message was received; if so, every later poll and
-    /// `try_recv` returns an error. It performs one load and never blocks.
+    /// `try_recv` returns an error. It performs one load and never blocks. No clause states what it returns.
     ///
     /// `true` stays true. `false` may be out of date at once, since the sender may be dropped.
     pub fn is_closed(&self) -> bool {
@@ -105,9 +107,10 @@ impl<T, Rt, P: Promise<T>> AsyncReceiver<T, Rt, P> {
     }
 
     /// Whether the message is there; if so, the next poll or `try_recv` returns it. It performs one load and never
-    /// blocks.
+    /// blocks. No clause states what it returns.
     ///
-    /// `true` stays true until a receive. `false` may be out of date at once, since the sender may send.
+    /// `true` stays true until a poll or a `try_recv` takes the message. `false` may be out of date at once, since the
+    /// sender may send.
     pub fn has_message(&self) -> bool {
         self.ground.has_message()
     }
@@ -121,10 +124,10 @@ impl<T: Drop, Rt: Drop, P: Promise<T>> AsyncReceiver<T, Rt, P> {
     /// (`same_waker`). The law `no_wakeup_is_lost` states that a later `send`, or the sender's drop, then uses it.
     ///
     /// - `Ok`: the message. The future is closed from then on.
-    /// - `Err(Empty)`: nothing was sent yet, or a `send` or the sender's drop is under way. The future stays
-    ///   open, and registers no task.
+    /// - `Err(Empty)`: when the call checked, no message had come and the sender was not gone, or the sender was about
+    ///   to finish. The future stays open. The call registers no task.
     /// - `Err(Disconnected)`: the sender is gone without a message, or the message was received before.
-    ///   Every later call and poll fails in the same way.
+    ///   Every later `try_recv` and poll fails in the same way.
     pub fn try_recv(&mut self) -> Result<T, TryRecvError>
         ensures channel { self.new.channel ≡ self.old.channel }
         ensures source { self.new.source ≡ self.old.source }
@@ -151,17 +154,19 @@ impl<T: Drop, Rt: Drop, P: Promise<T>> Future for AsyncReceiver<T, Rt, P> {
     // The message keeps the promise, also after an executor or a combinator has passed it on.
     ghost gives = { λ r answer. IfOk answer (λ message. P.keeps r.channel.about message) };
 
-    /// Polls once, for the task of `cx`. It never blocks and does not allocate: no poll waits for the sender. If it
-    /// makes a new copy of a waker, it may drop one of another task that the future kept, which wakes that task.
+    /// Polls once, for the task of `cx`. It does not wait for the sender and does not allocate. If it makes a new copy
+    /// of a waker, it may drop a copy of another task that the future kept. That drop wakes the other task, and takes
+    /// locks, as the drop of a `Sender` does.
     ///
     /// The sender wakes at most one task: that of the last poll which left its waker in the channel.
     ///
     /// - `Ready(Ok)`: the message.
     /// - `Ready(Err)`: the sender was dropped without a message, or the message was received before. A
     ///   future that was ready returns this from then on.
-    /// - `Pending`: no message yet. A registered waker wakes the task, or the task has asked for
-    ///   another poll (clause `woken`, which leaves a context out that could make no waker). The task asks for one if
-    ///   no copy of its waker could be made, or if the sender is about to finish. The law `no_wakeup_is_lost` states
+    /// - `Pending`: no message yet. A registered waker wakes the task, or the task has asked for another poll (clause
+    ///   `woken`). If the context could make no waker, `woken` states nothing of the waker. The task asks for another
+    ///   poll if no copy of its waker could be made, and at each poll while the sender is about to finish: it has found
+    ///   the future waiting, and its last operation on the word is still to come. The law `no_wakeup_is_lost` states
     ///   that a sender which has ended has used the registered waker.
     fn poll(&mut self, cx: &mut Context<'_>) -> Poll<Result<T, RecvError>>
         ensures value { IfReady result (λ answer. IfOk answer (λ message. P.keeps self.old.channel.about message)) }

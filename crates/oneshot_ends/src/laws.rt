@@ -134,16 +134,15 @@ pub fn a_token_is_given_once_and_then_taken()
 /// - if the sender found its receiver waiting, it has given the token of the parker whose half the receiver gave;
 /// - a receiver that sleeps on a parker has that parker's token there;
 /// - from a future that waits, the sender took no thread's waker;
-/// - if the sender found a future waiting, and the future gave a copy for a poll's task last (clause `woken` of the
-///   poll), it has used a copy for this task;
-/// - it has used the waker of a future that is registered.
+/// - if the sender found a future waiting, and the copy that the future gave last is for a poll's task, the sender has
+///   used a copy for this task (clause `woken` of the poll names the task);
+/// - if a future is registered, the sender has used its waker.
 ///
 /// No contract states what the use of a task's waker does: `wake` of `src/waker.rt` calls `Waker::wake`.
 ///
-/// What the law requires of the sender (`HasEnded`), the functions require that release it. What it requires of a
-/// receiver that sleeps (`SleepsOn`), `park` of its ground and of its parker's half require. That the rules of both
-/// tables allow what the ends and the halves show (`AtOneMoment`, `ParkerAt`) holds between any two steps as
-/// `atomic_table` promises, and no clause states it.
+/// The functions that release a sender require `HasEnded` of it. `park` and `park_until` of a parking half require
+/// `SleepsOn` of the receiver. `AtOneMoment` and `ParkerAt` state that the rules of both tables allow what the ends and
+/// the halves show. `atomic_table` promises this between any two steps, and no clause states it.
 pub fn no_wakeup_is_lost<T, P: Promise<T>>()
     ensures tokens { EndedSendersGaveTokens P.keeps }
     ensures sleepers { NoSleeperIsForgotten P.keeps }

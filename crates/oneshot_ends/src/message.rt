@@ -11,15 +11,16 @@ ghost use Rattle.oneshot_ends.specs.Woken.{HasEnded, phase};
 use crate::ground::{ChannelReceiver, SenderBackend};
 use oneshot_word::Promise;
 
-/// What a channel carries: any value that may be dropped. A function that knows no more of its messages than this can
-/// neither drop nor forget one, or an end. Every type that is `Drop` has it already: write no `impl`.
+/// The bound of a message in `send`, `recv`, and the `answer` and `wait` of requests. Every type that is `Drop`
+/// implements it: write no `impl`. A function that knows only `T: Message` can neither drop nor forget a `T`, or an end
+/// of its channel.
 pub trait Message: Sized {
-    /// Releases a sender after a `send` to a receiver that was there.
+    /// Releases the sender of a `send` that returns `Ok`. `ground` is that sender's. Programs do not call this.
     fn sent<P: Promise<Self>>(ground: SenderBackend<Self, P>)
         requires ended { HasEnded sending ground }
         requires sent { phase ground ≡ finished sending };
 
-    /// Releases a receiver after its last receive, which leaves no message to it.
+    /// Releases the receiver of a `recv`. `ground` is that receiver's, without a message. Programs do not call this.
     fn received<P: Promise<Self>>(ground: ChannelReceiver<Self, P>)
         requires found { FoundTheEnd (receiver_of (state_of ground).log) }
         requires freed { ground.message ≡ away };

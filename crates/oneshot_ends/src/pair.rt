@@ -17,7 +17,7 @@ use std::alloc::{AllocError, Global};
 /// Pass `()` for a receiver that never blocks. `alloc` is the allocator of the channel's memory; no later
 /// call allocates.
 ///
-/// `Err`: an allocation failed. Then nothing is kept, and `rt` is dropped.
+/// `Err`: an allocation failed. Then nothing stays allocated, and `rt` is dropped.
 pub fn channel<T: Send + Drop, Rt: Drop>(
     rt: Rt,
     alloc: Global,
@@ -40,9 +40,9 @@ pub fn channel<T: Send + Drop, Rt: Drop>(
     ))
 }
 
-/// Makes a channel whose messages keep a promise about `about`: `Sender::send_kept` requires it of its
-/// message, and each receive guarantees it of the message that it returns. The channel stores nothing of
-/// `about`, and runs as one of `channel` does.
+/// Makes a channel with a promise: a relation `P` between each message and the value `about`. `Sender::send_kept`
+/// requires it of its message, and each receive guarantees it of the message that it returns. The channel stores
+/// nothing of `about`, and runs as one of `channel` does.
 ///
 /// `rt`, `alloc` and `Err` are as in `channel`.
 pub fn channel_for<T: Send + Drop, Rt: Drop, P: Promise<T>>(

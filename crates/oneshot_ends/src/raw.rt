@@ -10,10 +10,11 @@ use std::marker::Model;
 /// An opaque sender, which `Sender::into_raw` makes and `Sender::from_raw` turns back. The Rust crate has a pointer
 /// here.
 ///
-/// Dropping it drops the sender: it wakes a waiting receiver, and no message comes. The drop never blocks. To wake a
-/// task, it takes the lock of the queue of that task's executor, as `send` does.
+/// Dropping it drops the sender: it wakes a waiting receiver, and no message comes. The drop does not wait for the
+/// receiver. Waking a task takes locks, as the drop of a `Sender` does.
 ///
-/// A contract sees it as the sender that it owns. It may go to another thread where `T` is `Send`.
+/// A contract sees it as the sender that it owns. It may go to another thread where `T` is `Send`. Several threads may
+/// share a `&` to it where `T` is also `Sync`.
 pub struct RawSender<T, P: Promise<T> = ()> {
     sender: Sender<T, P>,
 }

@@ -31,9 +31,9 @@ use std::time::{Clock, Duration, Instant};
 
 /// Receives one message from its sender. `channel` and `channel_for` make it.
 ///
-/// Dropping it also drops its `rt`, and a message that was sent and not received. A later `send` is
-/// refused: its error owns the message. The drop does not wait for the sender: it blocks only if the drop of the
-/// message or of `rt` does.
+/// Dropping it drops a message that was sent and not received, and drops `rt` last. A later `send` is refused: its
+/// error owns the message. The drop does not wait for the sender: it blocks only if the drop of the message or of
+/// `rt` does.
 ///
 /// The receives that block (`recv`, `recv_ref`, `recv_deadline`, `recv_timeout`) need `Rt: Wait + Clock`.
 /// The other calls accept any `Rt: Drop`, such as `()`.
@@ -95,7 +95,7 @@ impl<T, Rt, P: Promise<T>> Receiver<T, Rt, P> {
     }
 
     /// Whether the sender is gone without a message, or the message was received; if so, every later
-    /// receive returns an error. It performs one load and never blocks.
+    /// receive returns an error. It performs one load and never blocks. No clause states what it returns.
     ///
     /// `true` stays true. `false` may be out of date at once, since the sender may be dropped.
     pub fn is_closed(&self) -> bool {
@@ -103,7 +103,7 @@ impl<T, Rt, P: Promise<T>> Receiver<T, Rt, P> {
     }
 
     /// Whether the message is there; if so, the next receive returns it. It performs one load and never
-    /// blocks.
+    /// blocks. No clause states what it returns.
     ///
     /// `true` stays true until a receive. `false` may be out of date at once, since the sender may send.
     pub fn has_message(&self) -> bool {
@@ -115,7 +115,7 @@ impl<T: Drop, Rt: Drop, P: Promise<T>> Receiver<T, Rt, P> {
     /// Receives the message if it is there. It never blocks and does not allocate.
     ///
     /// - `Ok`: the message. The receiver is closed from then on.
-    /// - `Err(Empty)`: no message yet. The sender is there, and may be in its `send` or its drop. The receiver
+    /// - `Err(Empty)`: when the call checked, no message had come, and the sender was not gone. The receiver
     ///   stays open.
     /// - `Err(Disconnected)`: the sender is gone without a message, or the message was received before.
     ///   Every later receive fails in the same way.
@@ -136,7 +136,7 @@ impl<T: Drop, Rt: Drop, P: Promise<T>> Receiver<T, Rt, P> {
     /// Turns the receiver into a future, which a task can poll. It performs no operation on the word, never
     /// blocks and does not allocate. The receiver's parker is dropped.
     ///
-    /// The future keeps `rt`, and drops it when it is dropped. No call turns a future back into a receiver.
+    /// The future keeps `rt`. Its drop drops `rt`. No call turns a future back into a receiver.
     pub fn into_future(self) -> AsyncReceiver<T, Rt, P>
         ensures channel { result.channel ≡ self.channel }
         ensures log { result.log ≡ self.log }
@@ -157,8 +157,8 @@ impl<T: Drop, Rt: Drop, P: Promise<T>> Receiver<T, Rt, P> {
 impl<T: Drop, Rt: Wait + Clock + Drop, P: Promise<T>> Receiver<T, Rt, P> {
     /// Blocks until the message is there or will never come. It does not allocate.
     ///
-    /// It spins some microseconds before it sleeps. It blocks forever if the sender is neither used nor dropped, for
-    /// example because this thread still holds it.
+    /// Before it sleeps, it yields once and spins some microseconds. It blocks forever if the sender is neither used
+    /// nor dropped, for example because this thread still holds it.
     ///
     /// - `Ok`: the message.
     /// - `Err`: the sender is gone without a message, or the message was received before.
@@ -188,11 +188,11 @@ impl<T: Drop, Rt: Wait + Clock + Drop, P: Promise<T>> Receiver<T, Rt, P> {
     ///   Every later receive fails in the same way.
     ///
     /// A clock that reads `deadline` itself is not past it. A clock that fails counts as past every
-    /// deadline: a rule of this port. Past the deadline the call still waits for a sender that has found
-    /// this receiver waiting and is in its `send` or its drop, as in the Rust crate. Past the deadline it sleeps
-    /// only for such a sender.
+    /// deadline: a rule of this port. Past the deadline the call waits only for a sender that has found this
+    /// receiver waiting and is in its `send` or its drop, as in the Rust crate. No clause names `deadline`.
     ///
-    /// It spins before it sleeps, as `recv_ref` does, but only while at least 100 ms are left.
+    /// With at least 100 ms left it spins before it sleeps, as `recv_ref` does, and with less it sleeps at once. Past
+    /// the deadline it spins again before it sleeps.
     pub fn recv_deadline(&mut self, deadline: Instant) -> Result<T, RecvTimeoutError>
         ensures channel { self.new.channel ≡ self.old.channel }
         ensures run { ReceiverGrew T RecvDeadline self.old.log self.new.log (timed_reply result) }
@@ -211,9 +211,9 @@ impl<T: Drop, Rt: Wait + Clock + Drop, P: Promise<T>> Receiver<T, Rt, P> {
     /// Blocks as `recv_deadline` does, until more than `timeout` has passed by the runtime's clock. It does
     /// not allocate.
     ///
-    /// The results are those of `recv_deadline`. If no instant can hold the sum of now and `timeout`, the
-    /// call blocks as `recv_ref` does and never returns `Timeout`. If the clock fails, the deadline is over
-    /// at once.
+    /// The results are those of `recv_deadline`. `timeout` may be zero: a message that is there is received. If no
+    /// instant can hold the sum of now and `timeout`, the call blocks as `recv_ref` does and never returns `Timeout`,
+    /// as in the Rust crate. If the clock fails, the deadline is over at once. No clause names `timeout`.
     pub fn recv_timeout(&mut self, timeout: Duration) -> Result<T, RecvTimeoutError>
         ensures channel { self.new.channel ≡ self.old.channel }
         ensures run { ReceiverGrew T (RecvTimeout true) self.old.log self.new.log (timed_reply result) }
@@ -252,8 +252,8 @@ impl<T: Message, Rt: Wait + Clock + Drop, P: Promise<T>> Receiver<T, Rt, P> {
     /// - `Ok`: the message.
     /// - `Err`: the sender is gone without a message, or the message was received before.
     ///
-    /// It spins some microseconds before it sleeps. It blocks forever if the sender is neither used nor dropped, for
-    /// example because this thread still holds it.
+    /// Before it sleeps, it yields once and spins some microseconds. It blocks forever if the sender is neither used
+    /// nor dropped, for example because this thread still holds it.
     pub fn recv(self) -> Result<T, RecvError>
         ensures stays_closed { IsClosed self.log → IsErr result }
         ensures promise { IfOk result (λ message. P.keeps self.channel.about message) }

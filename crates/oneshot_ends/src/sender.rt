@@ -19,11 +19,12 @@ use std::marker::Model;
 
 /// Sends one message to its receiver. `channel`, `channel_for`, `async_channel` and `async_channel_for` make it.
 ///
-/// Dropping it without a `send` wakes a waiting receiver, and no message comes. The drop never blocks. To wake a task,
-/// it takes the lock of the queue of that task's executor, as `send` does.
+/// Dropping it without a `send` wakes a waiting receiver, and no message comes. The drop does not wait for the receiver
+/// and does not allocate. To wake a task, it takes the lock of the queue of that task's executor, and of each queue in
+/// which that queue is nested. While another thread has such a lock, it tries again and yields.
 ///
-/// A contract sees the sender's channel, with the value that it is about, and the log of the sender's
-/// operations on the word, which is empty until its one call.
+/// A contract sees the sender's channel, with the value that the channel is about, and the log of the sender's
+/// operations on the word, the atomic number that both ends share. The log is empty until the sender's one call.
 ///
 /// `P` is the promise of a channel of `channel_for`. `Sender<T>` is the sender of a channel without one.
 ///
@@ -55,7 +56,8 @@ impl<T, P: Promise<T>> Sender<T, P> {
         }
     }
 
-    /// Whether the receiver is gone; if so, a `send` is refused. It performs one load and never blocks.
+    /// Whether the receiver is gone; if so, a `send` is refused. It performs one load and never blocks. No clause
+    /// states what it returns.
     ///
     /// `true` stays true. `false` may be out of date at once, since the receiver may be dropped.
     pub fn is_closed(&self) -> bool {
@@ -64,13 +66,13 @@ impl<T, P: Promise<T>> Sender<T, P> {
 }
 
 impl<T: Message> Sender<T> {
-    /// Sends `message`, and wakes a waiting receiver. It never blocks and does not allocate.
-    /// Waking a task takes the lock of its executor's queue (docs/TRUST.md of Hekotumi).
+    /// Sends `message`, and wakes a waiting receiver. It does not wait for the receiver and does not allocate.
+    /// Waking a task takes locks, as the drop of a `Sender` does (docs/TRUST.md of Hekotumi).
     ///
     /// - `Ok`: the receiver was there. If the receiver is dropped before it receives the message, its drop drops the
     ///   message.
     /// - `Err`: the receiver was gone, or was a future that was dropped while `send` was about to wake its
-    ///   task. The error owns the message.
+    ///   task. In the second case `send` still wakes that task. The error owns the message.
     pub fn send(self, message: T) -> Result<(), SendError<T>>
         ensures message { IfErr result (λ error. error.message ≡ message) }
         ensures channel { IfErr result (λ error. error.channel ≡ self.channel) }

@@ -1,13 +1,14 @@
-//! Why `recv`, `recv_ref` or a future has no message.
+//! Why a receive without a limit, or a future, has no message.
 
 use std::error::Error;
 use std::fmt;
 use std::fmt::{Display, Formatter};
 
-/// Why `recv`, `recv_ref` or a future has no message: none will ever come.
+/// Why `recv` or `recv_ref` of a receiver, `wait` of a ticket, or a future has no message: none will ever come.
 ///
-/// The sender was dropped without sending, or this receiver received its message before. The Rust crate has
-/// the same reasons.
+/// The sender was dropped without sending, or the message was received before. The Rust crate has the same reasons.
+///
+/// `Display` writes "receiving on a closed channel".
 #[derive(Clone, Copy, Debug, Eq, Hash, PartialEq)]
 pub struct RecvError;
 

@@ -1,12 +1,13 @@
-//! Why `recv_deadline` or `recv_timeout` has no message.
+//! Why a receive with a limit has no message.
 
 use std::error::Error;
 use std::fmt;
 use std::fmt::{Display, Formatter};
 
-/// Why `recv_deadline` or `recv_timeout` has no message.
+/// Why `recv_deadline` or `recv_timeout` of a receiver, or `wait_for` of a ticket, has no message.
 ///
-/// The two reasons are those of the Rust crate.
+/// The two reasons are those of the Rust crate. `Display` writes "timed out waiting on channel" for `Timeout`, and
+/// "channel is empty and sending half is closed" for `Disconnected`.
 #[derive(Clone, Copy, Debug, Eq, Hash, PartialEq)]
 pub enum RecvTimeoutError {
     /// The deadline was over, and when the call last checked, the sender was there and had sent nothing. The receiver

@@ -1,12 +1,13 @@
-//! Why `try_recv` has no message.
+//! Why a receive that does not wait has no message.
 
 use std::error::Error;
 use std::fmt;
 use std::fmt::{Display, Formatter};
 
-/// Why `try_recv` has no message.
+/// Why `try_recv` of a receiver or a future, or `try_take` of a ticket, has no message.
 ///
-/// The two reasons are those of the Rust crate.
+/// The two reasons are those of the Rust crate. `Display` writes "receiving on an empty channel" for `Empty`, and
+/// "receiving on a closed channel" for `Disconnected`.
 #[derive(Clone, Copy, Debug, Eq, Hash, PartialEq)]
 pub enum TryRecvError {
     /// When the call checked, the sender was there and had sent nothing; or, for a future, the sender was about to

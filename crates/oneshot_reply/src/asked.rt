@@ -5,7 +5,7 @@ ghost use Rattle.std.specs.Prelude.{◌≡◌, true};
 use crate::answer::Answer;
 use oneshot_ends::Promise;
 
-/// The value that the channel of a request is about. Every reply names a question equal to it.
+/// The value that the channel of a request is about. Every reply names a question equal to `question`.
 #[derive(Drop)]
 pub struct Asked<Q> {
     /// The question that the request was made with.

@@ -9,13 +9,14 @@ use std::marker::Model;
 
 /// A question, with the sender of its reply.
 ///
-/// Dropping it unanswered drops that sender, so that a waiting ticket is woken and returns an error, and then the
-/// question. The drop does not wait for the ticket: it blocks only if the drop of the question does. To wake a task, it
-/// takes the lock of the queue of that task's executor.
+/// Dropping it unanswered drops that sender: a waiting ticket is woken, and returns an error. Then it drops the
+/// question. The drop does not wait for the ticket: it blocks only if the drop of the question does. Waking a task
+/// takes locks, as the drop of a `Sender` does.
 ///
-/// It may be sent to another thread if `Q` and `A` are `Send`.
+/// It may go to another thread where `Q` and `A` are `Send`. Several threads may share a `&` to it where `Q` and `A`
+/// are also `Sync`, and call `is_cancelled`.
 ///
-/// In contracts a request is its sender's value (`SenderView`), whose `channel.about` has the question.
+/// A contract sees it as its sender (`SenderView`), whose `channel.about` has the question.
 #[derive(Drop)]
 pub struct Request<Q: Eq, A: Answer<Q>> {
     // First: the drop tells the ticket before it drops the question, which may be code of the caller.
@@ -58,8 +59,10 @@ impl<Q: Eq, A: Answer<Q>> Request<Q, A> {
         *reply.question() == self.asked.question
     }
 
-    /// Returns whether the ticket was dropped, or the future that it became. Then an answer is refused. It is one
-    /// load and never blocks.
+    /// Whether the ticket, or the future that it became, is gone; if so, an `answer` is refused. It performs one load
+    /// and never blocks. No clause states what it returns.
+    ///
+    /// `true` stays true. `false` may be out of date at once, since the ticket may be dropped.
     pub fn is_cancelled(&self) -> bool {
         self.reply.is_closed()
     }
@@ -67,12 +70,11 @@ impl<Q: Eq, A: Answer<Q>> Request<Q, A> {
 
 impl<Q: Eq + Drop, A: Answer<Q> + Message> Request<Q, A> {
     /// Answers with a reply that fits, wakes a waiting ticket, and drops the question. It does not allocate, and
-    /// blocks only if the drop of the question does. To wake a task, it takes the lock of the queue of that task's
-    /// executor, as `send` does.
+    /// blocks only if the drop of the question does. Waking a task takes locks, as the drop of a `Sender` does.
     ///
-    /// - `Ok`: the ticket was there. It may still be dropped before it takes the reply.
+    /// - `Ok`: the ticket was there. If the ticket is dropped before it receives the reply, its drop drops the reply.
     /// - `Err`: the ticket was dropped, or the future that it became was dropped, perhaps while `answer` was about
-    ///   to wake its task. The error has the reply.
+    ///   to wake its task. The error owns the reply.
     pub fn answer(self, reply: A) -> Result<(), SendError<A, Asked<Q>>>
         requires fits { Q.eq (A.asked reply) self.channel.about.question ≡ true }
         ensures reply { IfErr result (λ error. error.message ≡ reply) }

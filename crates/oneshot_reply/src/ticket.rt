@@ -20,14 +20,15 @@ use std::time::{Clock, Duration};
 
 /// The receiver of the reply to a question.
 ///
-/// Every reply that it returns names a question equal to its own, and is right for the one that it names.
+/// The reply that it returns names a question equal to the ticket's, and is right for the question that it names.
 ///
-/// Dropping it drops a reply that came and was not taken. A later answer is refused: its error has the reply.
-/// It drops `rt` too. The drop does not wait for the request: it blocks only if the drop of the reply or of `rt` does.
+/// Dropping it drops a reply that was sent and not received, and drops `rt` last. A later `answer` is refused: its
+/// error owns the reply. The drop does not wait for the request: it blocks only if the drop of the reply or of `rt`
+/// does.
 ///
-/// It may be sent to another thread if `Q`, `A` and `Rt` are `Send`. Two threads cannot share it.
+/// It may go to another thread where `Q`, `A` and `Rt` are `Send`. Two threads may not share it.
 ///
-/// In contracts a ticket is its receiver's value (`ReceiverView`), whose `channel.about` has the question.
+/// A contract sees it as its receiver (`ReceiverView`), whose `channel.about` has the question.
 #[derive(Drop)]
 pub struct Ticket<Q: Eq, A: Answer<Q>, Rt> {
     pub(crate) replies: Receiver<A, Rt, Asked<Q>>,
@@ -49,20 +50,22 @@ impl<Q: Eq, A: Answer<Q>, Rt> Ticket<Q, A, Rt> {
         Ticket { replies }
     }
 
-    /// Returns whether the request was dropped unanswered, or the reply was taken. Every later receive then
-    /// fails as disconnected. It is one load and never blocks.
+    /// Whether the request was dropped unanswered, or the reply was received; if so, every later receive returns an
+    /// error. It performs one load and never blocks. No clause states what it returns.
+    ///
+    /// `true` stays true. `false` may be out of date at once, since the request may be dropped.
     pub fn is_closed(&self) -> bool {
         self.replies.is_closed()
     }
 }
 
 impl<Q: Eq, A: Answer<Q> + Drop, Rt: Drop> Ticket<Q, A, Rt> {
-    /// Takes the reply if it is there. It never blocks and does not allocate.
+    /// Receives the reply if it is there. It never blocks and does not allocate.
     ///
     /// - `Ok`: the reply. The ticket is closed from then on.
     /// - `Err(Empty)`: when the call checked, no reply had come, and the request was not dropped. The ticket stays
     ///   open.
-    /// - `Err(Disconnected)`: the request was dropped unanswered, or the reply was taken before. Every later
+    /// - `Err(Disconnected)`: the request was dropped unanswered, or the reply was received before. Every later
     ///   receive fails in the same way.
     pub fn try_take(&mut self) -> Result<A, TryRecvError>
         ensures own { IfOk result (λ reply. Q.eq (A.asked reply) self.old.channel.about.question ≡ true) }
@@ -95,7 +98,7 @@ impl<Q: Eq, A: Answer<Q> + Message, Rt: Wait + Clock + Drop> Ticket<Q, A, Rt> {
     /// Blocks until the request is answered or dropped. It consumes the ticket, drops its `rt`, and does not allocate.
     ///
     /// - `Ok`: the reply.
-    /// - `Err`: the request was dropped unanswered, or the reply was taken before.
+    /// - `Err`: the request was dropped unanswered, or the reply was received before.
     ///
     /// It blocks forever if the request is neither answered nor dropped, for example because this thread
     /// still holds it.
@@ -110,20 +113,18 @@ impl<Q: Eq, A: Answer<Q> + Message, Rt: Wait + Clock + Drop> Ticket<Q, A, Rt> {
 }
 
 impl<Q: Eq, A: Answer<Q> + Drop, Rt: Wait + Clock + Drop> Ticket<Q, A, Rt> {
-    /// Blocks until the request is answered or dropped, or until the runtime's clock has advanced by more
-    /// than `timeout`. It does not allocate.
+    /// Blocks until the request is answered or dropped, or until more than `timeout` has passed by the runtime's
+    /// clock, as `Receiver::recv_timeout` does. It does not allocate.
     ///
     /// - `Ok`: the reply. The ticket is closed from then on.
-    /// - `Err(Timeout)`: the deadline is over. When the call last checked, no reply had come, and the request was not
-    ///   dropped. The ticket stays open.
-    /// - `Err(Disconnected)`: the request was dropped unanswered, or the reply was taken before. Every later
+    /// - `Err(Timeout)`: more than `timeout` has passed, or the clock failed. When the call last checked, no reply had
+    ///   come, and the request was not dropped. The ticket stays open.
+    /// - `Err(Disconnected)`: the request was dropped unanswered, or the reply was received before. Every later
     ///   receive fails in the same way.
     ///
-    /// If no instant can hold the sum of now and `timeout`, the call never returns `Timeout`. If the clock
-    /// fails, the deadline is over at once.
-    ///
-    /// Past the deadline the call still waits for a request that has found this ticket waiting and is in its
-    /// `answer` or its drop.
+    /// A reply that is there is received, also if `timeout` is zero. If no instant can hold the sum of now and
+    /// `timeout`, the call never returns `Timeout`. After the timeout the call waits only for a request that has found
+    /// this ticket waiting and is in its `answer` or its drop. No clause names `timeout`.
     pub fn wait_for(&mut self, timeout: Duration) -> Result<A, RecvTimeoutError>
         ensures own { IfOk result (λ reply. Q.eq (A.asked reply) self.old.channel.about.question ≡ true) }
         ensures right { IfOk result (λ reply. A.answers (A.asked reply) reply) }

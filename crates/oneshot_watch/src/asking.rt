@@ -9,11 +9,11 @@ use crate::ticket::CancellableTicket;
 use oneshot_channel::reply::{Answer, request};
 use std::alloc::Global;
 
-/// Makes a request with `question`, as `request`, whose server is told when the ticket is gone.
+/// Makes a request with `question`, as `request` does, whose server is told when the ticket is gone.
 ///
-/// `rt` is the runtime with which the ticket waits, and `server_rt` that of the server's watch; waits need
-/// `Wait + Clock` of theirs. Pass `()` for one that never waits. `alloc` allocates the memory of two channels; no
-/// later call allocates.
+/// `rt` is the runtime of the ticket's waits, and `server_rt` that of the watch's waits. A wait needs `Wait + Clock` of
+/// its own runtime. Pass `()` for an end that never waits. `alloc` is the allocator of two channels; no later call
+/// allocates.
 ///
 /// `Err`: out of memory. The error is the question; nothing stays allocated, and both runtimes are dropped.
 pub fn cancellable_request<Q: Eq + Send + Drop, A: Answer<Q> + Send + Drop, Rt: Drop, W: Drop>(

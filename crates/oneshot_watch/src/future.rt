@@ -18,12 +18,12 @@ use std::marker::Model;
 
 /// A future that is ready once its guard is gone.
 ///
-/// Dropping it drops `rt` too, and blocks only if that drop does; the guard is not told. No other call of it blocks.
+/// `Watch::into_future` makes it. Dropping it drops `rt` too, and blocks only if that drop does; the guard is not told.
+/// As that of an `AsyncReceiver`, the drop wakes the task of each copy of a waker that the future has.
 ///
-/// In contracts it is its receiver's value (`FutureView`): it is closed exactly if a call has found its guard
-/// gone.
+/// A contract sees it as its receiver (`FutureView`): it is closed exactly if a call has found its guard gone.
 ///
-/// It may go to another thread between two polls if `Rt` is `Send`. Two threads cannot share it.
+/// It may go to another thread between two polls where `Rt` is `Send`. Two threads may not share it.
 #[derive(Drop)]
 pub struct AsyncWatch<Rt> {
     receiver: AsyncReceiver<Never, Rt>,
@@ -47,8 +47,10 @@ impl<Rt> AsyncWatch<Rt> {
 }
 
 impl<Rt: Drop> AsyncWatch<Rt> {
-    /// Returns whether the guard is gone. It never blocks and does not allocate. A task that was registered still
-    /// is, if the guard is there.
+    /// Whether the guard is gone. It never blocks and does not allocate. After `false` a registered task is still
+    /// registered.
+    ///
+    /// `true` stays true. `false` may be out of date at once, and also comes while the guard's drop is about to finish.
     pub fn is_gone(&mut self) -> bool
         ensures channel { self.new.channel ≡ self.old.channel }
         ensures source { self.new.source ≡ self.old.source }
@@ -74,13 +76,14 @@ impl<Rt: Drop> Future for AsyncWatch<Rt> {
 
     ghost needs = { λ w s. s ≡ w.source };
 
-    /// Polls once, for the task of `cx`. It never blocks and does not allocate.
+    /// Polls once, for the task of `cx`, as `AsyncReceiver::poll` does. It does not wait and does not allocate.
     ///
     /// - `Ready`: the guard is gone. A future that was ready returns this from then on (clause `stays_gone`).
-    /// - `Pending`: the guard is there. A registered waker wakes the task, or the task has asked for another poll
-    ///   (clause `woken`, which leaves a context out that could make no waker). The task asks for one if no copy of its
-    ///   waker could be made, or if the guard's drop is under way. The law `no_wakeup_is_lost` states that the drop
-    ///   uses the registered waker.
+    /// - `Pending`: when the call checked, the guard was there, or its drop was about to finish. A registered waker
+    ///   wakes the task, or the task has asked for another poll (clause `woken`). If the context could make no waker,
+    ///   `woken` states nothing of the waker. The task asks for another poll if no copy of its waker could be made, or
+    ///   if the drop was about to finish. The law `no_wakeup_is_lost` states that a drop which has ended has used the
+    ///   registered waker.
     #[tactic(auto, using(crate::proofs::Gone::not_pending))]
     fn poll(&mut self, cx: &mut Context<'_>) -> Poll<()>
         ensures value { IfReady result (λ _. ⊤) }

@@ -6,14 +6,14 @@ use crate::never::Never;
 use oneshot_channel::Sender;
 use std::marker::Model;
 
-/// Tells its watch when it is dropped, with whatever holds it: a ticket, a receiver, the variables of a block.
+/// Its drop tells its watch. Keep it in the value whose end the watch has to learn, for example beside a receiver.
 ///
-/// The drop wakes a waiting watch. It never blocks and does not allocate. To wake a task, it takes the lock of the
-/// queue of that task's executor.
+/// The drop wakes a waiting watch. It does not wait and does not allocate. Waking a task takes locks, as the drop of a
+/// `Sender` does.
 ///
-/// In contracts a guard is its sender's value (`SenderView`).
+/// A contract sees it as its sender (`SenderView`).
 ///
-/// It may be sent to another thread.
+/// It may go to another thread.
 #[derive(Drop)]
 pub struct Guard {
     sender: Sender<Never>,

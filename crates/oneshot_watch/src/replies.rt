@@ -21,17 +21,18 @@ use oneshot_channel::reply::{Answer, Asked};
 use oneshot_channel::{AsyncReceiver, RecvError, TryRecvError};
 use std::marker::Model;
 
-/// The future of a reply, with the guard that its server watches.
+/// A future that receives a reply, with the guard that its server watches. `CancellableTicket::into_future` makes it.
 ///
-/// Its calls are those of the `AsyncReceiver` of a ticket, with the same contracts.
+/// Its calls have the contracts of those of an `AsyncReceiver` of a ticket. It keeps its guard, also after it was
+/// ready.
 ///
-/// Dropping it drops a reply that came and was not taken, and its `rt`. A later answer is refused: its error has
-/// the reply. Then the drop tells the server's watch. It does not wait for the server: it blocks only if the drop of
-/// the reply or of `rt` does.
+/// Dropping it drops a reply that was sent and not received, and `rt`. A later `answer` is refused: its error owns the
+/// reply. Then the drop tells the server's watch. It does not wait for the server: it blocks only if the drop of the
+/// reply or of `rt` does. As that of an `AsyncReceiver`, it wakes the task of each copy of a waker that the future has.
 ///
-/// It may go to another thread between two polls if `Q`, `A` and `Rt` are `Send`. Two threads cannot share it.
+/// It may go to another thread between two polls where `Q`, `A` and `Rt` are `Send`. Two threads may not share it.
 ///
-/// In contracts it is its receiver's value (`FutureView`), whose `channel.about` has the question.
+/// A contract sees it as its receiver (`FutureView`), whose `channel.about` has the question.
 pub struct CancellableReply<Q: Eq, A: Answer<Q>, Rt> {
     replies: AsyncReceiver<A, Rt, Asked<Q>>,
     guard: Guard,
@@ -56,27 +57,31 @@ impl<Q: Eq, A: Answer<Q>, Rt> CancellableReply<Q, A, Rt> {
         CancellableReply { replies, guard }
     }
 
-    /// Returns whether the request was dropped unanswered, or the reply was received; if so, every later poll and
-    /// `try_recv` returns an error. It is one load and never blocks.
+    /// Whether the request was dropped unanswered, or the reply was received; if so, every later poll and `try_recv`
+    /// returns an error. It performs one load and never blocks. No clause states what it returns.
+    ///
+    /// `true` stays true. `false` may be out of date at once, since the request may be dropped.
     pub fn is_closed(&self) -> bool {
         self.replies.is_closed()
     }
 
-    /// Returns whether the reply is there; if so, the next poll or `try_recv` returns it. It is one load and never
-    /// blocks.
+    /// Whether the reply is there; if so, the next poll or `try_recv` returns it. It performs one load and never
+    /// blocks. No clause states what it returns.
+    ///
+    /// `true` stays true until a poll or a `try_recv` takes the reply. `false` may be out of date at once.
     pub fn has_message(&self) -> bool {
         self.replies.has_message()
     }
 }
 
 impl<Q: Eq, A: Answer<Q> + Drop, Rt: Drop> CancellableReply<Q, A, Rt> {
-    /// Takes the reply if it is there, as `AsyncReceiver::try_recv`. It never blocks and does not allocate.
+    /// Receives the reply if it is there, as `AsyncReceiver::try_recv` does. It never blocks and does not allocate.
     ///
     /// - `Ok`: the reply. The future is closed from then on.
-    /// - `Err(Empty)`: no reply came yet, or an answer or the request's drop is under way. The future stays open, and a
-    ///   task that was registered still is.
-    /// - `Err(Disconnected)`: the request was dropped unanswered, or the reply was received before. Every later call
-    ///   and poll fails in the same way.
+    /// - `Err(Empty)`: when the call checked, no reply had come and the request was not dropped, or its `answer` or its
+    ///   drop was about to finish. The future stays open, and a registered task is still registered.
+    /// - `Err(Disconnected)`: the request was dropped unanswered, or the reply was received before. Every later
+    ///   `try_recv` and poll fails in the same way.
     pub fn try_recv(&mut self) -> Result<A, TryRecvError>
         ensures channel { self.new.channel ≡ self.old.channel }
         ensures source { self.new.source ≡ self.old.source }
@@ -103,7 +108,7 @@ impl<Q: Eq, A: Answer<Q> + Drop, Rt: Drop> Future for CancellableReply<Q, A, Rt>
     // The reply names a question equal to the ticket's, also after an executor or a combinator has passed it on.
     ghost gives = { λ r answer. IfOk answer (λ reply. Q.eq (A.asked reply) r.channel.about.question ≡ true) };
 
-    /// Polls once, for the task of `cx`, as `AsyncReceiver::poll`. It never blocks and does not allocate.
+    /// Polls once, for the task of `cx`, as `AsyncReceiver::poll` does. It does not wait and does not allocate.
     fn poll(&mut self, cx: &mut Context<'_>) -> Poll<Result<A, RecvError>>
         ensures value { IfReady result
             (λ answer. IfOk answer (λ reply. Q.eq (A.asked reply) self.old.channel.about.question ≡ true)) }

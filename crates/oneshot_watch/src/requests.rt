@@ -11,13 +11,13 @@ use std::marker::Model;
 ///
 /// Its calls are those of `Request`, with the same contracts; `into_parts` also gives the watch.
 ///
-/// Dropping it unanswered drops the sender of the reply: a waiting ticket is woken, and returns an error. The drop
-/// does not wait for the ticket: it blocks only if the drop of the question or of the watch's `rt` does. To wake a
-/// task, it takes the lock of the queue of that task's executor.
+/// Dropping it unanswered drops the sender of the reply: a waiting ticket is woken, and returns an error. Then it drops
+/// the question and the watch. The drop does not wait for the ticket: it blocks only if the drop of the question or of
+/// the watch's `rt` does. Waking a task takes locks, as the drop of a `Sender` does.
 ///
-/// It may be sent to another thread if `Q`, `A` and `Rt` are `Send`.
+/// It may go to another thread where `Q`, `A` and `Rt` are `Send`.
 ///
-/// In contracts it is its request's value (`SenderView`), whose `channel.about` has the question.
+/// A contract sees it as its request (`SenderView`), whose `channel.about` has the question.
 #[derive(Drop)]
 pub struct CancellableRequest<Q: Eq, A: Answer<Q>, Rt> {
     request: Request<Q, A>,
@@ -55,13 +55,16 @@ impl<Q: Eq, A: Answer<Q>, Rt> CancellableRequest<Q, A, Rt> {
         self.request.fits(reply)
     }
 
-    /// Returns whether the ticket was dropped, or the future that it became. Then an answer is refused. It is one
-    /// load and never blocks.
+    /// Whether the ticket, or the future that it became, is gone; if so, an `answer` is refused. It performs one load
+    /// and never blocks. No clause states what it returns.
+    ///
+    /// `true` stays true. `false` may be out of date at once, since the ticket may be dropped.
     pub fn is_cancelled(&self) -> bool {
         self.request.is_cancelled()
     }
 
-    /// Returns the request, and the watch that is told when the ticket is gone. An answer is refused then.
+    /// Returns the request and its watch. It never blocks. Once the watch finds its guard gone, the ticket is gone too,
+    /// and an `answer` is refused.
     pub fn into_parts(self) -> (Request<Q, A>, Watch<Rt>)
         ensures { result.0 ≡ self }
     {
@@ -72,12 +75,12 @@ impl<Q: Eq, A: Answer<Q>, Rt> CancellableRequest<Q, A, Rt> {
 
 impl<Q: Eq + Drop, A: Answer<Q> + Message, Rt: Drop> CancellableRequest<Q, A, Rt> {
     /// Answers with a reply that fits, wakes a waiting ticket, and drops the question and the watch. It does not
-    /// allocate, and blocks only if the drop of the question or of the watch's `rt` does. To wake a task, it takes the
-    /// lock of the queue of that task's executor.
+    /// allocate, and blocks only if the drop of the question or of the watch's `rt` does. Waking a task takes locks, as
+    /// the drop of a `Sender` does.
     ///
-    /// - `Ok`: the ticket was there. It may still be dropped before it takes the reply.
+    /// - `Ok`: the ticket was there. If the ticket is dropped before it receives the reply, its drop drops the reply.
     /// - `Err`: the ticket was dropped, or the future that it became was dropped, perhaps while `answer` was about
-    ///   to wake its task. The error has the reply.
+    ///   to wake its task. The error owns the reply.
     pub fn answer(self, reply: A) -> Result<(), SendError<A, Asked<Q>>>
         requires fits { Q.eq (A.asked reply) self.channel.about.question ≡ true }
         ensures reply { IfErr result (λ error. error.message ≡ reply) }

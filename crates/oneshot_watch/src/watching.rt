@@ -19,10 +19,9 @@ use std::time::{Clock, Duration, Instant};
 /// Once a call has found the guard gone, each later one finds the same. Dropping the watch drops `rt` too, and blocks
 /// only if that drop does; the guard is not told.
 ///
-/// In contracts a watch is its receiver's value (`ReceiverView`): it is closed exactly if a call has found its guard
-/// gone.
+/// A contract sees it as its receiver (`ReceiverView`): it is closed exactly if a call has found its guard gone.
 ///
-/// It may be sent to another thread if `Rt` is `Send`. Two threads cannot share it.
+/// It may go to another thread where `Rt` is `Send`. Two threads may not share it.
 #[derive(Drop)]
 pub struct Watch<Rt> {
     receiver: Receiver<Never, Rt>,
@@ -46,7 +45,9 @@ impl<Rt> Watch<Rt> {
 }
 
 impl<Rt: Drop> Watch<Rt> {
-    /// Returns whether the guard is gone. It never blocks and does not allocate.
+    /// Whether the guard is gone. It never blocks and does not allocate.
+    ///
+    /// `true` stays true. `false` may be out of date at once, since the guard may be dropped.
     pub fn is_gone(&mut self) -> bool
         ensures channel { self.new.channel ≡ self.old.channel }
         ensures gone { result ≡ true → IsClosed self.new.log }
@@ -75,7 +76,8 @@ impl<Rt: Drop> Watch<Rt> {
 impl<Rt: Wait + Clock + Drop> Watch<Rt> {
     /// Blocks until the guard is gone. It does not allocate.
     ///
-    /// It blocks forever if the guard is never dropped, for example because this thread still holds it.
+    /// It spins before it sleeps, as `Receiver::recv` does. It blocks forever if the guard is never dropped, for
+    /// example because this thread still holds it.
     pub fn wait(&mut self)
         ensures channel { self.new.channel ≡ self.old.channel }
         ensures run { ReceiverGrew Never RecvRef self.old.log self.new.log R.Disconnected }
@@ -90,8 +92,8 @@ impl<Rt: Wait + Clock + Drop> Watch<Rt> {
     /// - `true`: the guard is gone, however late the call is.
     /// - `false`: the clock is past `deadline`, and the guard was there when the call last checked.
     ///
-    /// A clock that fails counts as past every deadline. Past the deadline the call still waits for a guard that has
-    /// found this watch waiting and is in its drop.
+    /// A clock that fails counts as past every deadline. Past the deadline the call waits only for a guard that has
+    /// found this watch waiting and is in its drop. No clause names `deadline`.
     pub fn wait_deadline(&mut self, deadline: Instant) -> bool
         ensures channel { self.new.channel ≡ self.old.channel }
         ensures gone { result ≡ true → IsClosed self.new.log }
@@ -112,7 +114,7 @@ impl<Rt: Wait + Clock + Drop> Watch<Rt> {
     /// allocate.
     ///
     /// The results are those of `wait_deadline`. If no instant can hold the sum of now and `timeout`, the call
-    /// never returns `false`. If the clock fails, the deadline is over at once.
+    /// never returns `false`. If the clock fails, the deadline is over at once. No clause names `timeout`.
     pub fn wait_timeout(&mut self, timeout: Duration) -> bool
         ensures channel { self.new.channel ≡ self.old.channel }
         ensures gone { result ≡ true → IsClosed self.new.log }
