@@ -24,6 +24,7 @@ pub mod GroundExamples
 pub mod EndExamples
 pub mod OwnExamples
 pub mod TakenExamples
+pub mod EndedExamples
 pub mod TokenExamples
 pub mod ReceivedExamples
 pub mod ComputedRuns

@@ -7,7 +7,8 @@
 -- `OverExamples` and `OrderExamples`.
 -- `oneshot_word`: `StateExamples`, `ReadExamples`, `SeatExamples`, `SideExamples`, `ReceivedExamples` and
 -- `OneOrderExamples`.
--- `oneshot_drive`: `DriverExamples`. `oneshot_ends`: `EndExamples`, `OwnExamples`, `TakenExamples` and `TokenExamples`.
+-- `oneshot_drive`: `DriverExamples`. `oneshot_ends`: `EndExamples`, `OwnExamples`, `TakenExamples`,
+-- `EndedExamples` and `TokenExamples`.
 -- docs/COVERAGE.md lists the definitions that no example reaches, and why.
 -- `ExampleLogs` has the logs that several of them are about.
 pub mod ExampleLogs
@@ -29,4 +30,5 @@ pub mod DriverExamples
 pub mod EndExamples
 pub mod OwnExamples
 pub mod TakenExamples
+pub mod EndedExamples
 pub mod TokenExamples

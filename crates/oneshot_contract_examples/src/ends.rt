@@ -5,13 +5,14 @@ ghost use Rattle.futures.specs.declared.task.context.Context.{Context};
 ghost use Rattle.oneshot_contract_examples.specs.EndExamples.{EndsThatAre, EndsThatAreNot, CallsThatGrow, CallsThatDoNotGrow, CopiesThatAre};
 ghost use Rattle.oneshot_contract_examples.specs.EndExamples.{CopiesThatAreNot, RealGroundsThatAre};
 ghost use Rattle.oneshot_contract_examples.specs.EndExamples.{RealGroundsThatAreNot, OrderedLogs, UnorderedLogs};
+ghost use Rattle.oneshot_contract_examples.specs.EndedExamples.{FindsThatAre, FindsThatAreNot};
 ghost use Rattle.oneshot_contract_examples.specs.OwnExamples.{UsesThatAre, UsesThatAreNot};
 ghost use Rattle.oneshot_contract_examples.specs.TakenExamples.{TakesThatAre, TakesThatAreNot};
 ghost use Rattle.oneshot_contract_examples.specs.TokenExamples.{TokensThatAreNot, LivesThatAre, LivesThatAreNot, WakersThatWoke, WakersThatDidNot};
 
 /// Examples that the definitions accept or refuse: open and closed ends, logs of calls, copies of wakers, grounds,
-/// states and lives of a token, wakers that wake, logs that have an order, uses of a parker's own waker, and messages
-/// that a receiver took.
+/// states and lives of a token, wakers that wake, logs that have an order, uses of a parker's own waker, messages that
+/// a receiver took, and what a sender that has ended left.
 pub fn examples_are_so<T>()
     ensures ends { (channel : TableId) → EndsThatAre channel }
     ensures no_ends { (channel : TableId) → EndsThatAreNot channel }
@@ -32,4 +33,6 @@ pub fn examples_are_so<T>()
     ensures no_uses { UsesThatAreNot }
     ensures takes { TakesThatAre }
     ensures no_takes { TakesThatAreNot }
+    ensures finds { FindsThatAre }
+    ensures no_finds { FindsThatAreNot }
 {}

@@ -8,7 +8,8 @@
 -- 2. One call. `GrewByRuns` and `CallsAnswered` add its operations to the log. `EndViews` compares two views of one
 -- end. `PolledEnds` and `TimeoutEnds` read its result.
 -- 3. Messages. `Taken` proves that a log shows whether its receiver took the message, and `OpenTaken` that an open one
--- took none.
+-- took none. `EndedSenders` proves what a sender that has ended left for an open receiver, and `FirstFound` what a call
+-- replies that finds it.
 -- 4. Wakers. `Tokens` and `TokenLives` prove the rule of a token, `OwnWakers` and `TaskWakers` whose wakers a receiver
 -- gives. `Owes` and `FoundWaiting` prove which waker a sender took. `NoLostWakeup` concludes.
 -- `PatienceExamples` and `DeadlineExamples` compute the examples. The folders follow the files and functions of `src/`.
@@ -25,6 +26,8 @@ mod NewEnds
 mod LentGrounds
 pub mod Taken
 mod OpenTaken
+mod EndedSenders
+mod FirstFound
 pub mod TimeoutEnds
 mod PollingTokens
 mod PolledEnds

@@ -7,6 +7,8 @@ ghost use Rattle.std.specs.Prelude.{◌≡◌, [], None};
 ghost use Rattle.oneshot_machine.specs.Called.{as_receiver, as_future};
 ghost use Rattle.oneshot_ends.specs.Ends.{IsOpen, HasCalls, CallsAddUp, SenderIsOrdered, ReceiverIsOrdered, WasRefused};
 ghost use Rattle.oneshot_ends.specs.DeadlineExamples.{DeadlinesThatAre, DeadlinesThatAreNot};
+ghost use Rattle.oneshot_ends.specs.EndedSenders.{EndedSendersLeftTheirWord, SentMessagesAreThere};
+ghost use Rattle.oneshot_ends.specs.FirstFound.{RepliesTellTheEnd, ReceivesOperate};
 ghost use Rattle.oneshot_ends.specs.Moments.{TookWhatWasGiven};
 ghost use Rattle.oneshot_ends.specs.NoLostWakeup.{EndedSendersGaveTokens, NoSleeperIsForgotten, FuturesWakeNoThread};
 ghost use Rattle.oneshot_ends.specs.NoLostWakeup.{EndedSendersWokeTasks, NoTaskIsForgotten, GivenTokensStay};
@@ -83,6 +85,22 @@ pub fn an_open_future_took_none<T, Rt, P: Promise<T>>(future: &AsyncReceiver<T, 
 /// receive returns (`had`).
 pub fn what_was_taken_was_given<T, P: Promise<T>>()
     ensures { TookWhatWasGiven P.keeps }
+{}
+
+/// An open receiver finds what its sender left. At each moment (`AtOneMoment`) at which the sender has ended
+/// (`HasEnded`) and the receiver is open (`IsOpen`):
+///
+/// - the word is the one that the sender left: `MESSAGE` after a `send`, `DISCONNECTED` after a drop (`word`);
+/// - after a `send`, the message that the sender gave is in its slot (`message`).
+///
+/// Each receive and each poll performs an operation (`operates`). If the first one finds `MESSAGE`, the reply is the
+/// message. If it finds `DISCONNECTED`, the reply is that no message will come (`reply`). That an operation finds the
+/// word which is there, `atomic_table` promises and no clause states.
+pub fn an_ended_sender_is_found<T, P: Promise<T>>()
+    ensures word { EndedSendersLeftTheirWord P.keeps }
+    ensures message { SentMessagesAreThere P.keeps }
+    ensures operates { ReceivesOperate T }
+    ensures reply { RepliesTellTheEnd T }
 {}
 
 /// Adds up the calls of a receiver or a future. If its log was that of some calls, and one more call left it

@@ -203,9 +203,10 @@ fn try_recv_then_drop_receiver(rt: HostRuntime) -> Result<(), Fail> {
     assert_outcomes(&rt, AT_ONCE, send, By::Receiver("try"), &outcomes)
 }
 
-// How long `receive` takes, which gets the instant of its start. Fails unless it times out.
+// How long `receive` takes, which gets the instant of its start. Fails unless it times out. `call` names it.
 fn timed_out<T: Drop, F: FnOnce(Instant) -> Result<T, RecvTimeoutError>>(
     rt: &(impl Clock + Abort),
+    call: &str,
     receive: F,
 ) -> Result<Duration, Fail>
     requires { F.IsAlwaysCallable receive }
@@ -213,7 +214,10 @@ fn timed_out<T: Drop, F: FnOnce(Instant) -> Result<T, RecvTimeoutError>>(
     let start = Instant::now(rt)?;
     let received = receive(start);
     let took = start.elapsed(rt)?;
-    assert!(rt; matches!(received, Err(RecvTimeoutError::Timeout)));
+    assert!(rt;
+        matches!(received, Err(RecvTimeoutError::Timeout)),
+        "{call}"
+    );
     Ok(took)
 }
 
@@ -221,8 +225,12 @@ fn timed_out<T: Drop, F: FnOnce(Instant) -> Result<T, RecvTimeoutError>>(
 fn recv_deadline_and_timeout_no_time(rt: HostRuntime) -> Result<(), Fail> {
     in_time(&rt, |slept| {
         let (_sender, mut receiver) = channel::<u128, _>(&rt, rt.alloc())?;
-        let by_deadline = timed_out(&rt, |start| receiver.recv_deadline(start))?;
-        let by_timeout = timed_out(&rt, |_| receiver.recv_timeout(Duration::ZERO))?;
+        let by_deadline = timed_out(&rt, "recv_deadline", |start| receiver.recv_deadline(start))?;
+        let by_timeout = timed_out(
+            &rt,
+            "recv_timeout",
+            |_| receiver.recv_timeout(Duration::ZERO),
+        )?;
         Ok(by_deadline / 2 < slept && by_timeout / 2 < slept)
     })
 }
@@ -231,7 +239,7 @@ fn recv_deadline_and_timeout_no_time(rt: HostRuntime) -> Result<(), Fail> {
 fn recv_deadline_time_should_elapse(rt: HostRuntime) -> Result<(), Fail> {
     in_time(&rt, |slept| {
         let (_sender, mut receiver) = channel::<u128, _>(&rt, rt.alloc())?;
-        let took = timed_out(&rt, |start| {
+        let took = timed_out(&rt, "recv_deadline", |start| {
             let end = start.checked_add(tenth());
             receiver.recv_deadline(end.expect(&rt, "an instant can hold it"))
         })?;
@@ -244,7 +252,7 @@ fn recv_deadline_time_should_elapse(rt: HostRuntime) -> Result<(), Fail> {
 fn recv_timeout_time_should_elapse(rt: HostRuntime) -> Result<(), Fail> {
     in_time(&rt, |slept| {
         let (_sender, mut receiver) = channel::<u128, _>(&rt, rt.alloc())?;
-        let took = timed_out(&rt, |_| receiver.recv_timeout(tenth()))?;
+        let took = timed_out(&rt, "recv_timeout", |_| receiver.recv_timeout(tenth()))?;
         assert!(rt; took > tenth());
         Ok(took / 3 < slept)
     })

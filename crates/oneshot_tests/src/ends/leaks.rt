@@ -6,8 +6,9 @@ use super::steps::read;
 use crate::pages::{grown_pages, reserved_pages, resident_pages};
 use crate::reply::{answer, ask};
 use crate::watches::cancelled;
-use std::alloc::{AllocError, Global};
+use std::alloc::Global;
 use std::io;
+use std::io::ErrorKind;
 use std::process::{Abort, Termination};
 use std::random::RandomSource;
 use std::rt::Files;
@@ -145,18 +146,18 @@ fn raw_ends_leave_nothing(rt: HostRuntime) -> Result<(), Fail> {
     assert_none_leaks(&rt, RAW)
 }
 
-/// `Err`, unless a call ended as it should.
-fn ended_so(as_it_should: bool) -> Result<(), AllocError> {
+/// Fails with `InvalidData` unless a call ended as it should.
+fn ended_so(as_it_should: bool) -> io::Result<()> {
     if as_it_should {
         Ok(())
     } else {
-        Err(AllocError)
+        Err(io::Error::from(ErrorKind::InvalidData))
     }
 }
 
 /// Ends five requests: one with its reply, one whose reply comes back, one without a reply, and two whose reply is not
 /// taken, of which one's ticket became a future.
-fn end_requests(alloc: Global) -> Result<(), AllocError> {
+fn end_requests(alloc: Global) -> io::Result<()> {
     let (request, mut ticket) = ask((), alloc)?;
     ended_so(answer(request)?.is_ok() && ticket.try_take().is_ok())?;
     let (request, ticket) = ask((), alloc)?;
@@ -177,7 +178,7 @@ fn end_requests(alloc: Global) -> Result<(), AllocError> {
 
 /// Ends three requests that have a watch: one with its reply, one whose ticket goes first, and one whose ticket became
 /// a future, and whose reply is not taken.
-fn end_cancellable_requests(alloc: Global) -> Result<(), AllocError> {
+fn end_cancellable_requests(alloc: Global) -> io::Result<()> {
     let (request, mut ticket) = cancelled::ask((), alloc)?;
     ended_so(cancelled::answer(request)?.is_ok() && ticket.try_take().is_ok())?;
     let (request, ticket) = cancelled::ask((), alloc)?;
@@ -195,11 +196,11 @@ fn end_cancellable_requests(alloc: Global) -> Result<(), AllocError> {
 #[test]
 fn requests_leave_nothing(rt: HostRuntime) -> Result<(), Fail> {
     if compares_memory(&rt)? {
-        assert_leaves_nothing(&rt, "requests", || Ok(end_requests(rt.alloc())?))?;
+        assert_leaves_nothing(&rt, "requests", || end_requests(rt.alloc()))?;
         return assert_leaves_nothing(
             &rt,
             "cancellable requests",
-            || Ok(end_cancellable_requests(rt.alloc())?),
+            || end_cancellable_requests(rt.alloc()),
         );
     }
     end_requests(rt.alloc())?;

@@ -284,6 +284,15 @@ fn a_poll_of_another_task_wakes_the_first(rt: HostRuntime) -> Result<(), Fail> {
 }
 
 #[test]
+#[should_panic(expected = "at step 3 of poll1 poll1 poll2")]
+fn a_poll_that_wakes_its_own_task_alone_ends_a_test(rt: HostRuntime) {
+    let Ok((_, future)) = async_channel::<u64, _>(&rt, rt.alloc()) else {
+        return;
+    };
+    let _ = assert_wakes_the_first(&rt, Receiving::of_future(future)).report(&rt);
+}
+
+#[test]
 #[should_panic(expected = "right: [0, 1]")]
 fn a_wake_that_nobody_made_ends_a_test(rt: HostRuntime) {
     assert_wakes(&rt, &[Bell::new(), Bell::new()], [0, 1], 0, "");

@@ -3,6 +3,7 @@ use Rattle.oneshot_contract_examples.proofs.TokenExamples.{tokens_that_are_not, 
 use Rattle.oneshot_contract_examples.proofs.EndExamples.{ends_that_are, ends_that_are_not, calls_that_grow, calls_that_do_not_grow, copies_that_are}
 use Rattle.oneshot_contract_examples.proofs.EndExamples.{copies_that_are_not}
 use Rattle.oneshot_contract_examples.proofs.EndExamples.{real_grounds_that_are, real_grounds_that_are_not, ordered_logs, unordered_logs}
+use Rattle.oneshot_contract_examples.proofs.EndedExamples.{finds_that_are, finds_that_are_not}
 use Rattle.oneshot_contract_examples.proofs.OwnExamples.{uses_that_are, uses_that_are_not}
 use Rattle.oneshot_contract_examples.proofs.TakenExamples.{takes_that_are, takes_that_are_not}
 use Rattle.oneshot_contract_examples.proofs.ends.examples_are_so.Goals as goal
@@ -29,4 +30,6 @@ returns g c =
       no_uses = uses_that_are_not;
       takes = takes_that_are;
       no_takes = takes_that_are_not;
+      finds = finds_that_are;
+      no_finds = finds_that_are_not;
     }
