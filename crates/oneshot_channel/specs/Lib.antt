@@ -5,13 +5,15 @@
 -- Read `Ends` first, then `Taken` (which message a receiver took), and `BetweenCalls` and `Polls` (how a call leaves
 -- its end).
 -- `Noted`, `Logs`, `Called`, `Counts` and `Phases` define logs, and what a log shows.
--- `Tokens`, `Woken`, `OwnWakers` and `NoLostWakeup` define what becomes of wakers. `Moments` defines a moment at which
--- both ends are seen, and `EndedSenders` and `FirstFound` what an open receiver finds once its sender has ended.
+-- `Tokens`, `Woken`, `OwnWakers` and `NoLostWakeup` define what becomes of wakers.
+-- `Moments` defines a moment at which both ends are seen. `EndedSenders`, `LeftReceivers` and `FirstFound` define what
+-- an end finds once the other has ended.
 pub use Rattle.oneshot_ends.specs.Ends
 pub use Rattle.oneshot_ends.specs.Taken
 pub use Rattle.oneshot_ends.specs.Moments
 pub use Rattle.oneshot_ends.specs.EndedSenders
 pub use Rattle.oneshot_ends.specs.FirstFound
+pub use Rattle.oneshot_ends.specs.LeftReceivers
 pub use Rattle.oneshot_ends.specs.NoLostWakeup
 pub use Rattle.oneshot_ends.specs.OwnWakers
 pub use Rattle.oneshot_ends.specs.Woken

@@ -19,21 +19,21 @@ use Rattle.oneshot_ends.specs.Woken.{Sending, HasEnded}
 use Rattle.oneshot_ends.proofs.GrewByRuns.{words_of}
 
 -- the word and the message's slot at home, by the phases of both ends
-record Shown {T H K P : Type 0} (keeps : P → T → Type 0) (about : P) (words : List ℕ) (homes : List (Home T H K))
+pub record Shown {T H K P : Type 0} (keeps : P → T → Type 0) (about : P) (words : List ℕ) (homes : List (Home T H K))
     (xs ys : List Noted) (given : Option T) : Type 0 where
-  word : ℕ
-  message : Home T H K
-  waker : Home T H K
-  words_are : words ≡ word ∷ []
-  homes_are : homes ≡ message ∷ waker ∷ []
-  word_is : Is (word_between (sender_at xs) (receiver_at ys)) word
-  lies : Lies (IsGiven keeps about given) Message (message_home (sender_at xs) (receiver_at ys)) message
+  pub word : ℕ
+  pub message : Home T H K
+  pub waker : Home T H K
+  pub words_are : words ≡ word ∷ []
+  pub homes_are : homes ≡ message ∷ waker ∷ []
+  pub word_is : Is (word_between (sender_at xs) (receiver_at ys)) word
+  pub lies : Lies (IsGiven keeps about given) Message (message_home (sender_at xs) (receiver_at ys)) message
 
 abbrev Same : {T H K P : Type 0} → View T H K P → View T H K P → Type 0
 Same {T} {H} {K} {P} = ◌≡◌ {A = View T H K P}
 
 module _ {T H K P : Type 0} {keeps : P → T → Type 0} {about : P} where
-  shown : {words : List ℕ} {homes : List (Home T H K)} {views : List (View T H K P)} {xs ys : List Noted}
+  pub shown : {words : List ℕ} {homes : List (Home T H K)} {views : List (View T H K P)} {xs ys : List Noted}
       {given taken : Option T} {put woke : Option (AnyWaker H K)} → Tied keeps about words homes views
       → views ≡ both_views about xs given woke ys taken put → Shown keeps about words homes xs ys given
   shown opened are = absurd (cc are)

@@ -8,8 +8,9 @@
 -- step to step (`Stays` has lemmas about this), and `Invariants` what always holds between two calls.
 -- 2. The wakers: `Tokens` is the rule of a parker's token, `Woken` states what a used waker leaves behind, and
 -- `OwnWakers` whose wakers a receiver gives.
--- 3. The laws of both ends together: `Moments` defines a moment at which both are seen. `NoLostWakeup`, and
--- `EndedSenders` with `FirstFound`, state the laws.
+-- 3. The laws of both ends together: `Moments` defines a moment at which both are seen. `NoLostWakeup` states that no
+-- wakeup is lost, `EndedSenders` and `FirstFound` what an open receiver finds once its sender has ended, and
+-- `LeftReceivers` what a sender finds once its receiver has left.
 -- 4. The wait: `Deadlines` states when a deadline is over, and what a receive with a timeout appends to the log.
 -- `Patience` states how long a receive spins and sleeps. `PatienceExamples` and `DeadlineExamples` have
 -- examples of types that no other crate can name.
@@ -25,6 +26,7 @@ pub mod OwnWakers
 pub mod Moments
 pub mod EndedSenders
 pub mod FirstFound
+pub mod LeftReceivers
 pub mod NoLostWakeup
 pub mod Patience
 pub mod PatienceExamples

@@ -7,8 +7,9 @@ ghost use Rattle.std.specs.Prelude.{◌≡◌, [], None};
 ghost use Rattle.oneshot_machine.specs.Called.{as_receiver, as_future};
 ghost use Rattle.oneshot_ends.specs.Ends.{IsOpen, HasCalls, CallsAddUp, SenderIsOrdered, ReceiverIsOrdered, WasRefused};
 ghost use Rattle.oneshot_ends.specs.DeadlineExamples.{DeadlinesThatAre, DeadlinesThatAreNot};
-ghost use Rattle.oneshot_ends.specs.EndedSenders.{EndedSendersLeftTheirWord, SentMessagesAreThere};
+ghost use Rattle.oneshot_ends.specs.EndedSenders.{EndedSendersLeftTheirWord, SentMessagesAreThere, ClosedReceiversLostTheirSender};
 ghost use Rattle.oneshot_ends.specs.FirstFound.{RepliesTellTheEnd, ReceivesOperate};
+ghost use Rattle.oneshot_ends.specs.LeftReceivers.{LeftReceiversAreFound, LateSendersLostTheirReceiver, LateSendsAreRefused, SendsOperate};
 ghost use Rattle.oneshot_ends.specs.Moments.{TookWhatWasGiven};
 ghost use Rattle.oneshot_ends.specs.NoLostWakeup.{EndedSendersGaveTokens, NoSleeperIsForgotten, FuturesWakeNoThread};
 ghost use Rattle.oneshot_ends.specs.NoLostWakeup.{EndedSendersWokeTasks, NoTaskIsForgotten, GivenTokensStay};
@@ -93,14 +94,30 @@ pub fn what_was_taken_was_given<T, P: Promise<T>>()
 /// - the word is the one that the sender left: `MESSAGE` after a `send`, `DISCONNECTED` after a drop (`word`);
 /// - after a `send`, the message that the sender gave is in its slot (`message`).
 ///
+/// A receiver that is closed, and whose operations found no message, has a sender that ended by its drop (`closed`).
+///
 /// Each receive and each poll performs an operation (`operates`). If the first one finds `MESSAGE`, the reply is the
 /// message. If it finds `DISCONNECTED`, the reply is that no message will come (`reply`). That an operation finds the
 /// word which is there, `atomic_table` promises and no clause states.
 pub fn an_ended_sender_is_found<T, P: Promise<T>>()
     ensures word { EndedSendersLeftTheirWord P.keeps }
     ensures message { SentMessagesAreThere P.keeps }
+    ensures closed { ClosedReceiversLostTheirSender P.keeps }
     ensures operates { ReceivesOperate T }
     ensures reply { RepliesTellTheEnd T }
+{}
+
+/// A sender finds that its receiver has left. At each moment (`AtOneMoment`) at which the receiver or the future has
+/// left (`HasLeft`) and the sender has performed no operation, the word is `DISCONNECTED` (`word`). At each moment at
+/// which the last operation of the sender found the receiver gone (`IsLate`), the receiver has left (`late`).
+///
+/// Each `send` performs an operation (`operates`). If the first one finds `DISCONNECTED`, the `send` is refused
+/// (`reply`). The functions that release a dropped receiver require `HasLeft` of it.
+pub fn a_left_receiver_is_found<T, P: Promise<T>>()
+    ensures word { LeftReceiversAreFound P.keeps }
+    ensures late { LateSendersLostTheirReceiver P.keeps }
+    ensures operates { SendsOperate T }
+    ensures reply { LateSendsAreRefused T }
 {}
 
 /// Adds up the calls of a receiver or a future. If its log was that of some calls, and one more call left it
