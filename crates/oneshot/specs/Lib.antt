@@ -12,6 +12,7 @@ pub use Rattle.oneshot_ends.specs.Moments
 pub use Rattle.oneshot_ends.specs.EndedSenders
 pub use Rattle.oneshot_ends.specs.FirstFound
 pub use Rattle.oneshot_ends.specs.LeftReceivers
+pub use Rattle.oneshot_ends.specs.ToldEnds
 pub use Rattle.oneshot_ends.specs.NoLostWakeup
 pub use Rattle.oneshot_ends.specs.OwnWakers
 pub use Rattle.oneshot_ends.specs.Woken

@@ -50,11 +50,19 @@ pub record PhasesThatAreNot : Type 0 where
   pub full_is_open : (g : Got) → IsOpenAt (full g) → ⊥
   pub gone_is_open : IsOpenAt gone → ⊥
   pub ended_is_open : IsOpenAt ended → ⊥
+  pub overdue_is_open : IsOpenAt overdue → ⊥
+  pub withdrawn_is_open : IsOpenAt withdrew → ⊥
+  pub overwritten_is_open : (s : Swapping) → IsOpenAt (overwritten s) → ⊥
   pub new_is_closed : IsClosedAt untouched → ⊥
   pub loaded_is_closed : (o : Open) → IsClosedAt (idle o) → ⊥
   pub registered_is_closed : (w : Waiting) → IsClosedAt (waits w) → ⊥
   pub claimed_is_closed : IsClosedAt claimed → ⊥
   pub full_is_closed : (g : Got) → IsClosedAt (full g) → ⊥
+  pub overdue_is_closed : IsClosedAt overdue → ⊥
+  pub withdrawn_is_closed : IsClosedAt withdrew → ⊥
+  pub overwritten_is_closed : (s : Swapping) → IsClosedAt (overwritten s) → ⊥
+  pub gone_is_closed : IsClosedAt gone → ⊥
+  pub ended_is_closed : IsClosedAt ended → ⊥
   -- during a call
   pub waiting_rests : (w : Waiting) → Rests (waits w) → ⊥
   pub overdue_rests : Rests overdue → ⊥

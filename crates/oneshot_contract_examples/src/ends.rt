@@ -12,7 +12,7 @@ ghost use Rattle.oneshot_contract_examples.specs.TokenExamples.{TokensThatAreNot
 
 /// Examples that the definitions accept or refuse: open and closed ends, logs of calls, copies of wakers, grounds,
 /// states and lives of a token, wakers that wake, logs that have an order, uses of a parker's own waker, messages that
-/// a receiver took, and what an end finds once the other has ended.
+/// a receiver took, and what is there for one end once the other is over.
 pub fn examples_are_so<T>()
     ensures ends { (channel : TableId) → EndsThatAre channel }
     ensures no_ends { (channel : TableId) → EndsThatAreNot channel }

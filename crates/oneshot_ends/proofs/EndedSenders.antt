@@ -1,8 +1,8 @@
--- What a sender that has ended left: by the word for the phases of both ends, and by the message's slot.
-use Rattle.std.proofs.Common.{◌≡◌, ℕ, List, [], ◌∷◌, Option, Some, refl, ap, ◌∙◌, subst}
+-- What is there for a receiver whose sender is over: by the word for both phases, and by the message's slot.
+use Rattle.std.proofs.Common.{◌≡◌, ℕ, true, List, [], ◌∷◌, Option, Some, refl, ap, ◌∙◌, subst}
 use Rattle.oneshot_machine.specs.Noted.{Noted}
 use Rattle.oneshot_machine.specs.Over.{SenderIsOver, over_finished, over_late, over_overtaken}
-use Rattle.oneshot_machine.specs.Phases.{By, sending, dropping, SenderAt, finished, sender_at, ReceiverAt, untouched, idle, waits, claimed, receiver_at}
+use Rattle.oneshot_machine.specs.Phases.{By, sending, dropping, SenderAt, finished, sender_at, ReceiverAt, untouched, idle, waits, claimed, withdrew, overdue, receiver_at}
 use Rattle.oneshot_drive.specs.BetweenCalls.{IsOpenAt}
 use Rattle.oneshot_word.proofs.Between.{between}
 use Rattle.oneshot_word.proofs.RuleImplies.{final_word, word_between, Is, is}
@@ -13,10 +13,7 @@ use Rattle.oneshot_word.specs.declared.any_waker.AnyWaker.{AnyWaker}
 use Rattle.oneshot_word.specs.Received.{both_views}
 use Rattle.oneshot_word.specs.Rule.{Home, Lies, lies_filled, has_message, IsGiven, message_home, Tied, opened, slot_taken, runs}
 use Rattle.oneshot_word.specs.Seats.{view}
-use Rattle.oneshot_ends.specs.EndedSenders.{word_left, EndedSendersLeftTheirWord, SentMessagesAreThere}
-use Rattle.oneshot_ends.specs.OwnWakers.{RealWaker}
-use Rattle.oneshot_ends.specs.Woken.{Sending, HasEnded}
-use Rattle.oneshot_ends.proofs.GrewByRuns.{words_of}
+use Rattle.oneshot_ends.specs.EndedSenders.{is_seeking, last_word, OpenReceiversSeek, LastWordsAreThere, SentMessagesAreThere}
 
 -- the word and the message's slot at home, by the phases of both ends
 pub record Shown {T H K P : Type 0} (keeps : P → T → Type 0) (about : P) (words : List ℕ) (homes : List (Home T H K))
@@ -56,66 +53,79 @@ module _ {T H K P : Type 0} {keeps : P → T → Type 0} {about : P} where
         lies = lies;
       })))
 
--- a sender that is over beside an open receiver found it there
-found_it : (by : By) (q : ReceiverAt) {p : SenderAt} {word : ℕ} → SenderIsOver by p → IsOpenAt q
+-- a sender that is over beside a receiver that seeks found it there
+found_it : (by : By) (q : ReceiverAt) {p : SenderAt} {word : ℕ} → SenderIsOver by p → is_seeking q ≡ true
     → Is (word_between p q) word → p ≡ finished by
-found_it by q over_finished is_open now = refl
-found_it by untouched over_late is_open now = elim now [ ]
-found_it by (idle o) over_late is_open now = elim now [ ]
-found_it by (waits w) over_late is_open now = elim now [ ]
-found_it by claimed over_late is_open now = elim now [ ]
-found_it by untouched over_overtaken is_open now = elim now [ ]
-found_it by (idle o) over_overtaken is_open now = elim now [ ]
-found_it by (waits w) over_overtaken is_open now = elim now [ ]
-found_it by claimed over_overtaken is_open now = elim now [ ]
-found_it by _ over is_open now = absurd (cc is_open)
+found_it by q over_finished seeks now = refl
+found_it by untouched over_late seeks now = elim now [ ]
+found_it by (idle o) over_late seeks now = elim now [ ]
+found_it by (waits w) over_late seeks now = elim now [ ]
+found_it by claimed over_late seeks now = elim now [ ]
+found_it by withdrew over_late seeks now = elim now [ ]
+found_it by overdue over_late seeks now = elim now [ ]
+found_it by untouched over_overtaken seeks now = elim now [ ]
+found_it by (idle o) over_overtaken seeks now = elim now [ ]
+found_it by (waits w) over_overtaken seeks now = elim now [ ]
+found_it by claimed over_overtaken seeks now = elim now [ ]
+found_it by withdrew over_overtaken seeks now = elim now [ ]
+found_it by overdue over_overtaken seeks now = elim now [ ]
+found_it by _ over seeks now = absurd (cc seeks)
 
-final_left : (by : By) {word : ℕ} → Is (Some (final_word by)) word → word ≡ word_left by
-final_left sending is = refl
-final_left dropping is = refl
+final_so : (by : By) {word : ℕ} → Is (Some (final_word by)) word → word ≡ last_word by
+final_so sending is = refl
+final_so dropping is = refl
 
 -- and left its word there
-open_word : (by : By) (q : ReceiverAt) {word : ℕ} → IsOpenAt q → Is (word_between (finished by) q) word
-    → word ≡ word_left by
-open_word by untouched is_open now = final_left by now
-open_word by (idle o) is_open now = final_left by now
-open_word by (waits w) is_open now = final_left by now
-open_word by claimed is_open now = final_left by now
-open_word by _ is_open now = absurd (cc is_open)
+sought_word : (by : By) (q : ReceiverAt) {word : ℕ} → is_seeking q ≡ true → Is (word_between (finished by) q) word
+    → word ≡ last_word by
+sought_word by untouched seeks now = final_so by now
+sought_word by (idle o) seeks now = final_so by now
+sought_word by (waits w) seeks now = final_so by now
+sought_word by claimed seeks now = final_so by now
+sought_word by withdrew seeks now = final_so by now
+sought_word by overdue seeks now = final_so by now
+sought_word by _ seeks now = absurd (cc seeks)
 
 -- The message that is at home of the channel of such a receiver is the one that was given.
-open_message : {T H K : Type 0} {kept : T → Type 0} {h : Home T H K} (q : ReceiverAt) → IsOpenAt q
+sought_message : {T H K : Type 0} {kept : T → Type 0} {h : Home T H K} (q : ReceiverAt) → is_seeking q ≡ true
     → Lies kept Message (message_home (finished sending) q) h → (m : T) × kept m × (h ≡ has_message m)
-open_message untouched is_open (lies_filled m its) = (m, its, refl)
-open_message (idle o) is_open (lies_filled m its) = (m, its, refl)
-open_message (waits w) is_open (lies_filled m its) = (m, its, refl)
-open_message claimed is_open (lies_filled m its) = (m, its, refl)
-open_message _ is_open lies = absurd (cc is_open)
+sought_message untouched seeks (lies_filled m its) = (m, its, refl)
+sought_message (idle o) seeks (lies_filled m its) = (m, its, refl)
+sought_message (waits w) seeks (lies_filled m its) = (m, its, refl)
+sought_message claimed seeks (lies_filled m its) = (m, its, refl)
+sought_message withdrew seeks (lies_filled m its) = (m, its, refl)
+sought_message overdue seeks (lies_filled m its) = (m, its, refl)
+sought_message _ seeks lies = absurd (cc seeks)
+
+open_seeks : (q : ReceiverAt) → IsOpenAt q → is_seeking q ≡ true
+open_seeks untouched is_open = refl
+open_seeks (idle o) is_open = refl
+open_seeks (waits w) is_open = refl
+open_seeks claimed is_open = refl
+open_seeks _ is_open = absurd (cc is_open)
+
+pub open_receivers_seek : OpenReceiversSeek
+open_receivers_seek log = open_seeks (receiver_at log)
 
 module _ {T P : Type 0} (keeps : P → T → Type 0) where
-  is_over : (by : By) (sender : Sending T RealWaker P) → HasEnded by sender
-      → SenderIsOver by (sender_at sender.side.log)
-  is_over by sender ended =
-      subst (λ xs. SenderIsOver by (sender_at xs)) (words_of T RealWaker sender.side.log) ended.over
-
-  pub senders_left_their_word : EndedSendersLeftTheirWord keeps
-  senders_left_their_word by sender receiver moment ended is_open =
+  pub last_words_are_there : LastWordsAreThere keeps
+  last_words_are_there by sender receiver moment over seeks =
       let q = receiver_at receiver.log in
       let now = shown moment.allowed refl in
-      let found = found_it by q (is_over by sender ended) is_open now.word_is in
+      let found = found_it by q over seeks now.word_is in
       now.words_are ∙ ap (λ w. w ∷ [])
-      (open_word by q is_open (subst (λ p. Is (word_between p q) now.word) found now.word_is))
+      (sought_word by q seeks (subst (λ p. Is (word_between p q) now.word) found now.word_is))
 
-  pub messages_are_there : SentMessagesAreThere keeps
-  messages_are_there sender receiver moment ended is_open =
+  pub sent_messages_are_there : SentMessagesAreThere keeps
+  sent_messages_are_there sender receiver moment over seeks =
       let q = receiver_at receiver.log in
       let now = shown moment.allowed refl in
-      let found = found_it sending q (is_over sending sender ended) is_open now.word_is in
-      let left = open_message q is_open (subst (λ p. Lies (IsGiven keeps moment.about sender.side.passed) Message
+      let found = found_it sending q over seeks now.word_is in
+      let sought = sought_message q seeks (subst (λ p. Lies (IsGiven keeps moment.about sender.passed) Message
       (message_home p q) now.message) found now.lies) in
       record {
-        message = left.0;
-        gave = left.1.1;
+        message = sought.0;
+        gave = sought.1.1;
         waker = now.waker;
-        there = now.homes_are ∙ ap (λ h. h ∷ now.waker ∷ []) left.2;
+        there = now.homes_are ∙ ap (λ h. h ∷ now.waker ∷ []) sought.2;
       }

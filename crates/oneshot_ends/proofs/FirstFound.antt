@@ -1,4 +1,4 @@
--- What a call replies whose first operation finds the word that a sender left: computed for each row of its table.
+-- How a call replies by the word that its first operation finds: computed for each row of its table.
 use Rattle.std.proofs.Common.{◌≡◌, ℕ, Bool, true, false, List, [], ◌∷◌, refl, ap, ◌∙◌, subst}
 use Rattle.std.proofs.lemmas.Bool.{and_parts, eq-eqb}
 use Rattle.std.specs.Prelude.{◌&&◌, if◌then◌else◌}
@@ -15,17 +15,21 @@ use Rattle.oneshot_machine.specs.declared.machine.by_ref.RefPos.TheVariants.{Sta
 use Rattle.oneshot_machine.specs.declared.machine.timed.TimedPos.TheVariants.{SumClock}
 use Rattle.oneshot_machine.specs.declared.machine.value.ValuePos.TheVariants.{RecvLoad, RecvTake, RecvFreeGot, RecvFreeGone}
 use Rattle.oneshot_machine.specs.declared.machine.future.FuturePos.TheVariants.{PollLoad, AsyncTryLoad}
+use Rattle.oneshot_machine.specs.declared.machine.sender.SenderPos.{SenderPos}
+use Rattle.oneshot_machine.specs.declared.machine.sender.SenderPos.TheVariants.{SendWrite, SendAdd, SendTakeWaker, SendFinal, SendWake, SendLateWake}
 use Rattle.oneshot_machine.specs.declared.machine.Step.{Step}
+use Rattle.oneshot_machine.specs.declared.states.TheConstants.{DISCONNECTED, MESSAGE}
 use Rattle.oneshot_machine.specs.declared.states.Op.{Op}
 use Rattle.oneshot_machine.specs.Logs.{Event, words}
 use Rattle.oneshot_machine.specs.Noted.{Noted}
-use Rattle.oneshot_machine.specs.Phases.{By, sending, dropping, phase_from}
+use Rattle.oneshot_machine.specs.Phases.{phase_from}
 use Rattle.oneshot_machine.specs.Receiver.{receiver_start, receiver_step, receiver_rows}
 use Rattle.oneshot_machine.specs.Runs.{Run}
+use Rattle.oneshot_machine.specs.Sender.{sender_step, sender_rows}
 use Rattle.oneshot_machine.specs.TableRows.{Rows, row_for, is_same_seen}
 use Rattle.oneshot_machine.proofs.RunsByRows.{carries, by_tests}
-use Rattle.oneshot_ends.specs.EndedSenders.{word_left}
-use Rattle.oneshot_ends.specs.FirstFound.{receives, reply_after, FirstFound, first_found, RepliesTellTheEnd, ReceivesOperate}
+use Rattle.oneshot_ends.specs.FirstFound.{receives, FirstFound, first_found, ReceivesByFirstWord, SendsByFirstWord}
+use Rattle.oneshot_ends.specs.Taken.{is_message}
 
 -- the first operation of a call: none yet, one that found a certain word, or one that found another
 pub data First : Type 0 where
@@ -106,14 +110,17 @@ is_first (Future PollLoad) = true
 is_first (Future AsyncTryLoad) = true
 is_first _ = false
 
--- positions between that operation and the reply, where it found the word
-abbrev leads_to : By → ReceiverPos → Bool
-leads_to sending (Try Close) = true
-leads_to sending (Try Take) = true
-leads_to sending (Value RecvTake) = true
-leads_to sending (Value RecvFreeGot) = true
-leads_to dropping (Value RecvFreeGone) = true
-leads_to _ _ = false
+-- positions between that operation and the reply, if it found MESSAGE or DISCONNECTED
+abbrev leads_to_message : ReceiverPos → Bool
+leads_to_message (Try Close) = true
+leads_to_message (Try Take) = true
+leads_to_message (Value RecvTake) = true
+leads_to_message (Value RecvFreeGot) = true
+leads_to_message _ = false
+
+abbrev leads_to_none : ReceiverPos → Bool
+leads_to_none (Value RecvFreeGone) = true
+leads_to_none _ = false
 
 -- the families of positions of receives and polls
 abbrev is_receiving : ReceiverPos → Bool
@@ -124,47 +131,98 @@ is_receiving (Value at) = true
 is_receiving (Future at) = true
 is_receiving _ = false
 
-abbrev tells : By → Reply → Bool
-tells sending R.Message = true
-tells dropping R.Disconnected = true
-tells _ _ = false
+abbrev is_none : Reply → Bool
+is_none R.Disconnected = true
+is_none _ = false
 
-abbrev receives_first : By → ReceiverPos → Bool
-receives_first by =
-    finds_first is_first (leads_to by) is_receiving (tells by) receiver_step receiver_rows (word_left by)
+abbrev finds_message : ReceiverPos → Bool
+finds_message =
+    finds_first is_first leads_to_message is_receiving is_message receiver_step receiver_rows MESSAGE
 
-each_receives : (by : By) (p : ReceiverPos) → receives_first by p ≡ true
-each_receives sending (Try TryLoad) = refl
-each_receives sending (Ref (StartSwap false)) = refl
-each_receives sending (Timed (SumClock true)) = refl
-each_receives sending (Value RecvLoad) = refl
-each_receives sending (Future PollLoad) = refl
-each_receives sending _ = refl
-each_receives dropping (Try TryLoad) = refl
-each_receives dropping (Ref (StartSwap false)) = refl
-each_receives dropping (Timed (SumClock true)) = refl
-each_receives dropping (Value RecvLoad) = refl
-each_receives dropping (Future PollLoad) = refl
-each_receives dropping _ = refl
+-- in each family, the checker splits the position where a case stands
+each_finds_message : (p : ReceiverPos) → finds_message p ≡ true
+each_finds_message (Try TryLoad) = refl
+each_finds_message (Ref (StartSwap false)) = refl
+each_finds_message (Timed (SumClock true)) = refl
+each_finds_message (Value RecvLoad) = refl
+each_finds_message (Future PollLoad) = refl
+each_finds_message _ = refl
+
+abbrev finds_no_message : ReceiverPos → Bool
+finds_no_message = finds_first is_first leads_to_none is_receiving is_none receiver_step receiver_rows DISCONNECTED
+
+each_finds_no_message : (p : ReceiverPos) → finds_no_message p ≡ true
+each_finds_no_message (Try TryLoad) = refl
+each_finds_no_message (Ref (StartSwap false)) = refl
+each_finds_no_message (Timed (SumClock true)) = refl
+each_finds_no_message (Value RecvLoad) = refl
+each_finds_no_message (Future PollLoad) = refl
+each_finds_no_message _ = refl
 
 begins_first : (call : ReceiverStart) → receives call ≡ true → is_first (receiver_start call) ≡ true
 begins_first RC.TryRecv e = refl
 begins_first _ e = e
 
-its_reply : (by : By) (reply : Reply) → tells by reply ≡ true → reply ≡ reply_after by
-its_reply sending R.Message e = refl
-its_reply dropping R.Disconnected e = refl
-its_reply sending _ e = absurd (cc e)
-its_reply dropping _ e = absurd (cc e)
+its_message : (reply : Reply) → is_message reply ≡ true → reply ≡ R.Message
+its_message R.Message e = refl
+its_message _ e = absurd (cc e)
 
-module _ {T : Type 0} where
-  pub replies_tell : RepliesTellTheEnd T
-  replies_tell by call run reply e is_run first =
-      its_reply by reply
-      (tells_so is_first (leads_to by) is_receiving (tells by) receiver_step receiver_rows (word_left by)
-      (each_receives by) (receiver_start call) (begins_first call e) run reply is_run first)
+its_none : (reply : Reply) → is_none reply ≡ true → reply ≡ R.Disconnected
+its_none R.Disconnected e = refl
+its_none _ e = absurd (cc e)
 
-  pub receives_operate : ReceivesOperate T
-  receives_operate call run reply e is_run =
-      operates is_first (leads_to sending) is_receiving (tells sending) receiver_step receiver_rows (word_left sending)
-      (each_receives sending) (receiver_start call) (begins_first call e) run reply is_run
+pub receives_by_first_word : {T : Type 0} → ReceivesByFirstWord T
+receives_by_first_word =
+    record {
+      operates = λ call run reply e is_run.
+          operates is_first leads_to_message is_receiving is_message receiver_step receiver_rows MESSAGE
+          each_finds_message (receiver_start call) (begins_first call e) run reply is_run;
+      message = λ call run reply e is_run first.
+          its_message reply
+          (tells_so is_first leads_to_message is_receiving is_message receiver_step receiver_rows MESSAGE
+          each_finds_message (receiver_start call) (begins_first call e) run reply is_run first);
+      none = λ call run reply e is_run first.
+          its_none reply
+          (tells_so is_first leads_to_none is_receiving is_none receiver_step receiver_rows DISCONNECTED
+          each_finds_no_message (receiver_start call) (begins_first call e) run reply is_run first);
+    }
+
+-- positions of a `send`
+abbrev is_new : SenderPos → Bool
+is_new SendWrite = true
+is_new SendAdd = true
+is_new _ = false
+
+abbrev is_sending : SenderPos → Bool
+is_sending SendTakeWaker = true
+is_sending SendFinal = true
+is_sending SendWake = true
+is_sending SendLateWake = true
+is_sending _ = false
+
+abbrev is_refusal : Reply → Bool
+is_refusal R.Refused = true
+is_refusal _ = false
+
+abbrev finds_gone : SenderPos → Bool
+finds_gone = finds_first is_new (λ p. false) is_sending is_refusal sender_step sender_rows DISCONNECTED
+
+each_finds_gone : (p : SenderPos) → finds_gone p ≡ true
+each_finds_gone SendAdd = refl
+each_finds_gone _ = refl
+
+its_refusal : (reply : Reply) → is_refusal reply ≡ true → reply ≡ R.Refused
+its_refusal R.Refused e = refl
+its_refusal _ e = absurd (cc e)
+
+pub sends_by_first_word : {T : Type 0} → SendsByFirstWord T
+sends_by_first_word =
+    record {
+      operates = λ run reply is_run.
+          operates is_new (λ p. false) is_sending is_refusal sender_step sender_rows DISCONNECTED each_finds_gone
+          SendWrite refl run reply is_run;
+      refused = λ run reply is_run first.
+          its_refusal reply
+          (tells_so is_new (λ p. false) is_sending is_refusal sender_step sender_rows DISCONNECTED each_finds_gone
+          SendWrite refl run reply is_run first);
+    }

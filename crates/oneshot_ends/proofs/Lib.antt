@@ -8,9 +8,9 @@
 -- 2. One call. `GrewByRuns` and `CallsAnswered` add its operations to the log. `EndViews` compares two views of one
 -- end. `PolledEnds` and `TimeoutEnds` read its result.
 -- 3. Messages. `Taken` proves that a log shows whether its receiver took the message, and `OpenTaken` that an open one
--- took none. `EndedSenders` proves what a sender that has ended left for an open receiver, and `FirstFound` what a call
--- replies that finds it. `LeftReceivers` proves the same of a receiver that has left,
--- and `ClosedReceivers` why a receiver is closed that found no message.
+-- took none. `EndedSenders` and `LeftReceivers` prove what is there for one end once the other is over, `FirstFound`
+-- how a call replies by the word that its first operation finds, and `ToldEnds` what the operations of a receiver tell
+-- of its sender.
 -- 4. Wakers. `Tokens` and `TokenLives` prove the rule of a token, `OwnWakers` and `TaskWakers` whose wakers a receiver
 -- gives. `Owes` and `FoundWaiting` prove which waker a sender took. `NoLostWakeup` concludes.
 -- `PatienceExamples` and `DeadlineExamples` compute the examples. The folders follow the files and functions of `src/`.
@@ -30,7 +30,7 @@ mod OpenTaken
 mod EndedSenders
 mod FirstFound
 mod LeftReceivers
-mod ClosedReceivers
+mod ToldEnds
 pub mod TimeoutEnds
 mod PollingTokens
 mod PolledEnds

@@ -109,7 +109,7 @@ abbrev pub WasRefused : (T : Type 0) → List Noted → Type 0
 WasRefused T log = SenderCalled T UnnamedWaker ((Send, Refused) ∷ []) log
 
 -- A receiver or a future with this log is closed, so that every later receive or poll fails, or is open, so that one
--- may return the message.
+-- may return the message. Between two calls it is one of both.
 abbrev pub IsClosed : List Noted → Type 0
 IsClosed log = IsClosedAt (receiver_at log)
 

@@ -1,17 +1,18 @@
--- What a receive or a poll replies whose first operation finds the word that a sender left.
+-- How a call replies by the word that its first operation finds.
 use Rattle.std.specs.Prelude.{◌≡◌, Bool, true, false, IsTrue, ℕ, List, [], ◌∷◌}
 use Rattle.oneshot_machine.specs.declared.machine.Reply.{Reply}
 use Rattle.oneshot_machine.specs.declared.machine.Reply.TheVariants as R
 use Rattle.oneshot_machine.specs.declared.machine.Seen.TheVariants.{Word}
 use Rattle.oneshot_machine.specs.declared.machine.receiver.ReceiverStart.{ReceiverStart}
 use Rattle.oneshot_machine.specs.declared.machine.receiver.ReceiverStart.TheVariants as RC
+use Rattle.oneshot_machine.specs.declared.machine.sender.SenderCall.TheVariants.{Send}
 use Rattle.oneshot_machine.specs.declared.states.Op.{Op}
+use Rattle.oneshot_machine.specs.declared.states.TheConstants.{DISCONNECTED, MESSAGE}
 use Rattle.oneshot_machine.specs.Logs.{Event, words}
 use Rattle.oneshot_machine.specs.Noted.{Noted}
-use Rattle.oneshot_machine.specs.Phases.{By, sending, dropping}
 use Rattle.oneshot_machine.specs.Receiver.{receiver_start, receiver_step, receiver_row}
 use Rattle.oneshot_machine.specs.Runs.{Run}
-use Rattle.oneshot_ends.specs.EndedSenders.{word_left}
+use Rattle.oneshot_machine.specs.Sender.{sender_start, sender_step, sender_row}
 use Rattle.oneshot_ends.specs.Ends.{UnnamedWaker}
 
 -- the receives and the polls
@@ -25,26 +26,29 @@ receives RC.Poll = true
 receives RC.AsyncTryRecv = true
 receives _ = false
 
--- the reply that tells how the sender ended
-abbrev pub reply_after : By → Reply
-reply_after sending = R.Message
-reply_after dropping = R.Disconnected
-
 -- the first of these operations found this word
 pub data FirstFound (word : ℕ) : List Noted → Type 0 where
   first_found : (op : Op) (rest : List Noted) → FirstFound word ((op, Word word) ∷ rest)
 
 module _ (T : Type 0) where
-  -- If the first operation of a receive or a poll finds the word that a sender left, the reply tells how that sender
-  -- ended.
-  abbrev pub RepliesTellTheEnd : Type 0
-  RepliesTellTheEnd =
-      (by : By) (call : ReceiverStart) (run : List (Event T UnnamedWaker)) (reply : Reply) → IsTrue (receives call)
-      → Run receiver_step receiver_row (receiver_start call) run reply → FirstFound (word_left by) (words run)
-      → reply ≡ reply_after by
+  abbrev pub ReceiveRun : ReceiverStart → List (Event T UnnamedWaker) → Reply → Type 0
+  ReceiveRun call = Run receiver_step receiver_row (receiver_start call)
 
-  -- Each receive and each poll performs an operation.
-  abbrev pub ReceivesOperate : Type 0
-  ReceivesOperate =
-      (call : ReceiverStart) (run : List (Event T UnnamedWaker)) (reply : Reply) → IsTrue (receives call)
-      → Run receiver_step receiver_row (receiver_start call) run reply → words run ≡ [] → ⊥
+  -- Each run of a receive or a poll has an operation. If the first one finds MESSAGE, the run ends in the reply
+  -- Message. If it finds DISCONNECTED, the run ends in the reply Disconnected.
+  pub record ReceivesByFirstWord : Type 0 where
+    pub operates : (call : ReceiverStart) (run : List (Event T UnnamedWaker)) (reply : Reply) → IsTrue (receives call)
+        → ReceiveRun call run reply → words run ≡ [] → ⊥
+    pub message : (call : ReceiverStart) (run : List (Event T UnnamedWaker)) (reply : Reply) → IsTrue (receives call)
+        → ReceiveRun call run reply → FirstFound MESSAGE (words run) → reply ≡ R.Message
+    pub none : (call : ReceiverStart) (run : List (Event T UnnamedWaker)) (reply : Reply) → IsTrue (receives call)
+        → ReceiveRun call run reply → FirstFound DISCONNECTED (words run) → reply ≡ R.Disconnected
+
+  abbrev pub SendRun : List (Event T UnnamedWaker) → Reply → Type 0
+  SendRun = Run sender_step sender_row (sender_start Send)
+
+  -- Each run of a `send` has an operation. If the first one finds DISCONNECTED, the run ends in the refusal.
+  pub record SendsByFirstWord : Type 0 where
+    pub operates : (run : List (Event T UnnamedWaker)) (reply : Reply) → SendRun run reply → words run ≡ [] → ⊥
+    pub refused : (run : List (Event T UnnamedWaker)) (reply : Reply) → SendRun run reply
+        → FirstFound DISCONNECTED (words run) → reply ≡ R.Refused

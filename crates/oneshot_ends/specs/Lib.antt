@@ -9,8 +9,9 @@
 -- 2. The wakers: `Tokens` is the rule of a parker's token, `Woken` states what a used waker leaves behind, and
 -- `OwnWakers` whose wakers a receiver gives.
 -- 3. The laws of both ends together: `Moments` defines a moment at which both are seen. `NoLostWakeup` states that no
--- wakeup is lost, `EndedSenders` and `FirstFound` what an open receiver finds once its sender has ended, and
--- `LeftReceivers` what a sender finds once its receiver has left.
+-- wakeup is lost. `EndedSenders` and `LeftReceivers` state what is there for one end once the other is over,
+-- `FirstFound` how a call replies by the word that its first operation finds, and `ToldEnds` what the operations of a
+-- receiver tell of its sender.
 -- 4. The wait: `Deadlines` states when a deadline is over, and what a receive with a timeout appends to the log.
 -- `Patience` states how long a receive spins and sleeps. `PatienceExamples` and `DeadlineExamples` have
 -- examples of types that no other crate can name.
@@ -27,6 +28,7 @@ pub mod Moments
 pub mod EndedSenders
 pub mod FirstFound
 pub mod LeftReceivers
+pub mod ToldEnds
 pub mod NoLostWakeup
 pub mod Patience
 pub mod PatienceExamples

@@ -7,14 +7,15 @@ ghost use Rattle.std.specs.Prelude.{◌≡◌, [], None};
 ghost use Rattle.oneshot_machine.specs.Called.{as_receiver, as_future};
 ghost use Rattle.oneshot_ends.specs.Ends.{IsOpen, HasCalls, CallsAddUp, SenderIsOrdered, ReceiverIsOrdered, WasRefused};
 ghost use Rattle.oneshot_ends.specs.DeadlineExamples.{DeadlinesThatAre, DeadlinesThatAreNot};
-ghost use Rattle.oneshot_ends.specs.EndedSenders.{EndedSendersLeftTheirWord, SentMessagesAreThere, ClosedReceiversLostTheirSender};
-ghost use Rattle.oneshot_ends.specs.FirstFound.{RepliesTellTheEnd, ReceivesOperate};
-ghost use Rattle.oneshot_ends.specs.LeftReceivers.{LeftReceiversAreFound, LateSendersLostTheirReceiver, LateSendsAreRefused, SendsOperate};
+ghost use Rattle.oneshot_ends.specs.EndedSenders.{LastWordsAreThere, SentMessagesAreThere, OpenReceiversSeek};
+ghost use Rattle.oneshot_ends.specs.FirstFound.{ReceivesByFirstWord, SendsByFirstWord};
+ghost use Rattle.oneshot_ends.specs.LeftReceivers.{LeavingWordsAreThere, LostReceiversWereDropped};
 ghost use Rattle.oneshot_ends.specs.Moments.{TookWhatWasGiven};
 ghost use Rattle.oneshot_ends.specs.NoLostWakeup.{EndedSendersGaveTokens, NoSleeperIsForgotten, FuturesWakeNoThread};
 ghost use Rattle.oneshot_ends.specs.NoLostWakeup.{EndedSendersWokeTasks, NoTaskIsForgotten, GivenTokensStay};
 ghost use Rattle.oneshot_ends.specs.PatienceExamples.{WaitsThatAre, WaitsThatAreNot};
 ghost use Rattle.oneshot_ends.specs.Taken.{TookAsFound};
+ghost use Rattle.oneshot_ends.specs.ToldEnds.{FoundMessagesWereSent, LostSendersWereDropped};
 ghost use Rattle.oneshot_ends.specs.Tokens.{LivesLeadToStates, TokensAreGivenOnce, HasOneWakingHalf};
 
 use crate::error::SendError;
@@ -88,36 +89,44 @@ pub fn what_was_taken_was_given<T, P: Promise<T>>()
     ensures { TookWhatWasGiven P.keeps }
 {}
 
-/// An open receiver finds what its sender left. At each moment (`AtOneMoment`) at which the sender has ended
-/// (`HasEnded`) and the receiver is open (`IsOpen`):
+/// What a sender leaves is there for its receiver. At each moment (`AtOneMoment`) at which the sender has performed its
+/// last operation (`SenderIsOver`), and the receiver has found neither the message nor that none will come and was not
+/// dropped (`IsSeeking`):
 ///
-/// - the word is the one that the sender left: `MESSAGE` after a `send`, `DISCONNECTED` after a drop (`word`);
+/// - the word is `MESSAGE` after a `send`, and `DISCONNECTED` after a drop (`word`);
 /// - after a `send`, the message that the sender gave is in its slot (`message`).
 ///
-/// A receiver that is closed, and whose operations found no message, has a sender that ended by its drop (`closed`).
+/// Each open receiver is such a receiver (`open`). Each run of a receive or a poll has an operation. If the first one
+/// finds `MESSAGE`, the reply is the message; if it finds `DISCONNECTED`, the reply is that none will come (`replies`).
 ///
-/// Each receive and each poll performs an operation (`operates`). If the first one finds `MESSAGE`, the reply is the
-/// message. If it finds `DISCONNECTED`, the reply is that no message will come (`reply`). That an operation finds the
-/// word which is there, `atomic_table` promises and no clause states.
-pub fn an_ended_sender_is_found<T, P: Promise<T>>()
-    ensures word { EndedSendersLeftTheirWord P.keeps }
+/// In the other direction: a receiver whose operations found the message has a sender whose `send` has performed its
+/// last operation (`sent`), and one that found that none will come has a sender whose drop has (`dropped`).
+///
+/// No clause states that an operation finds and notes the word that is there. `atomic_table` promises the first, and
+/// `specs/Plays.antt` of `oneshot_word` has the notes.
+pub fn what_a_sender_leaves_is_there<T, P: Promise<T>>()
+    ensures word { LastWordsAreThere P.keeps }
     ensures message { SentMessagesAreThere P.keeps }
-    ensures closed { ClosedReceiversLostTheirSender P.keeps }
-    ensures operates { ReceivesOperate T }
-    ensures reply { RepliesTellTheEnd T }
+    ensures open { OpenReceiversSeek }
+    ensures replies { ReceivesByFirstWord T }
+    ensures sent { FoundMessagesWereSent P.keeps }
+    ensures dropped { LostSendersWereDropped P.keeps }
 {}
 
-/// A sender finds that its receiver has left. At each moment (`AtOneMoment`) at which the receiver or the future has
-/// left (`HasLeft`) and the sender has performed no operation, the word is `DISCONNECTED` (`word`). At each moment at
-/// which the last operation of the sender found the receiver gone (`IsLate`), the receiver has left (`late`).
+/// What a receiver leaves is there for its sender. At each moment (`AtOneMoment`) at which the drop of a receiver or a
+/// future has performed its last operation (`HasLeft`), and the sender has performed none, the word is `DISCONNECTED`
+/// (`word`). Each run of a `send` has an operation. If the first one finds `DISCONNECTED`, the `send` is refused
+/// (`replies`).
 ///
-/// Each `send` performs an operation (`operates`). If the first one finds `DISCONNECTED`, the `send` is refused
-/// (`reply`). The functions that release a dropped receiver require `HasLeft` of it.
-pub fn a_left_receiver_is_found<T, P: Promise<T>>()
-    ensures word { LeftReceiversAreFound P.keeps }
-    ensures late { LateSendersLostTheirReceiver P.keeps }
-    ensures operates { SendsOperate T }
-    ensures reply { LateSendsAreRefused T }
+/// In the other direction: a sender whose last operation found the receiver gone (`IsLate`, as in each `SendError`) has
+/// a receiver whose drop has performed its last operation (`dropped`).
+///
+/// No clause states that an operation finds and notes the word that is there, as in `what_a_sender_leaves_is_there`.
+/// `dropped`, the function that releases the ground of a dropped receiver, requires `HasLeft`.
+pub fn what_a_receiver_leaves_is_there<T, P: Promise<T>>()
+    ensures word { LeavingWordsAreThere P.keeps }
+    ensures replies { SendsByFirstWord T }
+    ensures dropped { LostReceiversWereDropped P.keeps }
 {}
 
 /// Adds up the calls of a receiver or a future. If its log was that of some calls, and one more call left it

@@ -1,6 +1,6 @@
--- Why a receiver is closed that found no message: its sender ended by its drop. By induction on the order of both logs,
--- in which the checker computes each step for each pair of phases.
-use Rattle.std.proofs.Common.{◌≡◌, ℕ, Bool, true, false, List, [], ◌∷◌, ◌++◌, Option, Some, None, refl, sym, ap, ◌∙◌}
+-- What the operations of a receiver tell of its sender: by induction on the order of both logs, in which the checker
+-- computes each step for each pair of phases.
+use Rattle.std.proofs.Common.{◌≡◌, ℕ, Bool, true, false, List, [], ◌∷◌, ◌++◌, Option, Some, None, refl, ap, ◌∙◌, subst}
 use Rattle.std.proofs.lemmas.Bool.{and_parts, eq-eqb}
 use Rattle.std.specs.Prelude.{◌&&◌, ◌||◌, ◌==◌, if◌then◌else◌}
 use Rattle.std.specs.List.{list_all}
@@ -9,27 +9,28 @@ use Rattle.oneshot_machine.proofs.GrownLogs.{phase_from-snoc}
 use Rattle.oneshot_machine.proofs.Sameness.{each_passes}
 use Rattle.oneshot_machine.specs.Noted.{Noted, saw}
 use Rattle.oneshot_machine.specs.Orders.{Reaches, nothing_made, sender_makes, receiver_makes, has_row}
-use Rattle.oneshot_machine.specs.Phases.{Row, dropping, SenderAt, fresh, finished, sender_moves, sender_next, sender_at}
+use Rattle.oneshot_machine.specs.Phases.{By, sending, dropping, Row, SenderAt, fresh, finished, sender_moves, sender_next, sender_at}
 use Rattle.oneshot_machine.specs.Phases.{ReceiverAt, untouched, full, overwritten, disconnected, resolved, receiver_moves, receiver_next, receiver_at}
-use Rattle.oneshot_drive.specs.BetweenCalls.{IsClosedAt}
 use Rattle.oneshot_word.proofs.Between.{between}
 use Rattle.oneshot_word.proofs.RuleImplies.{word_between, Is, is}
 use Rattle.oneshot_word.proofs.RuleReceives.{both_reach}
-use Rattle.oneshot_ends.specs.EndedSenders.{ClosedReceiversLostTheirSender}
+use Rattle.oneshot_word.specs.Side.{Side}
+use Rattle.oneshot_ends.specs.Moments.{AtOneMoment}
+use Rattle.oneshot_ends.specs.OwnWakers.{RealWaker}
+use Rattle.oneshot_ends.specs.ToldEnds.{is_answered, FoundMessagesWereSent, LostSendersWereDropped}
 use Rattle.oneshot_ends.specs.Taken.{has_found}
 use Rattle.oneshot_ends.proofs.Taken.{found_both}
 
-abbrev is_dropped : SenderAt → Bool
-is_dropped (finished dropping) = true
-is_dropped _ = false
+abbrev is_by : By → SenderAt → Bool
+is_by sending (finished sending) = true
+is_by dropping (finished dropping) = true
+is_by _ _ = false
 
--- whether phases of both ends agree with whether the receiver's operations found a message
+-- whether phases of both ends agree with whether the receiver's operations found the message
 abbrev agrees : SenderAt → ReceiverAt → Bool → Bool
-agrees p (full got) found = found
-agrees p (overwritten by) found = found || is_dropped p
-agrees p (disconnected closing) found = found || is_dropped p
-agrees p (resolved closing) found = found || is_dropped p
-agrees p _ found = true
+agrees p q true = is_by sending p
+agrees p (full got) false = false
+agrees p q false = if is_answered q then is_by dropping p else true
 
 abbrev has_word : Option ℕ → ℕ → Bool
 has_word (Some left) word = left == word
@@ -90,18 +91,31 @@ all_agree (receiver_makes {xs} {ys} {word} op order (has_row row)) =
     (each_passes (receiver_keeps p q found) (receiver_moves q) (kept_parts found p q).0 row)
     (both_true (agrees p q found) (has_word (word_between p q) word) (all_agree order) (is_had (between order)))
 
-dropped : (p : SenderAt) → is_dropped p ≡ true → p ≡ finished dropping
-dropped (finished dropping) e = refl
-dropped _ e = absurd (cc e)
+finished_so : (by : By) (p : SenderAt) → is_by by p ≡ true → p ≡ finished by
+finished_so sending (finished sending) e = refl
+finished_so dropping (finished dropping) e = refl
+finished_so sending _ e = absurd (cc e)
+finished_so dropping _ e = absurd (cc e)
 
-closed_by_drop : (p : SenderAt) (q : ReceiverAt) {found : Bool} → IsClosedAt q → found ≡ false
-    → agrees p q found ≡ true → p ≡ finished dropping
-closed_by_drop p (disconnected c) closed none e = dropped p (sym (ap (λ found. found || is_dropped p) none) ∙ e)
-closed_by_drop p (resolved c) closed none e = dropped p (sym (ap (λ found. found || is_dropped p) none) ∙ e)
-closed_by_drop p _ closed none e = absurd (cc closed)
+answered_none : (p : SenderAt) (q : ReceiverAt) → is_answered q ≡ true → agrees p q false ≡ true
+    → p ≡ finished dropping
+answered_none p (full got) answered e = absurd (cc e)
+answered_none p (overwritten by) answered e = finished_so dropping p e
+answered_none p (disconnected closing) answered e = finished_so dropping p e
+answered_none p (resolved closing) answered e = finished_so dropping p e
+answered_none p _ answered e = absurd (cc answered)
 
-pub closed_receivers_lost_their_sender : {T P : Type 0} (keeps : P → T → Type 0)
-    → ClosedReceiversLostTheirSender keeps
-closed_receivers_lost_their_sender keeps sender receiver moment closed none =
-    closed_by_drop (sender_at sender.log) (receiver_at receiver.log) closed none
-    (all_agree (both_reach moment.allowed refl).1)
+module _ {T P : Type 0} (keeps : P → T → Type 0) where
+  agreed : (sender receiver : Side T RealWaker P) → AtOneMoment keeps sender receiver → {found : Bool}
+      → has_found receiver.log ≡ found → agrees (sender_at sender.log) (receiver_at receiver.log) found ≡ true
+  agreed sender receiver moment has =
+      subst (λ found. agrees (sender_at sender.log) (receiver_at receiver.log) found ≡ true) has
+      (all_agree (both_reach moment.allowed refl).1)
+
+  pub found_messages_were_sent : FoundMessagesWereSent keeps
+  found_messages_were_sent sender receiver moment has =
+      finished_so sending (sender_at sender.log) (agreed sender receiver moment has)
+
+  pub lost_senders_were_dropped : LostSendersWereDropped keeps
+  lost_senders_were_dropped sender receiver moment answered none =
+      answered_none (sender_at sender.log) (receiver_at receiver.log) answered (agreed sender receiver moment none)
