@@ -8,11 +8,6 @@
 -- the definitions that the contracts of the ends name
 pub use Rattle.oneshot_ends.specs.Ends
 pub use Rattle.oneshot_ends.specs.Taken
-pub use Rattle.oneshot_ends.specs.Moments
-pub use Rattle.oneshot_ends.specs.EndedSenders
-pub use Rattle.oneshot_ends.specs.FirstFound
-pub use Rattle.oneshot_ends.specs.LeftReceivers
-pub use Rattle.oneshot_ends.specs.ToldEnds
 pub use Rattle.oneshot_ends.specs.NoLostWakeup
 pub use Rattle.oneshot_ends.specs.OwnWakers
 pub use Rattle.oneshot_ends.specs.Woken

@@ -6,16 +6,8 @@
 -- its end).
 -- `Noted`, `Logs`, `Called`, `Counts` and `Phases` define logs, and what a log shows.
 -- `Tokens`, `Woken`, `OwnWakers` and `NoLostWakeup` define what becomes of wakers.
--- `Moments` defines a moment at which both ends are seen. `EndedSenders` and `LeftReceivers` define what is there for
--- one end once the other is over, `FirstFound` how a call replies by the word that its first operation finds, and
--- `ToldEnds` what the operations of a receiver tell of its sender.
 pub use Rattle.oneshot_ends.specs.Ends
 pub use Rattle.oneshot_ends.specs.Taken
-pub use Rattle.oneshot_ends.specs.Moments
-pub use Rattle.oneshot_ends.specs.EndedSenders
-pub use Rattle.oneshot_ends.specs.FirstFound
-pub use Rattle.oneshot_ends.specs.LeftReceivers
-pub use Rattle.oneshot_ends.specs.ToldEnds
 pub use Rattle.oneshot_ends.specs.NoLostWakeup
 pub use Rattle.oneshot_ends.specs.OwnWakers
 pub use Rattle.oneshot_ends.specs.Woken

@@ -11,7 +11,7 @@ use Rattle.oneshot_word.proofs.Names.{lies_out, lies_bare, lies_filled, took_non
 use Rattle.oneshot_word.specs.Rule.{Home, out, bare, has_message, Tied}
 use Rattle.oneshot_word.specs.Received.{both_views}
 use Rattle.oneshot_ends.specs.declared.token.WakingHalf.{WakingHalf}
-use Rattle.oneshot_ends.specs.FirstFound.{first_found}
+use Rattle.oneshot_values.specs.FirstFound.{first_found}
 use Rattle.oneshot_contract_examples.proofs.ComputedRuns.{computed}
 use Rattle.oneshot_contract_examples.specs.EndedExamples.{sent_here, dropped_here, found_no_sender, FindsThatAre, FindsThatAreNot}
 use Rattle.oneshot_contract_examples.specs.ExampleLogs.{loaded, waits, polled, sent_over}

@@ -19,12 +19,12 @@ use Rattle.oneshot_contract_examples.specs.ExampleLogs.{loaded, waits, sent_over
 use Rattle.oneshot_contract_examples.specs.StateExamples.{stopped_over, exchanged_back, left_meanwhile, dropped_over, went}
 use Rattle.oneshot_contract_examples.specs.TakenExamples.{passed_by, Beside}
 use Rattle.oneshot_ends.specs.declared.token.WakingHalf.{WakingHalf}
-use Rattle.oneshot_ends.specs.EndedSenders.{IsSeeking, last_word, MessageIsThere}
+use Rattle.oneshot_values.specs.EndedSenders.{IsSeeking, last_word, MessageIsThere}
 use Rattle.oneshot_ends.specs.Ends.{UnnamedWaker}
-use Rattle.oneshot_ends.specs.FirstFound.{receives, FirstFound, ReceiveRun, SendRun}
+use Rattle.oneshot_values.specs.FirstFound.{receives, FirstFound, ReceiveRun, SendRun}
 use Rattle.oneshot_ends.specs.OwnWakers.{RealWaker}
 use Rattle.oneshot_ends.specs.Taken.{has_found}
-use Rattle.oneshot_ends.specs.ToldEnds.{IsAnswered}
+use Rattle.oneshot_values.specs.ToldEnds.{IsAnswered}
 
 -- a `send` and a sender's drop that found the receiver there and not waiting, and a `send` that found it gone
 abbrev pub sent_here : List Noted

@@ -8,9 +8,7 @@
 -- 2. One call. `GrewByRuns` and `CallsAnswered` add its operations to the log. `EndViews` compares two views of one
 -- end. `PolledEnds` and `TimeoutEnds` read its result.
 -- 3. Messages. `Taken` proves that a log shows whether its receiver took the message, and `OpenTaken` that an open one
--- took none. `EndedSenders` and `LeftReceivers` prove what is there for one end once the other is over, `FirstFound`
--- how a call replies by the word that its first operation finds, and `ToldEnds` what the operations of a receiver tell
--- of its sender.
+-- took none.
 -- 4. Wakers. `Tokens` and `TokenLives` prove the rule of a token, `OwnWakers` and `TaskWakers` whose wakers a receiver
 -- gives. `Owes` and `FoundWaiting` prove which waker a sender took. `NoLostWakeup` concludes.
 -- `PatienceExamples` and `DeadlineExamples` compute the examples. The folders follow the files and functions of `src/`.
@@ -27,10 +25,6 @@ mod NewEnds
 mod LentGrounds
 pub mod Taken
 mod OpenTaken
-mod EndedSenders
-mod FirstFound
-mod LeftReceivers
-mod ToldEnds
 pub mod TimeoutEnds
 mod PollingTokens
 mod PolledEnds

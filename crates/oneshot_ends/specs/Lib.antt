@@ -8,10 +8,8 @@
 -- step to step (`Stays` has lemmas about this), and `Invariants` what always holds between two calls.
 -- 2. The wakers: `Tokens` is the rule of a parker's token, `Woken` states what a used waker leaves behind, and
 -- `OwnWakers` whose wakers a receiver gives.
--- 3. The laws of both ends together: `Moments` defines a moment at which both are seen. `NoLostWakeup` states that no
--- wakeup is lost. `EndedSenders` and `LeftReceivers` state what is there for one end once the other is over,
--- `FirstFound` how a call replies by the word that its first operation finds, and `ToldEnds` what the operations of a
--- receiver tell of its sender.
+-- 3. The laws of both ends together: `Moments` defines a moment at which both are seen, and `NoLostWakeup` states the
+-- law.
 -- 4. The wait: `Deadlines` states when a deadline is over, and what a receive with a timeout appends to the log.
 -- `Patience` states how long a receive spins and sleeps. `PatienceExamples` and `DeadlineExamples` have
 -- examples of types that no other crate can name.
@@ -25,10 +23,6 @@ pub mod Tokens
 pub mod Woken
 pub mod OwnWakers
 pub mod Moments
-pub mod EndedSenders
-pub mod FirstFound
-pub mod LeftReceivers
-pub mod ToldEnds
 pub mod NoLostWakeup
 pub mod Patience
 pub mod PatienceExamples

@@ -1,5 +1,8 @@
 //! Laws of the values that a program holds, each a function's contract: their logs are those of runs of the model.
+//! `both_ends` has the laws of what one end of a channel leaves for the other.
 #![tactic(auto)]
+
+pub mod both_ends;
 
 ghost use Rattle.oneshot_machine.specs.Called.{as_receiver, as_future};
 ghost use Rattle.oneshot_values.specs.Examples.{WorkedValues, WrongValues};

@@ -28,7 +28,7 @@ use Rattle.oneshot_machine.specs.Runs.{Run}
 use Rattle.oneshot_machine.specs.Sender.{sender_step, sender_rows}
 use Rattle.oneshot_machine.specs.TableRows.{Rows, row_for, is_same_seen}
 use Rattle.oneshot_machine.proofs.RunsByRows.{carries, by_tests}
-use Rattle.oneshot_ends.specs.FirstFound.{receives, FirstFound, first_found, ReceivesByFirstWord, SendsByFirstWord}
+use Rattle.oneshot_values.specs.FirstFound.{receives, FirstFound, first_found, ReceivesByFirstWord, SendsByFirstWord}
 use Rattle.oneshot_ends.specs.Taken.{is_message}
 
 -- the first operation of a call: none yet, one that found a certain word, or one that found another

@@ -5,8 +5,8 @@ use Rattle.oneshot_machine.specs.declared.states.TheConstants.{DISCONNECTED}
 use Rattle.oneshot_machine.specs.Over.{IsLate, is_late, is_overtaken, HasLeft, left_first, left_last}
 use Rattle.oneshot_machine.specs.Phases.{SenderAt, fresh, ReceiverAt, gone, sender_at, receiver_at}
 use Rattle.oneshot_word.proofs.RuleImplies.{word_between, Is, is}
-use Rattle.oneshot_ends.specs.LeftReceivers.{LeavingWordsAreThere, LostReceiversWereDropped}
-use Rattle.oneshot_ends.proofs.EndedSenders.{shown}
+use Rattle.oneshot_values.specs.LeftReceivers.{LeavingWordsAreThere, LostReceiversWereDropped}
+use Rattle.oneshot_values.proofs.EndedSenders.{shown}
 
 left_word : (q : ReceiverAt) {word : ℕ} → HasLeft q → Is (word_between fresh q) word → word ≡ DISCONNECTED
 left_word q left_first is = refl

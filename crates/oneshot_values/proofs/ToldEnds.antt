@@ -17,7 +17,7 @@ use Rattle.oneshot_word.proofs.RuleReceives.{both_reach}
 use Rattle.oneshot_word.specs.Side.{Side}
 use Rattle.oneshot_ends.specs.Moments.{AtOneMoment}
 use Rattle.oneshot_ends.specs.OwnWakers.{RealWaker}
-use Rattle.oneshot_ends.specs.ToldEnds.{is_answered, FoundMessagesWereSent, LostSendersWereDropped}
+use Rattle.oneshot_values.specs.ToldEnds.{is_answered, FoundMessagesWereSent, LostSendersWereDropped}
 use Rattle.oneshot_ends.specs.Taken.{has_found}
 use Rattle.oneshot_ends.proofs.Taken.{found_both}
 

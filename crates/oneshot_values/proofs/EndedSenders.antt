@@ -13,7 +13,7 @@ use Rattle.oneshot_word.specs.declared.any_waker.AnyWaker.{AnyWaker}
 use Rattle.oneshot_word.specs.Received.{both_views}
 use Rattle.oneshot_word.specs.Rule.{Home, Lies, lies_filled, has_message, IsGiven, message_home, Tied, opened, slot_taken, runs}
 use Rattle.oneshot_word.specs.Seats.{view}
-use Rattle.oneshot_ends.specs.EndedSenders.{is_seeking, last_word, OpenReceiversSeek, LastWordsAreThere, SentMessagesAreThere}
+use Rattle.oneshot_values.specs.EndedSenders.{is_seeking, last_word, OpenReceiversSeek, LastWordsAreThere, SentMessagesAreThere}
 
 -- the word and the message's slot at home, by the phases of both ends
 pub record Shown {T H K P : Type 0} (keeps : P → T → Type 0) (about : P) (words : List ℕ) (homes : List (Home T H K))

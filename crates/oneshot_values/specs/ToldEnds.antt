@@ -25,7 +25,8 @@ module _ {T P : Type 0} (keeps : P → T → Type 0) where
       (sender receiver : Side T RealWaker P) → AtOneMoment keeps sender receiver → has_found receiver.log ≡ true
       → sender_at sender.log ≡ finished sending
 
-  -- A receiver that found that no message will come has a sender whose drop found it there.
+  -- A receiver that found that no message will come, and whose operations found none, has a sender whose drop found it
+  -- there.
   abbrev pub LostSendersWereDropped : Type 0
   LostSendersWereDropped =
       (sender receiver : Side T RealWaker P) → AtOneMoment keeps sender receiver → IsAnswered receiver.log

@@ -1,8 +1,8 @@
 -- Proofs of the goals that `what_a_sender_leaves_is_there` leaves.
-use Rattle.oneshot_ends.proofs.EndedSenders.{open_receivers_seek, last_words_are_there, sent_messages_are_there}
-use Rattle.oneshot_ends.proofs.FirstFound.{receives_by_first_word}
-use Rattle.oneshot_ends.proofs.ToldEnds.{found_messages_were_sent, lost_senders_were_dropped}
-use Rattle.oneshot_ends.proofs.laws.what_a_sender_leaves_is_there.Goals as goal
+use Rattle.oneshot_values.proofs.EndedSenders.{open_receivers_seek, last_words_are_there, sent_messages_are_there}
+use Rattle.oneshot_values.proofs.FirstFound.{receives_by_first_word}
+use Rattle.oneshot_values.proofs.ToldEnds.{found_messages_were_sent, lost_senders_were_dropped}
+use Rattle.oneshot_values.proofs.both_ends.what_a_sender_leaves_is_there.Goals as goal
 
 pub returns-clause-word : goal.returns-clause-word
 returns-clause-word g c = last_words_are_there g.P.Promise.keeps

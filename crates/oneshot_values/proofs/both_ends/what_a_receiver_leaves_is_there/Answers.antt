@@ -1,7 +1,7 @@
 -- Proofs of the goals that `what_a_receiver_leaves_is_there` leaves.
-use Rattle.oneshot_ends.proofs.FirstFound.{sends_by_first_word}
-use Rattle.oneshot_ends.proofs.LeftReceivers.{leaving_words_are_there, lost_receivers_were_dropped}
-use Rattle.oneshot_ends.proofs.laws.what_a_receiver_leaves_is_there.Goals as goal
+use Rattle.oneshot_values.proofs.FirstFound.{sends_by_first_word}
+use Rattle.oneshot_values.proofs.LeftReceivers.{leaving_words_are_there, lost_receivers_were_dropped}
+use Rattle.oneshot_values.proofs.both_ends.what_a_receiver_leaves_is_there.Goals as goal
 
 pub returns-clause-word : goal.returns-clause-word
 returns-clause-word g c = leaving_words_are_there g.P.Promise.keeps
