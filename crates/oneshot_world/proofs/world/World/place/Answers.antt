@@ -1,0 +1,7 @@
+-- A proof of one goal of `place`. `search` finds it too. With a file of answers the prover
+-- offers none for a wrong body.
+use Rattle.std.proofs.Common.{rules}
+use Rattle.oneshot_world.proofs.world.World.place.Goals as goal
+
+pub returns : goal.returns
+returns c = search rules
