@@ -12,7 +12,7 @@ use std::io;
 use std::io::{BufRead, Write};
 
 /// What is printed of a run.
-#[derive(Clone, Copy, Eq, PartialEq)]
+#[derive(Clone, Copy)]
 pub enum Shown {
     /// Nothing, if it does not differ, or if one before differs for the same reason.
     Differences,
@@ -61,14 +61,7 @@ pub fn audit<R: BufRead, W: Write>(
         pair: Pair::new(alloc),
         is_right: true,
     };
-    let mut line = String::new(alloc);
-    for _ in 0..u64::MAX {
-        line.clear();
-        if input.read_line(&mut line)? == 0 {
-            break;
-        }
-        audited.take_up(alloc, line.trim_end(), output, shown)?;
-    }
+    audited.read(alloc, input, output, shown)?;
     audited.end_pair(alloc, output, shown)?;
     output.flush()?;
     Ok(audited.is_right)
@@ -82,6 +75,25 @@ struct Audited {
 }
 
 impl Audited {
+    /// Takes up each line of the input.
+    fn read<R: BufRead, W: Write>(
+        &mut self,
+        alloc: Global,
+        input: &mut R,
+        output: &mut W,
+        shown: Shown,
+    ) -> io::Result<()> {
+        let mut line = String::new(alloc);
+        for _ in 0..u64::MAX {
+            line.clear();
+            if input.read_line(&mut line)? == 0 {
+                break;
+            }
+            self.take_up(alloc, line.trim_end(), output, shown)?;
+        }
+        Ok(())
+    }
+
     /// Takes up a line of the input: a run, or a line of scripts, which after a run begins another pair.
     fn take_up<W: Write>(
         &mut self,
@@ -90,9 +102,8 @@ impl Audited {
         output: &mut W,
         shown: Shown,
     ) -> io::Result<()> {
-        if let Some(("X", run)) = line.split_once(' ') {
-            let (choices, words) = run.split_once(' ').unwrap_or((run, ""));
-            return self.pair.hold(alloc, Run { choices, words }, output, shown);
+        if let Some(run) = run_of(line) {
+            return self.pair.hold(alloc, run, output, shown);
         }
         if self.pair.runs > 0 {
             self.end_pair(alloc, output, shown)?;
@@ -107,7 +118,11 @@ impl Audited {
         output: &mut W,
         shown: Shown,
     ) -> io::Result<()> {
-        self.is_right = self.pair.end(alloc, output, shown)? && self.is_right;
+        if let Shown::Differences = shown {
+            self.pair.write_counts(output)?;
+            self.pair.write_orders(alloc, output)?;
+        }
+        self.is_right = self.is_right && self.pair.differ == 0;
         Ok(())
     }
 }
@@ -117,6 +132,15 @@ impl Audited {
 struct Run<'a> {
     choices: &'a str,
     words: &'a str,
+}
+
+/// Reads a run; `None` if the line has none.
+fn run_of(line: &str) -> Option<Run<'_>> {
+    let Some(("X", run)) = line.split_once(' ') else {
+        return None;
+    };
+    let (choices, words) = run.split_once(' ').unwrap_or((run, ""));
+    Some(Run { choices, words })
 }
 
 impl Pair {
@@ -131,11 +155,14 @@ impl Pair {
         self.runs = self.runs.saturating_add(1);
         match Beside::begin(alloc, &self.scripts) {
             Ok(mut beside) => self.follow(alloc, run, &mut beside, output, shown),
-            Err(why) => {
-                self.count_difference(alloc, &why)?;
-                writeln!(output, "the scripts: {why}")
-            }
+            Err(why) => self.refuse(alloc, &why, output),
         }
+    }
+
+    /// Counts a run whose scripts cannot be read.
+    fn refuse<W: Write>(&mut self, alloc: Global, why: &Differs, output: &mut W) -> io::Result<()> {
+        self.count_difference(alloc, why)?;
+        writeln!(output, "the scripts: {why}")
     }
 
     /// Follows a run beside the model.
@@ -147,33 +174,24 @@ impl Pair {
         output: &mut W,
         shown: Shown,
     ) -> io::Result<()> {
-        let followed = beside.follow(run.words);
-        let is_right = followed.is_ok();
-        if let Err(difference) = followed {
-            self.note(alloc, &difference, output, shown, (run, beside))?;
+        if let Err(difference) = beside.follow(run.words) {
+            if self.is_shown(alloc, &difference.why, shown)? {
+                write_difference(output, run, &difference, beside)?;
+            }
+        } else if let Shown::Differences = shown {
+            self.count(beside)?;
         }
         match shown {
             Shown::Traces => self.write_traces(alloc, output, beside),
-            Shown::Differences if is_right => Ok(self.count(alloc, beside)?),
             Shown::Differences => Ok(()),
         }
     }
 
-    /// Counts a run that differs, and writes it if none before it differs for the same reason, or if traces are shown.
-    fn note<W: Write>(
-        &mut self,
-        alloc: Global,
-        difference: &Difference,
-        output: &mut W,
-        shown: Shown,
-        (run, beside): (Run<'_>, &Beside),
-    ) -> io::Result<()> {
-        let is_new = self.count_difference(alloc, &difference.why)?;
-        if is_new || shown == Shown::Traces {
-            write_difference(output, run, difference)?;
-            write_all_moves(alloc, output, beside)?;
-        }
-        Ok(())
+    /// Counts a run that differs. Returns whether it is shown: if none before it differs for the same reason, or if
+    /// traces are shown.
+    fn is_shown(&mut self, alloc: Global, why: &Differs, shown: Shown) -> io::Result<bool> {
+        let is_new = self.count_difference(alloc, why)?;
+        Ok(is_new || matches!(shown, Shown::Traces))
     }
 
     /// Counts a run that differs. Returns whether none before it differs for the same reason.
@@ -183,15 +201,16 @@ impl Pair {
     }
 
     /// Counts what a run did that does not differ.
-    fn count(&mut self, alloc: Global, beside: &Beside) -> Result<(), AllocError> {
+    fn count(&mut self, beside: &Beside) -> Result<(), AllocError> {
         if beside.is_stuck() {
             self.stuck = self.stuck.saturating_add(1);
         }
-        for model in beside.models(alloc)? {
-            self.operations = self.operations.saturating_add(model.operations());
+        self.operations = self.operations.saturating_add(beside.operations());
+        if let Some(first) = beside.first_by_own_scripts() {
+            self.met.insert(first.digest())?;
         }
-        for model in beside.by_own_scripts(alloc)? {
-            self.met.insert(model.digest())?;
+        if let Some(second) = beside.second() {
+            self.met.insert(second.digest())?;
         }
         Ok(())
     }
@@ -203,32 +222,28 @@ impl Pair {
         output: &mut W,
         beside: &Beside,
     ) -> io::Result<()> {
-        let mut asked = self.scripts.read_first(alloc);
-        for model in beside.models(alloc)? {
-            write_trace(output, asked, model.moves())?;
-            asked = self.scripts.read(alloc);
+        let first = self.scripts.read_first(alloc);
+        write_trace(output, first, beside.first().moves())?;
+        match beside.second() {
+            Some(second) => write_trace(output, self.scripts.read(alloc), second.moves()),
+            None => Ok(()),
         }
-        Ok(())
     }
 
-    /// Writes what was counted of the runs, where no traces are shown. Returns whether no run differs.
-    fn end<W: Write>(&self, alloc: Global, output: &mut W, shown: Shown) -> io::Result<bool> {
-        if shown == Shown::Differences {
-            self.write_counts(alloc, output)?;
-        }
-        Ok(self.differ == 0)
+    /// Writes what was counted of the runs.
+    fn write_counts<W: Write>(&self, output: &mut W) -> io::Result<()> {
+        let counts = [
+            ("runs", self.runs),
+            ("operations", self.operations),
+            ("stuck", self.stuck),
+            ("differ", self.differ),
+            ("met", self.met.len()),
+        ];
+        write_line(output, &counts)
     }
 
-    fn write_counts<W: Write>(&self, alloc: Global, output: &mut W) -> io::Result<()> {
-        writeln!(
-            output,
-            "runs {} operations {} stuck {} differ {} met {}",
-            self.runs,
-            self.operations,
-            self.stuck,
-            self.differ,
-            self.met.len()
-        )?;
+    /// Writes how many orders the model has, and how many of them no run met.
+    fn write_orders<W: Write>(&self, alloc: Global, output: &mut W) -> io::Result<()> {
         match find_missed(alloc, &self.scripts, &self.met) {
             Ok(told) => write_missed(output, &told),
             Err(why) => writeln!(output, "the model: {why}"),
@@ -236,41 +251,57 @@ impl Pair {
     }
 }
 
+/// Writes numbers in a line, each behind its name.
+fn write_line<W: Write>(output: &mut W, numbers: &[(&str, usize)]) -> io::Result<()> {
+    let mut space = "";
+    for (name, number) in numbers {
+        write!(output, "{space}{name} {number}")?;
+        space = " ";
+    }
+    writeln!(output)
+}
+
 fn write_difference<W: Write>(
     output: &mut W,
     run: Run<'_>,
     difference: &Difference,
+    beside: &Beside,
 ) -> io::Result<()> {
     let Run { choices, words } = run;
     let Difference { word, why } = difference;
     writeln!(output, "differs: schedule {choices}, word {word}: {why}")?;
-    writeln!(output, "words: {words}")
+    writeln!(output, "words: {words}")?;
+    write_all_moves(output, beside)
 }
 
 /// Writes the moves of each channel.
-fn write_all_moves<W: Write>(alloc: Global, output: &mut W, beside: &Beside) -> io::Result<()> {
-    for model in beside.models(alloc)? {
-        write_moves(output, model.moves())?;
+fn write_all_moves<W: Write>(output: &mut W, beside: &Beside) -> io::Result<()> {
+    write_moves(output, beside.first().moves())?;
+    match beside.second() {
+        Some(second) => write_moves(output, second.moves()),
+        None => Ok(()),
     }
-    Ok(())
 }
 
 /// Writes moves as a schedule that `oneshot-run` reads.
 fn write_moves<W: Write>(output: &mut W, moves: &[Move]) -> io::Result<()> {
-    write!(output, "X ")?;
+    output.write_all(b"X ")?;
     for m in moves {
-        let letter = match m {
-            Move::Sender => 's',
-            Move::Receiver { over: true, .. } => 'o',
-            Move::Receiver { refuse: true, .. } => 'n',
-            Move::Receiver {
-                over: false,
-                refuse: false,
-            } => 'r',
-        };
-        write!(output, "{letter}")?;
+        output.write_all(letter_of(*m).as_bytes())?;
     }
     writeln!(output)
+}
+
+fn letter_of(m: Move) -> &'static str {
+    match m {
+        Move::Sender => "s",
+        Move::Receiver { over: true, .. } => "o",
+        Move::Receiver { refuse: true, .. } => "n",
+        Move::Receiver {
+            over: false,
+            refuse: false,
+        } => "r",
+    }
 }
 
 /// Writes the trace of a run of the model by scripts.
@@ -292,15 +323,15 @@ fn write_trace<W: Write>(
 }
 
 fn write_missed<W: Write>(output: &mut W, told: &Missed) -> io::Result<()> {
-    let whole = if told.is_whole { "" } else { " at least" };
-    writeln!(
-        output,
-        "orders{whole} {} missed {}",
-        told.orders, told.missed
-    )?;
+    let orders = if told.is_whole {
+        "orders"
+    } else {
+        "orders at least"
+    };
+    write_line(output, &[(orders, told.orders), ("missed", told.missed)])?;
     match &told.first {
         Some(moves) => {
-            write!(output, "missed: ")?;
+            output.write_all(b"missed: ")?;
             write_moves(output, moves.as_slice())
         }
         None => Ok(()),

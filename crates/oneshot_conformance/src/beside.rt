@@ -1,11 +1,11 @@
 //! The runs of the model beside a run of the ends: one, or one of each channel where each thread has an end of two.
 
 use crate::differs::Differs;
-use crate::event::event_of;
+use crate::event::{Event, event_of};
 use crate::follower::Follower;
 use crate::model::Model;
 use crate::scripts::{Channels, Scripts};
-use std::alloc::{AllocError, Global};
+use std::alloc::Global;
 
 /// Where a run differs: at which of its words, from 1, and why.
 #[derive(Drop)]
@@ -32,14 +32,7 @@ struct Second {
 
 impl Beside {
     pub(crate) fn begin(alloc: Global, scripts: &Scripts) -> Result<Beside, Differs> {
-        let second = if scripts.channels() == Channels::One {
-            None
-        } else {
-            Some(Second {
-                follower: Follower::new(scripts.begin(alloc)?),
-                is_swapped: scripts.channels() != Channels::SentReceiver,
-            })
-        };
+        let second = Second::begin(alloc, scripts)?;
         Ok(Beside {
             channels: scripts.channels(),
             first: Follower::new(scripts.begin_first(alloc)?),
@@ -64,21 +57,12 @@ impl Beside {
 
     /// A word of the second channel ends with a prime. Where there is none, it is of a channel within the message.
     fn follow_word(&mut self, text: &str) -> Result<(), Differs> {
-        match (text.strip_suffix('\''), self.second.as_mut()) {
-            (None, _) => {
-                let event = event_of(text).ok_or(Differs::UnknownWord)?;
-                self.first.follow(event)
-            }
-            (Some(text), Some(second)) => {
-                let event = event_of(text).ok_or(Differs::UnknownWord)?;
-                let told = if second.is_swapped {
-                    event.by_other_thread()
-                } else {
-                    event
-                };
-                second.follower.follow(told)
-            }
-            (Some(_), None) => Ok(()),
+        let Some(word) = text.strip_suffix('\'') else {
+            return self.first.follow(read(text)?);
+        };
+        match &mut self.second {
+            Some(second) => second.follow(read(word)?),
+            None => Ok(()),
         }
     }
 
@@ -92,29 +76,67 @@ impl Beside {
 
     /// Whether an end sleeps for ever.
     pub(crate) fn is_stuck(&self) -> bool {
-        let second = self.second.as_ref();
-        self.first.is_stuck || second.is_some_and(|second| second.follower.is_stuck)
-    }
-
-    /// The run of the model of each channel that has the pair's own scripts.
-    pub(crate) fn by_own_scripts(&self, alloc: Global) -> Result<Vec<&Model>, AllocError> {
-        match (self.channels, self.second.as_ref()) {
-            (Channels::SentSender | Channels::SentReceiver, Some(second)) => {
-                let mut models = Vec::new(alloc);
-                models.push(&second.follower.model)?;
-                Ok(models)
-            }
-            _ => self.models(alloc),
+        match &self.second {
+            Some(second) => self.first.is_stuck || second.follower.is_stuck,
+            None => self.first.is_stuck,
         }
     }
 
-    /// The run of the model of each channel.
-    pub(crate) fn models(&self, alloc: Global) -> Result<Vec<&Model>, AllocError> {
-        let mut models = Vec::new(alloc);
-        models.push(&self.first.model)?;
-        if let Some(second) = &self.second {
-            models.push(&second.follower.model)?;
+    /// How many operations on the word of each channel were made.
+    pub(crate) fn operations(&self) -> usize {
+        let first = self.first.model.operations();
+        match &self.second {
+            Some(second) => first.saturating_add(second.follower.model.operations()),
+            None => first,
         }
-        Ok(models)
     }
+
+    /// The run of the model of the first channel.
+    pub(crate) fn first(&self) -> &Model {
+        &self.first.model
+    }
+
+    /// The same, if that channel has the pair's own scripts.
+    pub(crate) fn first_by_own_scripts(&self) -> Option<&Model> {
+        match self.channels {
+            Channels::One | Channels::Two => Some(&self.first.model),
+            Channels::SentSender | Channels::SentReceiver => None,
+        }
+    }
+
+    /// The run of the model of the second channel, which has the pair's own scripts.
+    pub(crate) fn second(&self) -> Option<&Model> {
+        match &self.second {
+            Some(second) => Some(&second.follower.model),
+            None => None,
+        }
+    }
+}
+
+impl Second {
+    /// Begins the run of the second channel, if there is one.
+    fn begin(alloc: Global, scripts: &Scripts) -> Result<Option<Second>, Differs> {
+        let is_swapped = match scripts.channels() {
+            Channels::One => return Ok(None),
+            Channels::Two | Channels::SentSender => true,
+            Channels::SentReceiver => false,
+        };
+        Ok(Some(Second {
+            follower: Follower::new(scripts.begin(alloc)?),
+            is_swapped,
+        }))
+    }
+
+    fn follow(&mut self, event: Event) -> Result<(), Differs> {
+        let told = if self.is_swapped {
+            event.by_other_thread()
+        } else {
+            event
+        };
+        self.follower.follow(told)
+    }
+}
+
+fn read(word: &str) -> Result<Event, Differs> {
+    event_of(word).ok_or(Differs::UnknownWord)
 }

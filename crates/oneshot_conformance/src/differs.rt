@@ -1,58 +1,81 @@
 //! Why a run is none of the model's.
 
-use crate::fault::Fault;
 use oneshot_machine::machine::{End, Reply, Step};
 use std::alloc::{AllocError, AllocFailed};
-use thiserror::Error;
+use std::fmt;
 
 /// Where a run and the model differ first.
-#[derive(Debug, Drop, Error)]
+#[derive(Drop)]
 pub(crate) enum Differs {
     /// No run has this word.
-    #[error("the word is unknown")]
     UnknownWord,
-    /// The scheduler saw a fault.
-    #[error("{0}")]
-    Fault(Fault),
+    /// The scheduler saw a fault, which this text tells.
+    Fault(&'static str),
     /// In the model this end has no call left.
-    #[error("the model's {0:?} has no call left")]
     NothingLeft(End),
     /// In the model this end makes another step first.
-    #[error("the model's step is {0:?}")]
     OtherStep(Step),
     /// The operation finds or leaves another word in the model.
-    #[error("the model's word goes from {0:?} to {1:?}")]
     OtherWord(Option<u8>, Option<u8>),
     /// In the model the call has ended.
-    #[error("the model's call has replied {0:?}")]
     HasReplied(Reply),
     /// The model's call replies otherwise.
-    #[error("the model replies {0:?}")]
     OtherReply(Reply),
     /// The message is another.
-    #[error("the model's message is {0}")]
     OtherMessage(u64),
     /// In the model the script has a call left.
-    #[error("the model's {0:?} has a call left")]
     CallLeft(End),
     /// The block is freed in the one and kept in the other.
-    #[error("the model's block is freed: {0}")]
     OtherBlock(bool),
     /// A task is not woken that the model wakes.
-    #[error("the model wakes task {0}")]
     OtherTask(u64),
     /// A copy of a waker is refused where the model copies none.
-    #[error("the model copies no waker")]
     NoCopy,
     /// Nothing wakes the end, although the sender has acted.
-    #[error("a wakeup is lost")]
     LostWakeup,
     /// The run is longer than any that is read.
-    #[error("too long")]
     TooLong,
     /// Out of memory.
-    #[error("out of memory")]
     OutOfMemory(AllocError),
+}
+
+impl fmt::Display for Differs {
+    fn fmt<W: fmt::Write>(&self, f: &mut fmt::Formatter<W>) -> fmt::Result {
+        match self {
+            Differs::UnknownWord => f.write_str("the word is unknown"),
+            Differs::Fault(fault) => f.write_str(fault),
+            Differs::NothingLeft(end) => write_calls(f, *end, "no call left"),
+            Differs::OtherStep(step) => write_value(f, "the model's step is", step),
+            Differs::OtherWord(before, after) => {
+                write_value(f, "the model's word goes from", before)?;
+                write_value(f, " to", after)
+            }
+            Differs::HasReplied(reply) => write_value(f, "the model's call has replied", reply),
+            Differs::OtherReply(reply) => write_value(f, "the model replies", reply),
+            Differs::OtherMessage(message) => write_value(f, "the model's message is", message),
+            Differs::CallLeft(end) => write_calls(f, *end, "a call left"),
+            Differs::OtherBlock(freed) => write_value(f, "the model's block is freed:", freed),
+            Differs::OtherTask(number) => write_value(f, "the model wakes task", number),
+            Differs::NoCopy => f.write_str("the model copies no waker"),
+            Differs::LostWakeup => f.write_str("a wakeup is lost"),
+            Differs::TooLong => f.write_str("too long"),
+            Differs::OutOfMemory(_) => f.write_str("out of memory"),
+        }
+    }
+}
+
+/// Writes a value of the model behind what is said of it.
+fn write_value<W: fmt::Write, V: fmt::Debug>(
+    f: &mut fmt::Formatter<W>,
+    said: &str,
+    value: &V,
+) -> fmt::Result {
+    write!(f, "{said} {value:?}")
+}
+
+/// Writes which calls an end has in the model.
+fn write_calls<W: fmt::Write>(f: &mut fmt::Formatter<W>, end: End, calls: &str) -> fmt::Result {
+    write!(f, "the model's {end:?} has {calls}")
 }
 
 impl<T: Drop> From<AllocFailed<T>> for Differs {

@@ -1,11 +1,11 @@
 //! The words of a run: each reports what an end did.
 
-use crate::fault::{Fault, fault_of};
+use crate::fault::fault_of;
 use oneshot_machine::machine::End;
 use oneshot_machine::states::Op;
 
 /// The kinds of instructions that make an operation on the word.
-#[derive(Clone, Copy, Eq, PartialEq)]
+#[derive(Clone, Copy)]
 pub(crate) enum Kind {
     Load,
     Store,
@@ -25,7 +25,6 @@ pub(crate) struct Operation {
 }
 
 /// What one word of a run reports.
-#[derive(Clone, Copy)]
 pub(crate) enum Event {
     /// An operation on the word.
     Operation(Operation),
@@ -45,39 +44,70 @@ pub(crate) enum Event {
     Stuck(End),
     /// Whether a task was woken, by a code.
     Task(u64),
-    /// The scheduler saw a fault.
-    Fault(Fault),
+    /// The scheduler saw a fault, which this text tells.
+    Fault(&'static str),
     /// What the model does not have: a sleep, its end, a wake, the free of another block.
     Silent,
 }
 
 /// Reads a word; `None` if no run has it.
 pub(crate) fn event_of(word: &str) -> Option<Event> {
-    let event = match word.as_bytes() {
-        [b'!', ..] => Event::Fault(fault_of(word)?),
-        [end, b'.'] => Event::Done(end_of(*end)?),
-        [end, b'z'] => Event::Stuck(end_of(*end)?),
-        [b'S' | b'R', b'b' | b'k' | b's' | b't' | b'w'] => Event::Silent,
-        [end, b'f', b'm'] => Event::MessageFreed(end_of(*end)?),
-        [b'S' | b'R', b'f', b'W'] => Event::BlockFreed,
-        [b'S' | b'R', b'f', b'C' | b'D' | b'L' | b'P' | b'h' | b'o'] => Event::Silent,
-        [b'S' | b'R', b'c', b'-' | b'0'] => Event::Clock { over: false },
-        [b'S' | b'R', b'c', b'1'] => Event::Clock { over: true },
-        [b'S' | b'R', b'n'] => Event::Refusal,
-        [b'T', b'=', ..] => Event::Task(code_of(word)?),
-        [end, b'=', ..] => Event::Reply {
+    match word.as_bytes() {
+        [b'!', ..] => Some(Event::Fault(fault_of(word)?)),
+        [b'T', b'=', ..] => Some(Event::Task(code_of(word)?)),
+        [end, b'=', ..] => Some(Event::Reply {
             end: end_of(*end)?,
             code: code_of(word)?,
-        },
-        [end, kind, found, left] => Event::Operation(Operation {
-            end: end_of(*end)?,
+        }),
+        [end, deed @ ..] => deed_of(end_of(*end)?, deed),
+        [] => None,
+    }
+}
+
+/// What an end did, by the letters behind its own.
+fn deed_of(end: End, deed: &[u8]) -> Option<Event> {
+    match deed {
+        [letter] => short_deed_of(end, *letter),
+        [b'f', block] => freed_of(end, *block),
+        [b'c', reading] => clock_of(*reading),
+        [kind, found, left] => Some(Event::Operation(Operation {
+            end,
             kind: kind_of(*kind)?,
             found: digit_of(*found)?,
             left: digit_of(*left)?,
-        }),
-        _ => return None,
-    };
-    Some(event)
+        })),
+        _ => None,
+    }
+}
+
+/// What an end did that has one letter.
+fn short_deed_of(end: End, letter: u8) -> Option<Event> {
+    match letter {
+        b'.' => Some(Event::Done(end)),
+        b'z' => Some(Event::Stuck(end)),
+        b'n' => Some(Event::Refusal),
+        b'b' | b'k' | b's' | b't' | b'w' => Some(Event::Silent),
+        _ => None,
+    }
+}
+
+/// What an end freed.
+fn freed_of(end: End, block: u8) -> Option<Event> {
+    match block {
+        b'm' => Some(Event::MessageFreed(end)),
+        b'W' => Some(Event::BlockFreed),
+        b'C' | b'D' | b'L' | b'P' | b'h' | b'o' => Some(Event::Silent),
+        _ => None,
+    }
+}
+
+/// A reading of the clock.
+fn clock_of(reading: u8) -> Option<Event> {
+    match reading {
+        b'-' | b'0' => Some(Event::Clock { over: false }),
+        b'1' => Some(Event::Clock { over: true }),
+        _ => None,
+    }
 }
 
 fn end_of(letter: u8) -> Option<End> {
@@ -150,21 +180,28 @@ impl Operation {
     /// one would not be ordered before the loads that follow it.
     pub(crate) fn makes(self, op: Op) -> bool {
         match op {
-            Op::Load => self.kind == Kind::Load,
-            Op::Store(_) => self.kind == Kind::Swap,
-            Op::Swap(_) => self.kind == Kind::Swap,
-            Op::Exchange(_, _) => self.kind == Kind::Exchange,
-            Op::Add => self.kind == Kind::Add,
-            Op::Xor => self.kind == Kind::Xor || self.is_xor(),
+            Op::Load => matches!(self.kind, Kind::Load),
+            Op::Store(_) | Op::Swap(_) => matches!(self.kind, Kind::Swap),
+            Op::Exchange(_, _) => matches!(self.kind, Kind::Exchange),
+            Op::Add => matches!(self.kind, Kind::Add),
+            Op::Xor => self.is_xor(),
         }
     }
 
     fn is_xor(self) -> bool {
-        self.kind == Kind::Exchange && self.left == self.found ^ 1
+        match self.kind {
+            Kind::Xor => true,
+            Kind::Exchange => self.left == self.found ^ 1,
+            Kind::Load | Kind::Store | Kind::Swap | Kind::Add => false,
+        }
     }
 
     /// Whether it belongs to the loop of an xor: its first load, or an exchange that failed.
     pub(crate) fn tries_to_xor(self) -> bool {
-        self.kind == Kind::Load || (self.kind == Kind::Exchange && self.left == self.found)
+        match self.kind {
+            Kind::Load => true,
+            Kind::Exchange => self.left == self.found,
+            Kind::Store | Kind::Swap | Kind::Add | Kind::Xor => false,
+        }
     }
 }

@@ -6,7 +6,7 @@ use crate::model::{Given, MOST_SILENT, Model};
 use crate::reply::{reply_of, task_of};
 use oneshot_machine::machine::{End, Reply, Step};
 use oneshot_machine::states::Op;
-use oneshot_replay::{Made, Place};
+use oneshot_replay::Place;
 
 /// What no word has reported yet of one end.
 #[derive(Drop)]
@@ -26,6 +26,14 @@ impl Side {
             is_done: false,
         }
     }
+}
+
+/// Where the steps of an end lead that no word reports.
+enum Reached {
+    /// To a step that a word reports.
+    Told(Step),
+    /// To the end of the call.
+    Replied(Reply),
 }
 
 /// A run of the model beside a run of the ends.
@@ -64,57 +72,96 @@ impl Follower {
         }
     }
 
-    fn advance(&mut self, end: End, given: Given) -> Result<Made, Differs> {
+    /// Makes the next step of an end. Returns the word before and after it.
+    fn advance(&mut self, end: End, given: Given) -> Result<(Option<u8>, Option<u8>), Differs> {
         let made = self.model.advance(end, given)?;
         let side = self.side(end);
         side.reply = made.reply;
         if let Some((_, Place::Delivered | Place::FromError)) = made.message {
             side.has_message = true;
         }
-        Ok(made)
+        Ok((made.before, made.after))
     }
 
-    /// Makes a step of an end that no word reports. A copy is refused if a word before reported so, and no older copy
-    /// takes its place.
-    fn advance_silently(&mut self, end: End, step: Step) -> Result<Made, Differs> {
+    /// What a step gets that no word reports. A copy is refused if a word before reported so, and no older copy takes
+    /// its place.
+    fn given(&mut self, step: Step) -> Given {
         if !self.is_refused || step != Step::Copy {
-            return self.advance(end, Given::Usual);
+            return Given::Usual;
         }
         self.is_refused = false;
-        let given = if self.model.has_older_copy() {
+        if self.model.has_older_copy() {
             Given::Usual
         } else {
             Given::Refusal
-        };
-        self.advance(end, given)
+        }
+    }
+
+    /// Makes the steps of an end that no word reports, until its call has replied or a word reports the next.
+    fn go_silently(&mut self, end: End) -> Result<Reached, Differs> {
+        for _ in 0..MOST_SILENT {
+            if let Some(reply) = self.side(end).reply {
+                return Ok(Reached::Replied(reply));
+            }
+            let Some(step) = self.model.next_step(end) else {
+                return Err(Differs::NothingLeft(end));
+            };
+            if is_told(step) {
+                return Ok(Reached::Told(step));
+            }
+            let given = self.given(step);
+            self.advance(end, given)?;
+        }
+        Err(Differs::TooLong)
     }
 
     /// Makes the steps of an end that no word reports, and returns the next that one reports. The call has to go on
     /// until then.
     fn reach(&mut self, end: End) -> Result<Step, Differs> {
-        for _ in 0..MOST_SILENT {
-            if let Some(reply) = self.side(end).reply {
-                return Err(Differs::HasReplied(reply));
-            }
-            let step = self.model.next_step(end).ok_or(Differs::NothingLeft(end))?;
-            if is_told(step) {
-                return Ok(step);
-            }
-            self.advance_silently(end, step)?;
+        match self.go_silently(end)? {
+            Reached::Told(step) => Ok(step),
+            Reached::Replied(reply) => Err(Differs::HasReplied(reply)),
         }
-        Err(Differs::TooLong)
+    }
+
+    /// Makes the last steps of the call under way, which no word reports, and takes its reply.
+    fn end_call(&mut self, end: End) -> Result<Reply, Differs> {
+        match self.go_silently(end)? {
+            Reached::Told(step) => Err(Differs::OtherStep(step)),
+            Reached::Replied(reply) => {
+                self.side(end).reply = None;
+                Ok(reply)
+            }
+        }
+    }
+
+    /// Makes the next step of an end that a word reports, which has to be this one.
+    fn make(&mut self, end: End, told: Step, given: Given) -> Result<(), Differs> {
+        let step = self.reach(end)?;
+        if step != told {
+            return Err(Differs::OtherStep(step));
+        }
+        self.advance(end, given)?;
+        Ok(())
     }
 
     /// Makes the sender's steps that no word reports: nothing comes between them and the operation before.
     fn settle_sender(&mut self) -> Result<(), Differs> {
         for _ in 0..MOST_SILENT {
-            let step = self.model.next_step(End::Sender);
-            if !self.model.is_under_way(End::Sender) || step.is_none_or(is_told) {
+            if !self.is_sender_silent() {
                 return Ok(());
             }
             self.advance(End::Sender, Given::Usual)?;
         }
         Err(Differs::TooLong)
+    }
+
+    /// Whether no word reports the next step of the sender's call under way.
+    fn is_sender_silent(&self) -> bool {
+        match self.model.next_step(End::Sender) {
+            Some(step) => self.model.is_under_way(End::Sender) && !is_told(step),
+            None => false,
+        }
     }
 
     /// Moves the run by what a word reports.
@@ -130,10 +177,7 @@ impl Follower {
                 Ok(())
             }
             Event::Stuck(end) => self.stick(end),
-            Event::Task(code) => {
-                let (number, woken) = task_of(code).ok_or(Differs::UnknownWord)?;
-                self.model.tasks().compare(number, woken)
-            }
+            Event::Task(code) => self.compare_task(code),
             Event::Refusal => self.refuse(),
             Event::Fault(fault) => Err(Differs::Fault(fault)),
             Event::Silent => Ok(()),
@@ -144,16 +188,17 @@ impl Follower {
         if told.end == End::Sender && self.model.drops_sender() && told.tries_to_xor() {
             return self.try_to_xor(told);
         }
-        let step = self.reach(told.end)?;
-        let Step::Word(op) = step else {
-            return Err(Differs::OtherStep(step));
-        };
-        if !told.makes(op) {
-            return Err(Differs::OtherStep(step));
+        match self.reach(told.end)? {
+            Step::Word(op) if told.makes(op) => self.make_operation(told, op),
+            step => Err(Differs::OtherStep(step)),
         }
-        let made = self.advance(told.end, Given::Usual)?;
-        if made.before != Some(told.found) || made.after != Some(told.left) {
-            return Err(Differs::OtherWord(made.before, made.after));
+    }
+
+    /// Makes an operation, which has to find and to leave these words.
+    fn make_operation(&mut self, told: Operation, op: Op) -> Result<(), Differs> {
+        let (before, after) = self.advance(told.end, Given::Usual)?;
+        if before != Some(told.found) || after != Some(told.left) {
+            return Err(Differs::OtherWord(before, after));
         }
         self.has_acted = self.has_acted || matches!(op, Op::Add | Op::Xor);
         self.settle_sender()
@@ -165,7 +210,7 @@ impl Follower {
         if word != Some(told.found) || word != Some(told.left) {
             return Err(Differs::OtherWord(word, word));
         }
-        let is_load = told.kind == Kind::Load;
+        let is_load = matches!(told.kind, Kind::Load);
         if is_load && self.has_loaded {
             return Err(Differs::OtherStep(Step::Word(Op::Xor)));
         }
@@ -175,20 +220,17 @@ impl Follower {
 
     /// A park until a deadline may read the clock too.
     fn read_clock(&mut self, over: bool) -> Result<(), Differs> {
-        if self.model.next_step(End::Receiver) == Some(Step::Park) {
+        if let Some(Step::Park) = self.model.next_step(End::Receiver) {
             return Ok(());
         }
-        let step = self.reach(End::Receiver)?;
-        if step != Step::Clock {
-            return Err(Differs::OtherStep(step));
-        }
         let given = if over { Given::Over } else { Given::Usual };
-        self.advance(End::Receiver, given)?;
-        Ok(())
+        self.make(End::Receiver, Step::Clock, given)
     }
 
     fn reply(&mut self, end: End, code: u64) -> Result<(), Differs> {
-        let (told, message) = reply_of(code).ok_or(Differs::UnknownWord)?;
+        let Some((told, message)) = reply_of(code) else {
+            return Err(Differs::UnknownWord);
+        };
         let reply = self.end_call(end)?;
         if end == End::Receiver && self.is_refused {
             return Err(Differs::NoCopy);
@@ -196,30 +238,30 @@ impl Follower {
         if reply != told {
             return Err(Differs::OtherReply(reply));
         }
-        if message.is_some_and(|message| message != self.model.message()) {
+        match message {
+            Some(message) => self.compare_message(message),
+            None => Ok(()),
+        }
+    }
+
+    fn compare_message(&self, message: u64) -> Result<(), Differs> {
+        if message != self.model.message() {
             return Err(Differs::OtherMessage(self.model.message()));
         }
         Ok(())
     }
 
-    /// Makes the last steps of the call under way, which no word reports, and takes its reply.
-    fn end_call(&mut self, end: End) -> Result<Reply, Differs> {
-        for _ in 0..MOST_SILENT {
-            if let Some(reply) = self.side(end).reply.take() {
-                return Ok(reply);
-            }
-            let step = self.model.next_step(end).ok_or(Differs::NothingLeft(end))?;
-            if is_told(step) {
-                return Err(Differs::OtherStep(step));
-            }
-            self.advance_silently(end, step)?;
+    fn compare_task(&self, code: u64) -> Result<(), Differs> {
+        match task_of(code) {
+            Some((number, woken)) => self.model.tasks().compare(number, woken),
+            None => Err(Differs::UnknownWord),
         }
-        Err(Differs::TooLong)
     }
 
     fn finish(&mut self, end: End) -> Result<(), Differs> {
-        self.side(end).is_done = true;
-        if let Some(reply) = self.side(end).reply {
+        let side = self.side(end);
+        side.is_done = true;
+        if let Some(reply) = side.reply {
             return Err(Differs::HasReplied(reply));
         }
         if self.model.has_call(end) {
@@ -230,16 +272,12 @@ impl Follower {
 
     /// An end that was given the message frees it; else its call drops it.
     fn free_message(&mut self, end: End) -> Result<(), Differs> {
-        if self.side(end).has_message {
-            self.side(end).has_message = false;
+        let side = self.side(end);
+        if side.has_message {
+            side.has_message = false;
             return Ok(());
         }
-        let step = self.reach(end)?;
-        if step != Step::DropMessage {
-            return Err(Differs::OtherStep(step));
-        }
-        self.advance(end, Given::Usual)?;
-        Ok(())
+        self.make(end, Step::DropMessage, Given::Usual)
     }
 
     /// The copy of a waker that the receiver makes next is refused.
@@ -265,10 +303,11 @@ impl Follower {
         if self.is_stuck {
             return Ok(());
         }
-        for (side, end) in [(&self.sender, End::Sender), (&self.receiver, End::Receiver)] {
-            if !side.is_done {
-                return Err(Differs::CallLeft(end));
-            }
+        if !self.sender.is_done {
+            return Err(Differs::CallLeft(End::Sender));
+        }
+        if !self.receiver.is_done {
+            return Err(Differs::CallLeft(End::Receiver));
         }
         if self.model.block_freed() != self.block_freed {
             return Err(Differs::OtherBlock(self.model.block_freed()));

@@ -27,17 +27,20 @@ impl Kept {
 
     /// Notes a step by which the receiver makes a copy, stores it or takes it back.
     pub(crate) fn note(&mut self, made: &Made) {
-        let Some((WakerName::Copy { .. }, ..)) = made.waker else {
-            return;
-        };
-        match (made.side, made.step) {
-            (End::Receiver, Step::Copy) => self.hand = true,
-            (End::Receiver, Step::WriteWaker) => {
+        if let (End::Receiver, Some((WakerName::Copy { .. }, ..))) = (made.side, made.waker) {
+            self.note_copy(made.step);
+        }
+    }
+
+    fn note_copy(&mut self, step: Step) {
+        match step {
+            Step::Copy => self.hand = true,
+            Step::WriteWaker => {
                 self.hand = self.spare;
                 self.spare = false;
             }
-            (End::Receiver, Step::Withdraw) if self.hand => self.spare = true,
-            (End::Receiver, Step::Withdraw) => self.hand = true,
+            Step::Withdraw if self.hand => self.spare = true,
+            Step::Withdraw => self.hand = true,
             _ => {}
         }
     }

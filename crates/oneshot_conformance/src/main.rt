@@ -23,18 +23,24 @@ mod tasks;
 use audit::{Shown, audit};
 use std::io::BufReader;
 use std::process::ExitCode;
+use std::rt::Env;
 use std::{env, io};
 
 fn main(rt: HostRuntime) -> io::Result<ExitCode> {
-    let shown = match env::args(&rt)?.nth(1) {
-        Some(word) if word.as_str() == "traces" => Shown::Traces,
-        _ => Shown::Differences,
-    };
+    let shown = shown_by(&rt)?;
     let mut input = BufReader::new(rt.alloc(), rt.stdin())?;
     let same = audit(rt.alloc(), &mut input, &mut rt.stdout(), shown)?;
     Ok(if same {
         ExitCode::SUCCESS
     } else {
         ExitCode::FAILURE
+    })
+}
+
+/// What the argument asks for.
+fn shown_by(rt: &(impl Env + AllocGlobal)) -> io::Result<Shown> {
+    Ok(match env::args(rt)?.nth(1) {
+        Some(word) if word.as_str() == "traces" => Shown::Traces,
+        _ => Shown::Differences,
     })
 }

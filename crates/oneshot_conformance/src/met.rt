@@ -60,8 +60,12 @@ pub(crate) fn find_missed(
     let mut seen = BTreeSet::new(alloc);
     let mut choices = Vec::new(alloc);
     for _ in 0..MOST_RUNS {
-        let run = make_run(alloc, scripts, &mut choices)?;
-        told.take_up(alloc, &run, &mut seen, met)?;
+        told.take_up(
+            alloc,
+            &make_run(alloc, scripts, &mut choices)?,
+            &mut seen,
+            met,
+        )?;
         if !next_choices(&mut choices, choices_of(scripts))? {
             return Ok(told);
         }
@@ -158,39 +162,48 @@ fn choice_at(choices: &mut Vec<usize>, at: usize) -> Result<usize, AllocError> {
 
 /// Makes the steps of a choice, up to one that a word reports.
 fn go(run: &mut Model, chosen: usize) -> Result<Went, Differs> {
-    let Some((end, given)) = CHOICES.get(chosen) else {
-        return Ok(Went::Nowhere);
-    };
-    if !run.has_call(*end) {
-        return Ok(Went::Nowhere);
+    match CHOICES.get(chosen) {
+        Some((end, given)) if run.has_call(*end) => go_on(run, *end, *given),
+        _ => Ok(Went::Nowhere),
     }
-    let mut is_own = *given == Given::Usual;
+}
+
+/// Makes the steps of an end, up to one that a word reports. One of them has to ask for what is given, if it is not the
+/// usual.
+fn go_on(run: &mut Model, end: End, given: Given) -> Result<Went, Differs> {
+    let mut is_own = matches!(given, Given::Usual);
     for _ in 0..MOST_SILENT {
-        let Some(step) = run.next_step(*end) else {
+        let Some(step) = run.next_step(end) else {
             return Ok(if is_own { Went::On } else { Went::Nowhere });
         };
-        let asks = asks_for(run, step, *given);
+        let asks = asks_for(run, step, given);
         is_own = is_own || asks;
-        let gets = if asks { *given } else { Given::Usual };
-        if is_told(step) {
-            if !is_own {
-                return Ok(Went::Nowhere);
-            }
-            run.advance(*end, gets)?;
-            let is_far = run.parks() > MOST_PARKS;
-            return Ok(if is_far { Went::TooFar } else { Went::On });
+        if is_told(step) && !is_own {
+            return Ok(Went::Nowhere);
         }
-        run.advance(*end, gets)?;
+        run.advance(end, if asks { given } else { Given::Usual })?;
+        if is_told(step) {
+            return Ok(end_choice(run));
+        }
     }
     Err(Differs::TooLong)
+}
+
+/// What a choice did that has led a run here.
+fn end_choice(run: &Model) -> Went {
+    if run.parks() > MOST_PARKS {
+        Went::TooFar
+    } else {
+        Went::On
+    }
 }
 
 /// Whether a step of the receiver depends on what it gets.
 fn asks_for(run: &Model, step: Step, given: Given) -> bool {
     match given {
         Given::Usual => false,
-        Given::Over => step == Step::Clock && !run.computes_deadline(),
-        Given::Refusal => step == Step::Copy && !run.has_older_copy(),
+        Given::Over => matches!(step, Step::Clock) && !run.computes_deadline(),
+        Given::Refusal => matches!(step, Step::Copy) && !run.has_older_copy(),
     }
 }
 

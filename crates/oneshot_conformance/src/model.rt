@@ -4,11 +4,13 @@ use crate::differs::Differs;
 use crate::kept::Kept;
 use crate::order::Order;
 use crate::tasks::Tasks;
-use oneshot_machine::machine::{End, ReceiverPos, ReceiverStart, SenderCall, SenderPos, Step};
+use oneshot_machine::machine::{
+    End, ReceiverPos, ReceiverStart, Seen, SenderCall, SenderPos, Step,
+};
 use oneshot_machine::states::EMPTY;
 use oneshot_replay::{Entry, Made, Move, Replayer};
 use oneshot_text::Request;
-use std::alloc::Global;
+use std::alloc::{AllocError, Global};
 
 /// The most moves of a run, and the most steps of one end in a row that no word reports.
 const MOST_MOVES: usize = 4096;
@@ -16,7 +18,7 @@ const MOST_MOVES: usize = 4096;
 pub(crate) const MOST_SILENT: usize = 16;
 
 /// What the receiver's next step gets.
-#[derive(Clone, Copy, Eq, PartialEq)]
+#[derive(Clone, Copy)]
 pub(crate) enum Given {
     /// A reading of the clock that is in time, or a copy of its task's waker, if it asks for one.
     Usual,
@@ -125,7 +127,7 @@ impl Model {
 
     /// Whether the sender is dropped at its next step, or about to be.
     pub(crate) fn drops_sender(&self) -> bool {
-        self.run.sender_call() == Some(SenderCall::Drop)
+        matches!(self.run.sender_call(), Some(SenderCall::Drop))
     }
 
     /// Whether the receiver's next step reads the clock to compute a deadline.
@@ -137,14 +139,24 @@ impl Model {
     /// The next step of an end; `None` if its script is finished.
     pub(crate) fn next_step(&self, end: End) -> Option<Step> {
         match end {
-            End::Sender => {
-                let start = self.run.sender_call().map(SenderPos::start);
-                Some(self.sender_at.or(start)?.step())
-            }
-            End::Receiver => {
-                let start = self.run.receiver_call().map(ReceiverPos::start);
-                Some(self.receiver_at.or(start)?.step())
-            }
+            End::Sender => Some(self.sender_position()?.step()),
+            End::Receiver => Some(self.receiver_position()?.step()),
+        }
+    }
+
+    /// Where the sender is: in the call under way, or at the first position of its next.
+    fn sender_position(&self) -> Option<SenderPos> {
+        match self.sender_at {
+            Some(at) => Some(at),
+            None => Some(SenderPos::start(self.run.sender_call()?)),
+        }
+    }
+
+    /// Where the receiver is: in the call under way, or at the first position of its next.
+    fn receiver_position(&self) -> Option<ReceiverPos> {
+        match self.receiver_at {
+            Some(at) => Some(at),
+            None => Some(ReceiverPos::start(self.run.receiver_call()?)),
         }
     }
 
@@ -154,13 +166,7 @@ impl Model {
         if self.moves.len() >= MOST_MOVES || self.run.count() == usize::MAX {
             return Err(Differs::TooLong);
         }
-        let m = match end {
-            End::Sender => Move::Sender,
-            End::Receiver => Move::Receiver {
-                over: given == Given::Over,
-                refuse: given == Given::Refusal,
-            },
-        };
+        let m = move_of(end, given);
         let Entry::Made(made) = self.run.step(m) else {
             return Err(Differs::NothingLeft(end));
         };
@@ -171,43 +177,43 @@ impl Model {
 
     /// An end that begins a call is at the call's first position. A poll's task begins it there.
     fn take_position(&mut self, end: End) {
-        if end == End::Sender && self.sender_at.is_none() {
-            self.sender_at = self.run.sender_call().map(SenderPos::start);
-        }
-        if end == End::Receiver && self.receiver_at.is_none() {
-            let call = self.run.receiver_call();
-            self.receiver_at = call.map(ReceiverPos::start);
-            if call == Some(ReceiverStart::Poll) {
-                self.tasks.begin_poll();
+        match end {
+            End::Sender => self.sender_at = self.sender_position(),
+            End::Receiver => {
+                if self.begins_poll() {
+                    self.tasks.begin_poll();
+                }
+                self.receiver_at = self.receiver_position();
             }
         }
     }
 
+    /// Whether the receiver's next step is the first of a poll.
+    fn begins_poll(&self) -> bool {
+        let call = self.run.receiver_call();
+        self.receiver_at.is_none() && matches!(call, Some(ReceiverStart::Poll))
+    }
+
     /// Notes what a step did, and where it leads.
-    fn note(&mut self, made: &Made) -> Result<(), Differs> {
-        self.word = made.after;
+    fn note(&mut self, made: &Made) -> Result<(), AllocError> {
         self.order.note(made)?;
         self.tasks.note(made)?;
         self.kept.note(made);
-        match made.step {
+        self.word = made.after;
+        self.count(made.step);
+        match made.reply {
+            Some(_) => self.end_call(made.side),
+            None => self.go_on(made.side, made.seen),
+        }
+        Ok(())
+    }
+
+    fn count(&mut self, step: Step) {
+        match step {
             Step::Park => self.parks = self.parks.saturating_add(1),
             Step::Word(_) => self.operations = self.operations.saturating_add(1),
             _ => {}
         }
-        match made.side {
-            End::Sender => self.sender_at = self
-                .sender_at
-                .filter(|at| at.accepts(made.seen))
-                .map(|at| at.next(made.seen).0),
-            End::Receiver => self.receiver_at = self
-                .receiver_at
-                .filter(|at| at.accepts(made.seen))
-                .map(|at| at.next(made.seen).0),
-        }
-        if made.reply.is_some() {
-            self.end_call(made.side);
-        }
-        Ok(())
     }
 
     /// The call under way has replied.
@@ -216,5 +222,40 @@ impl Model {
             End::Sender => self.sender_at = None,
             End::Receiver => self.receiver_at = None,
         }
+    }
+
+    /// The call under way goes on, by what its step saw.
+    fn go_on(&mut self, end: End, seen: Seen) {
+        match end {
+            End::Sender => self.sender_at = sender_after(self.sender_at, seen),
+            End::Receiver => self.receiver_at = receiver_after(self.receiver_at, seen),
+        }
+    }
+}
+
+/// The move that makes the next step of an end.
+fn move_of(end: End, given: Given) -> Move {
+    match end {
+        End::Sender => Move::Sender,
+        End::Receiver => Move::Receiver {
+            over: matches!(given, Given::Over),
+            refuse: matches!(given, Given::Refusal),
+        },
+    }
+}
+
+/// The position of a sender after a step that saw this.
+fn sender_after(at: Option<SenderPos>, seen: Seen) -> Option<SenderPos> {
+    match at {
+        Some(at) if at.accepts(seen) => Some(at.next(seen).0),
+        _ => None,
+    }
+}
+
+/// The position of a receiver after a step that saw this.
+fn receiver_after(at: Option<ReceiverPos>, seen: Seen) -> Option<ReceiverPos> {
+    match at {
+        Some(at) if at.accepts(seen) => Some(at.next(seen).0),
+        _ => None,
     }
 }

@@ -33,20 +33,31 @@ impl Steps {
 
     fn note(&mut self, made: &Made) -> Result<(), AllocError> {
         if let Some(number) = number_of(made.step, made.seen) {
-            if !self
-                .numbers
-                .iter()
-                .skip(self.call)
-                .any(|other| *other == number)
-            {
-                self.numbers.push(number)?;
-            }
+            self.add(number)?;
         }
         if let Some(reply) = made.reply {
             self.numbers.push(FIRST_REPLY.wrapping_add(reply as u64))?;
             self.call = self.numbers.len();
         }
         Ok(())
+    }
+
+    /// Adds a number, unless the call under way has it.
+    fn add(&mut self, number: u64) -> Result<(), AllocError> {
+        for other in self.numbers.iter().skip(self.call) {
+            if *other == number {
+                return Ok(());
+            }
+        }
+        Ok(self.numbers.push(number)?)
+    }
+
+    /// Mixes each number into the state of a digest.
+    fn mixed_into(&self, mut state: u64) -> u64 {
+        for number in self.numbers.as_slice() {
+            state = mixed(state, *number);
+        }
+        mixed(state, u64::MAX)
     }
 }
 
@@ -69,14 +80,8 @@ impl Order {
     /// A digest of both ends' numbers, which distinguishes orders: it mixes each number in at once, with the constants
     /// of FNV-1a.
     pub(crate) fn digest(&self) -> u64 {
-        let mut state = 0xcbf2_9ce4_8422_2325_u64;
-        for steps in [&self.sender, &self.receiver] {
-            for number in steps.numbers.as_slice() {
-                state = mixed(state, *number);
-            }
-            state = mixed(state, u64::MAX);
-        }
-        state
+        let state = self.sender.mixed_into(0xcbf2_9ce4_8422_2325);
+        self.receiver.mixed_into(state)
     }
 }
 
@@ -86,14 +91,9 @@ fn mixed(state: u64, number: u64) -> u64 {
 
 /// The number of a step that others can observe, with what it sees.
 fn number_of(step: Step, seen: Seen) -> Option<u64> {
-    let kind: u64 = match step {
-        Step::Word(Op::Load) => 0,
-        Step::Word(Op::Store(_)) => 10,
-        Step::Word(Op::Swap(_)) => 20,
-        Step::Word(Op::Exchange(_, _)) => 30,
-        Step::Word(Op::Add) => 40,
-        Step::Word(Op::Xor) => 50,
-        Step::Clock => 60,
+    match step {
+        Step::Word(op) => Some(kind_of(op).wrapping_add(found_by(seen))),
+        Step::Clock => Some(60_u64.wrapping_add(found_by(seen))),
         Step::WriteMessage
         | Step::TakeMessage
         | Step::DropMessage
@@ -105,12 +105,25 @@ fn number_of(step: Step, seen: Seen) -> Option<u64> {
         | Step::Wake
         | Step::WakeOwn
         | Step::Free
-        | Step::Plain => return None,
-    };
-    let found = match seen {
+        | Step::Plain => None,
+    }
+}
+
+fn kind_of(op: Op) -> u64 {
+    match op {
+        Op::Load => 0,
+        Op::Store(_) => 10,
+        Op::Swap(_) => 20,
+        Op::Exchange(_, _) => 30,
+        Op::Add => 40,
+        Op::Xor => 50,
+    }
+}
+
+fn found_by(seen: Seen) -> u64 {
+    match seen {
         Seen::Word(word) => u64::from(word),
         Seen::Over(over) => u64::from(over),
         Seen::Done | Seen::Refused(_) | Seen::Token(_) => 9,
-    };
-    Some(kind + found)
+    }
 }

@@ -6,7 +6,7 @@ use oneshot_text::{ParseError, Request, parse_request};
 use std::alloc::{AllocError, Global};
 
 /// The channels that both threads of a pair have ends of.
-#[derive(Clone, Copy, Eq, PartialEq)]
+#[derive(Clone, Copy)]
 pub(crate) enum Channels {
     One,
     /// Two, each with these scripts: each thread sends on the one, and then receives on the other.
@@ -46,13 +46,15 @@ impl Scripts {
             "sent-sender" => self.channels = Channels::SentSender,
             "sent-receiver" => self.channels = Channels::SentReceiver,
             "refused" => self.may_refuse = true,
-            _ => {
-                self.text.push_str(line)?;
-                self.text
-                    .push_str(if line.starts_with('R') { "\nX\n" } else { "\n" })?;
-            }
+            _ => self.add_script(line)?,
         }
         Ok(())
+    }
+
+    fn add_script(&mut self, line: &str) -> Result<(), AllocError> {
+        let end = if line.starts_with('R') { "\nX\n" } else { "\n" };
+        self.text.push_str(line)?;
+        self.text.push_str(end)
     }
 
     pub(crate) fn channels(&self) -> Channels {

@@ -17,18 +17,12 @@ pub(crate) struct Tasks {
 impl Tasks {
     /// The tasks before the first poll. A task is woken until it is polled.
     pub(crate) fn new(alloc: Global, last: &ReceiverLast) -> Result<Tasks, AllocError> {
-        let mut polls = Vec::new(alloc);
-        if let ReceiverLast::IntoFuture(script) = last {
-            for call in script.calls.as_slice().iter().rev() {
-                if let AsyncCall::Poll(number) = call {
-                    polls.push(*number)?;
-                }
-            }
-        }
-        Ok(Tasks {
-            woken: Vec::from_slice(alloc, &NUMBERS)?,
-            polls,
-        })
+        let woken = Vec::from_slice(alloc, &NUMBERS)?;
+        let polls = match last {
+            ReceiverLast::IntoFuture(script) => polls_of(alloc, script.calls.as_slice())?,
+            _ => Vec::new(alloc),
+        };
+        Ok(Tasks { woken, polls })
     }
 
     /// The next poll begins.
@@ -51,9 +45,20 @@ impl Tasks {
 
     /// A task that is woken in the model has to be. A real one may also be woken where its last waker is dropped.
     pub(crate) fn compare(&self, number: u64, woken: bool) -> Result<(), Differs> {
-        if !woken && self.woken.iter().any(|other| *other == number) {
+        if !woken && self.woken.contains(&number) {
             return Err(Differs::OtherTask(number));
         }
         Ok(())
     }
+}
+
+/// The tasks of the polls among these calls, the last one first.
+fn polls_of(alloc: Global, calls: &[AsyncCall]) -> Result<Vec<u64>, AllocError> {
+    let mut polls = Vec::new(alloc);
+    for call in calls.iter().rev() {
+        if let AsyncCall::Poll(number) = call {
+            polls.push(*number)?;
+        }
+    }
+    Ok(polls)
 }
