@@ -1,0 +1,7 @@
+-- A proof of one goal of `sender_call`. `search` finds it too. With a file of answers the prover
+-- offers none for a wrong body.
+use Rattle.std.proofs.Common.{rules}
+use Rattle.oneshot_replay.proofs.replayer.Replayer.sender_call.Goals as goal
+
+pub returns : goal.returns
+returns g c = search rules
