@@ -26,7 +26,7 @@ pub fn tell<T: Debug>(rt: &impl Eprint, value: &T) {
     let _ = eprintln!(rt; "{value:?}");
 }
 
-/// Ends the test unless both values are equal, and prints both. The failure names the line of this assertion.
+/// Prints both values and ends the test, unless they are equal. The failure names the line of this assertion.
 #[macro_export]
 macro_rules! assert_same {
     ($rt:expr; $found:expr, $wanted:expr $(,)?) => {
@@ -36,7 +36,7 @@ macro_rules! assert_same {
     };
 }
 
-/// Ends the test unless `$holds` is true, and prints what the assertion is about. The failure names its line.
+/// Prints what the assertion is about and ends the test, unless `$holds` is true. The failure names its line.
 #[macro_export]
 macro_rules! assert_that {
     ($rt:expr; $holds:expr, $about:expr $(,)?) => {

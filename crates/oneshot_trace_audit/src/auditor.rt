@@ -16,6 +16,7 @@ mod wakers;
 pub(crate) use crate::auditor::fault::{Fault, Finding};
 use crate::auditor::history::History;
 use crate::auditor::holders::Holders;
+use crate::auditor::mark::Mark;
 use crate::auditor::message::Message;
 use crate::auditor::waits::Waits;
 use oneshot_machine::machine::End;
@@ -101,16 +102,21 @@ impl Auditor {
             return Err(Fault::NoCallLeft(made.side));
         };
         let mark = self.history.mark(number, made, call, later);
+        self.read_mark(mark, earlier)?;
+        if self.history.has_sender_answered() {
+            self.waits.read_wait(later)?;
+        }
+        Ok(())
+    }
+
+    /// Checks that a step of a call meets each definition of a step.
+    fn read_mark(&mut self, mark: Mark, earlier: &[Entry]) -> Result<(), Fault> {
         self.holders.read(mark)?;
         self.message.read(mark)?;
         wakers::read(mark, earlier)?;
         self.history.read(mark)?;
         self.message.read_reply(mark)?;
-        self.waits.read(mark)?;
-        if self.history.has_sender_answered() {
-            self.waits.read_wait(later)?;
-        }
-        Ok(())
+        self.waits.read(mark)
     }
 
     /// Checks what must hold after the last entry.

@@ -3,10 +3,9 @@
 ghost use Rattle.std.specs.Prelude.{◌<◌, vec_len};
 
 use crate::auditor::DrawnTrace;
+use oneshot_asserts::{Asserts, assert_that, tell};
 use oneshot_machine::machine::{End, Reply, Seen, Step};
 use oneshot_replay::{Entry, Made, Place, WakerName, WakerPlace};
-use std::alloc::AllocError;
-use std::process::Abort;
 
 /// A change to a trace. Entries are counted from 1.
 #[derive(Clone, Copy)]
@@ -44,11 +43,7 @@ pub(crate) enum Edit {
 }
 
 /// Applies a change to a trace. Panics if the trace has no entry that it names.
-pub(crate) fn apply(
-    rt: &impl Abort,
-    trace: &mut DrawnTrace,
-    change: Edit,
-) -> Result<(), AllocError> {
+pub(crate) fn apply(rt: &impl Asserts, trace: &mut DrawnTrace, change: Edit) {
     match change {
         Edit::Remove(number) => {
             // The entry is not put anywhere else.
@@ -56,11 +51,11 @@ pub(crate) fn apply(
         }
         Edit::Double(number) => {
             let entry = entry_of(rt, trace, number);
-            insert(rt, trace, number, entry)?;
+            insert(rt, trace, number, entry);
         }
         Edit::MoveBefore(from, number) => {
             let entry = remove(rt, trace, from);
-            insert(rt, trace, number, entry)?;
+            insert(rt, trace, number, entry);
         }
         Edit::Idle(number, end) => replace(rt, trace, number, Entry::Idle(end)),
         Edit::BlockFreed(block_freed) => trace.block_freed = block_freed,
@@ -78,7 +73,6 @@ pub(crate) fn apply(
             replace(rt, trace, number, Entry::Made(changed(made, change)));
         }
     }
-    Ok(())
 }
 
 /// Returns the step with one field changed.
@@ -100,46 +94,43 @@ fn changed(made: Made, change: Edit) -> Made {
     }
 }
 
-fn entry_of(rt: &impl Abort, trace: &DrawnTrace, number: usize) -> Entry {
+fn entry_of(rt: &impl Asserts, trace: &DrawnTrace, number: usize) -> Entry {
     let at = index_of(rt, trace, number);
     trace.entries[at]
 }
 
-fn step_of(rt: &impl Abort, trace: &DrawnTrace, number: usize) -> Made {
+fn step_of(rt: &impl Asserts, trace: &DrawnTrace, number: usize) -> Made {
     match entry_of(rt, trace, number) {
         Entry::Made(made) => made,
-        Entry::Idle(end) => panic!(rt; "entry {number}: {end:?} is idle"),
+        Entry::Idle(end) => {
+            tell(rt, &("entry", number, end, "is idle"));
+            rt.abort()
+        }
     }
 }
 
-fn remove(rt: &impl Abort, trace: &mut DrawnTrace, number: usize) -> Entry {
+fn remove(rt: &impl Asserts, trace: &mut DrawnTrace, number: usize) -> Entry {
     let at = index_of(rt, trace, number);
     trace.entries.remove(at)
 }
 
-fn insert(
-    rt: &impl Abort,
-    trace: &mut DrawnTrace,
-    number: usize,
-    entry: Entry,
-) -> Result<(), AllocError> {
+fn insert(rt: &impl Asserts, trace: &mut DrawnTrace, number: usize, entry: Entry) {
     let at = index_of(rt, trace, number);
-    trace.entries.insert(at, entry)?;
-    Ok(())
+    trace.entries.insert(at, entry).expect(rt, "memory");
 }
 
-fn replace(rt: &impl Abort, trace: &mut DrawnTrace, number: usize, entry: Entry) {
+fn replace(rt: &impl Asserts, trace: &mut DrawnTrace, number: usize, entry: Entry) {
     let at = index_of(rt, trace, number);
     trace.entries[at] = entry;
 }
 
 /// Returns the index of an entry. Panics if there is none.
-fn index_of(rt: &impl Abort, trace: &DrawnTrace, number: usize) -> usize
+fn index_of(rt: &impl Asserts, trace: &DrawnTrace, number: usize) -> usize
     ensures { result < vec_len trace.now.entries }
 {
-    assert!(rt;
+    assert_that!(rt;
         0 < number && number <= trace.entries.len(),
-        "no entry {number}"
+        ("no entry", number)
     );
     number - 1
 }

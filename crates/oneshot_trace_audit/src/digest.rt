@@ -1,12 +1,12 @@
 //! The digest of traces or of a text, as a guard against changes.
 
 use crate::auditor::DrawnTrace;
+use oneshot_asserts::assert_same;
 use oneshot_machine::machine::{Seen, Step};
 use oneshot_machine::states::Op;
 use oneshot_replay::{Entry, Made, Place, WakerName, WakerPlace};
 use std::io;
 use std::io::Write;
-use std::test::Fail;
 
 /// A digest of 64 bits: FNV-1a of the bytes that were written. A number is added as FNV-1a adds a byte.
 #[derive(Drop)]
@@ -165,11 +165,11 @@ const PUBLISHED: &[(&str, u64); 3] = &[
 ];
 
 #[test]
-fn texts_have_their_digests(rt: HostRuntime) -> Result<(), Fail> {
-    for (text, digest) in PUBLISHED {
+fn texts_have_their_digests(rt: HostRuntime) {
+    for &(text, digest) in PUBLISHED {
         let mut met = Digest::new();
-        met.write_all(text.as_bytes())?;
-        assert_eq!(rt; (*text, met.value()), (*text, *digest));
+        let written = met.write_all(text.as_bytes());
+        written.expect(&rt, "a text that is written");
+        assert_same!(rt; (text, met.value()), (text, digest));
     }
-    Ok(())
 }

@@ -6,10 +6,9 @@ use crate::digest::Digest;
 use crate::moves::Draws;
 use crate::run::{print_run, run};
 use crate::scripts::scripts_of;
+use oneshot_asserts::{Asserts, assert_same};
 use oneshot_replay::Move;
 use std::alloc::AllocGlobal;
-use std::process::{Abort, Termination};
-use std::test::Fail;
 
 /// How many moves are drawn from a seed.
 const MOVES: usize = 64;
@@ -31,57 +30,51 @@ impl Digests {
     /// auditor accepts the trace.
     fn add(
         &mut self,
-        rt: &(impl Abort + AllocGlobal),
+        rt: &(impl Asserts + AllocGlobal),
         scripts: &Scripts,
         lines: &str,
         seed: u64,
-    ) -> Result<(), Fail> {
+    ) {
         let moves = schedule(seed);
-        let played = scripts_of(rt.alloc(), lines)?;
-        let trace = run(rt.alloc(), played, &moves)?;
+        let trace = run(rt, scripts_of(rt, lines), &moves);
         assert_accepted(rt, audit(scripts, &trace), lines, seed);
         self.traces.add_trace(&trace);
-        let played = scripts_of(rt.alloc(), lines)?;
-        Ok(print_run(&mut self.texts, played, &moves)?)
+        let printed = print_run(&mut self.texts, scripts_of(rt, lines), &moves);
+        printed.expect(rt, "a printed run");
     }
 }
 
 /// Fails if the audit of the trace of both scripts under the schedule of `seed` found a fault.
-fn assert_accepted(rt: &impl Abort, audited: Result<(), Finding>, lines: &str, seed: u64) {
-    if let Err(finding) = audited {
-        panic!(rt; "{lines:?}, seed {seed}: {finding:?}");
-    }
+fn assert_accepted(rt: &impl Asserts, audited: Result<(), Finding>, lines: &str, seed: u64) {
+    assert_same!(rt; (lines, seed, audited), (lines, seed, Ok(())));
 }
 
 /// Draws a schedule from each seed from 1 to 10,000, and runs both scripts under it. Asserts that the
 /// auditor accepts each trace. Returns the digests of all traces and of all texts.
-fn drawn_digests(rt: &(impl Abort + AllocGlobal), lines: &str) -> Result<(u64, u64), Fail> {
-    let scripts = scripts_of(rt.alloc(), lines)?;
+fn drawn_digests(rt: &(impl Asserts + AllocGlobal), lines: &str) -> (u64, u64) {
+    let scripts = scripts_of(rt, lines);
     let mut digests = Digests {
         traces: Digest::new(),
         texts: Digest::new(),
     };
     for seed in 1..=10_000 {
-        digests.add(rt, &scripts, lines, seed)?;
+        digests.add(rt, &scripts, lines, seed);
     }
-    Ok((digests.traces.value(), digests.texts.value()))
+    (digests.traces.value(), digests.texts.value())
 }
 
 /// Asserts that the auditor accepts each trace that is drawn for the pair, and that the digests of all traces
 /// and of all texts are the pair's.
-fn assert_drawn(rt: &(impl Abort + AllocGlobal), pair: Pair) -> Result<(), Fail> {
+fn assert_drawn(rt: &(impl Asserts + AllocGlobal), pair: Pair) {
     let (lines, traces, texts) = pair;
-    assert_eq!(rt;
-        (lines, drawn_digests(rt, lines)?),
-        (lines, (traces, texts))
-    );
-    Ok(())
+    let drawn = drawn_digests(rt, lines);
+    assert_same!(rt; (lines, drawn), (lines, (traces, texts)));
 }
 
 #[test]
 #[should_panic(expected = "right: (\"S send 7\\nR recv\", (0, 0))")]
 fn another_digest_ends_a_test(rt: HostRuntime) {
-    let _ = assert_drawn(&rt, ("S send 7\nR recv", 0, 0)).report(&rt);
+    assert_drawn(&rt, ("S send 7\nR recv", 0, 0));
 }
 
 fn schedule(seed: u64) -> [Move; MOVES] {
@@ -112,18 +105,18 @@ const TRIES: [Pair; 3] = [
 ];
 
 #[test]
-fn a_send_beside_two_tries(rt: HostRuntime) -> Result<(), Fail> {
-    assert_drawn(&rt, TRIES[0])
+fn a_send_beside_two_tries(rt: HostRuntime) {
+    assert_drawn(&rt, TRIES[0]);
 }
 
 #[test]
-fn a_drop_beside_two_tries(rt: HostRuntime) -> Result<(), Fail> {
-    assert_drawn(&rt, TRIES[1])
+fn a_drop_beside_two_tries(rt: HostRuntime) {
+    assert_drawn(&rt, TRIES[1]);
 }
 
 #[test]
-fn a_look_and_a_send_beside_two_tries(rt: HostRuntime) -> Result<(), Fail> {
-    assert_drawn(&rt, TRIES[2])
+fn a_look_and_a_send_beside_two_tries(rt: HostRuntime) {
+    assert_drawn(&rt, TRIES[2]);
 }
 
 const RECEIVES_BY_VALUE: [Pair; 3] = [
@@ -145,18 +138,18 @@ const RECEIVES_BY_VALUE: [Pair; 3] = [
 ];
 
 #[test]
-fn a_send_beside_a_receive_by_value(rt: HostRuntime) -> Result<(), Fail> {
-    assert_drawn(&rt, RECEIVES_BY_VALUE[0])
+fn a_send_beside_a_receive_by_value(rt: HostRuntime) {
+    assert_drawn(&rt, RECEIVES_BY_VALUE[0]);
 }
 
 #[test]
-fn a_drop_beside_a_receive_by_value(rt: HostRuntime) -> Result<(), Fail> {
-    assert_drawn(&rt, RECEIVES_BY_VALUE[1])
+fn a_drop_beside_a_receive_by_value(rt: HostRuntime) {
+    assert_drawn(&rt, RECEIVES_BY_VALUE[1]);
 }
 
 #[test]
-fn a_look_and_a_send_beside_a_receive_by_value(rt: HostRuntime) -> Result<(), Fail> {
-    assert_drawn(&rt, RECEIVES_BY_VALUE[2])
+fn a_look_and_a_send_beside_a_receive_by_value(rt: HostRuntime) {
+    assert_drawn(&rt, RECEIVES_BY_VALUE[2]);
 }
 
 const RECEIVES_BY_REFERENCE: [Pair; 3] = [
@@ -178,18 +171,18 @@ const RECEIVES_BY_REFERENCE: [Pair; 3] = [
 ];
 
 #[test]
-fn a_send_beside_a_receive_by_reference(rt: HostRuntime) -> Result<(), Fail> {
-    assert_drawn(&rt, RECEIVES_BY_REFERENCE[0])
+fn a_send_beside_a_receive_by_reference(rt: HostRuntime) {
+    assert_drawn(&rt, RECEIVES_BY_REFERENCE[0]);
 }
 
 #[test]
-fn a_drop_beside_a_receive_by_reference(rt: HostRuntime) -> Result<(), Fail> {
-    assert_drawn(&rt, RECEIVES_BY_REFERENCE[1])
+fn a_drop_beside_a_receive_by_reference(rt: HostRuntime) {
+    assert_drawn(&rt, RECEIVES_BY_REFERENCE[1]);
 }
 
 #[test]
-fn a_look_and_a_send_beside_a_receive_by_reference(rt: HostRuntime) -> Result<(), Fail> {
-    assert_drawn(&rt, RECEIVES_BY_REFERENCE[2])
+fn a_look_and_a_send_beside_a_receive_by_reference(rt: HostRuntime) {
+    assert_drawn(&rt, RECEIVES_BY_REFERENCE[2]);
 }
 
 const DEADLINES: [Pair; 3] = [
@@ -211,18 +204,18 @@ const DEADLINES: [Pair; 3] = [
 ];
 
 #[test]
-fn a_send_beside_a_deadline(rt: HostRuntime) -> Result<(), Fail> {
-    assert_drawn(&rt, DEADLINES[0])
+fn a_send_beside_a_deadline(rt: HostRuntime) {
+    assert_drawn(&rt, DEADLINES[0]);
 }
 
 #[test]
-fn a_drop_beside_a_deadline(rt: HostRuntime) -> Result<(), Fail> {
-    assert_drawn(&rt, DEADLINES[1])
+fn a_drop_beside_a_deadline(rt: HostRuntime) {
+    assert_drawn(&rt, DEADLINES[1]);
 }
 
 #[test]
-fn a_look_and_a_send_beside_a_deadline(rt: HostRuntime) -> Result<(), Fail> {
-    assert_drawn(&rt, DEADLINES[2])
+fn a_look_and_a_send_beside_a_deadline(rt: HostRuntime) {
+    assert_drawn(&rt, DEADLINES[2]);
 }
 
 const ENDLESS_WAITS: [Pair; 3] = [
@@ -244,18 +237,18 @@ const ENDLESS_WAITS: [Pair; 3] = [
 ];
 
 #[test]
-fn a_send_beside_an_endless_wait(rt: HostRuntime) -> Result<(), Fail> {
-    assert_drawn(&rt, ENDLESS_WAITS[0])
+fn a_send_beside_an_endless_wait(rt: HostRuntime) {
+    assert_drawn(&rt, ENDLESS_WAITS[0]);
 }
 
 #[test]
-fn a_drop_beside_an_endless_wait(rt: HostRuntime) -> Result<(), Fail> {
-    assert_drawn(&rt, ENDLESS_WAITS[1])
+fn a_drop_beside_an_endless_wait(rt: HostRuntime) {
+    assert_drawn(&rt, ENDLESS_WAITS[1]);
 }
 
 #[test]
-fn a_look_and_a_send_beside_an_endless_wait(rt: HostRuntime) -> Result<(), Fail> {
-    assert_drawn(&rt, ENDLESS_WAITS[2])
+fn a_look_and_a_send_beside_an_endless_wait(rt: HostRuntime) {
+    assert_drawn(&rt, ENDLESS_WAITS[2]);
 }
 
 const POLLS: [Pair; 3] = [
@@ -277,18 +270,18 @@ const POLLS: [Pair; 3] = [
 ];
 
 #[test]
-fn a_send_beside_three_polls(rt: HostRuntime) -> Result<(), Fail> {
-    assert_drawn(&rt, POLLS[0])
+fn a_send_beside_three_polls(rt: HostRuntime) {
+    assert_drawn(&rt, POLLS[0]);
 }
 
 #[test]
-fn a_drop_beside_three_polls(rt: HostRuntime) -> Result<(), Fail> {
-    assert_drawn(&rt, POLLS[1])
+fn a_drop_beside_three_polls(rt: HostRuntime) {
+    assert_drawn(&rt, POLLS[1]);
 }
 
 #[test]
-fn a_look_and_a_send_beside_three_polls(rt: HostRuntime) -> Result<(), Fail> {
-    assert_drawn(&rt, POLLS[2])
+fn a_look_and_a_send_beside_three_polls(rt: HostRuntime) {
+    assert_drawn(&rt, POLLS[2]);
 }
 
 const TRIES_OF_A_FUTURE: [Pair; 3] = [
@@ -310,16 +303,16 @@ const TRIES_OF_A_FUTURE: [Pair; 3] = [
 ];
 
 #[test]
-fn a_send_beside_polls_and_tries(rt: HostRuntime) -> Result<(), Fail> {
-    assert_drawn(&rt, TRIES_OF_A_FUTURE[0])
+fn a_send_beside_polls_and_tries(rt: HostRuntime) {
+    assert_drawn(&rt, TRIES_OF_A_FUTURE[0]);
 }
 
 #[test]
-fn a_drop_beside_polls_and_tries(rt: HostRuntime) -> Result<(), Fail> {
-    assert_drawn(&rt, TRIES_OF_A_FUTURE[1])
+fn a_drop_beside_polls_and_tries(rt: HostRuntime) {
+    assert_drawn(&rt, TRIES_OF_A_FUTURE[1]);
 }
 
 #[test]
-fn a_look_and_a_send_beside_polls_and_tries(rt: HostRuntime) -> Result<(), Fail> {
-    assert_drawn(&rt, TRIES_OF_A_FUTURE[2])
+fn a_look_and_a_send_beside_polls_and_tries(rt: HostRuntime) {
+    assert_drawn(&rt, TRIES_OF_A_FUTURE[2]);
 }

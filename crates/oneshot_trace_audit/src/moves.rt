@@ -1,8 +1,8 @@
 //! Moves that are drawn from a seed.
 
 use crate::scripts::moves_of;
+use oneshot_asserts::{Asserts, assert_same};
 use oneshot_replay::Move;
-use std::test::Fail;
 
 fn receiver(over: bool, refuse: bool) -> Move {
     Move::Receiver { over, refuse }
@@ -57,12 +57,16 @@ const DRAWN: &[(u64, &str); 3] = &[
 ];
 
 #[test]
-fn seeds_draw_their_moves(rt: HostRuntime) -> Result<(), Fail> {
+fn seeds_draw_their_moves(rt: HostRuntime) {
     for &(seed, letters) in DRAWN {
-        let mut draws = Draws::new(seed);
-        for (place, &wanted) in moves_of(rt.alloc(), letters)?.iter().enumerate() {
-            assert_eq!(rt; (seed, place, draws.draw()), (seed, place, wanted));
-        }
+        assert_draws(&rt, seed, &moves_of(&rt, letters));
     }
-    Ok(())
+}
+
+/// Fails unless these are the first moves drawn from the seed.
+fn assert_draws(rt: &impl Asserts, seed: u64, moves: &[Move]) {
+    let mut draws = Draws::new(seed);
+    for (place, &wanted) in moves.iter().enumerate() {
+        assert_same!(rt; (seed, place, draws.draw()), (seed, place, wanted));
+    }
 }

@@ -1,23 +1,27 @@
 //! Runs two scripts, for their trace or for its text.
 
 use crate::auditor::{DrawnTrace, Scripts};
+use oneshot_asserts::Asserts;
 use oneshot_replay::{Move, Place, Replayer, Rest, SenderLast, replay};
 use oneshot_text::write_run;
-use std::alloc::Global;
+use std::alloc::AllocGlobal;
 use std::io;
 use std::io::Write;
-use std::test::Fail;
 
 /// Runs both scripts under a schedule, and returns their trace.
-pub(crate) fn run(alloc: Global, scripts: Scripts, moves: &[Move]) -> Result<DrawnTrace, Fail> {
+pub(crate) fn run(
+    rt: &(impl Asserts + AllocGlobal),
+    scripts: Scripts,
+    moves: &[Move],
+) -> DrawnTrace {
     let Scripts { sender, receiver } = scripts;
-    let trace = replay(alloc, sender, receiver, moves)?;
-    let entries = Vec::from_slice(alloc, trace.entries())?;
-    Ok(DrawnTrace {
+    let trace = replay(rt.alloc(), sender, receiver, moves).expect(rt, "memory");
+    let entries = Vec::from_slice(rt.alloc(), trace.entries()).expect(rt, "memory");
+    DrawnTrace {
         entries,
         block_freed: trace.block_freed(),
         rest: trace.into_rest().map(place_of),
-    })
+    }
 }
 
 /// Writes what the program prints for both scripts under a schedule.

@@ -7,7 +7,7 @@ use oneshot_replay::{Place, WakerPlace};
 pub(crate) type Finding = (usize, Fault);
 
 /// What is wrong with a trace.
-#[derive(Clone, Copy, Debug, Eq, PartialEq)]
+#[derive(Clone, Copy, Debug, PartialEq)]
 pub(crate) enum Fault {
     /// An idle end has a call under way or left.
     IdleTooEarly(End),

@@ -5,7 +5,7 @@ use oneshot_machine::machine::{End, Reply};
 use oneshot_replay::ReceiverCall;
 
 /// What the object holds.
-#[derive(Clone, Copy, Eq, PartialEq)]
+#[derive(Clone, Copy, PartialEq)]
 enum Content {
     /// Nothing yet.
     Open,

@@ -162,13 +162,19 @@ fn ended() -> [Made; 4] {
 /// The trace, of `S send 7` beside `R future poll 1 drop`.
 pub(crate) fn trace(alloc: Global) -> Result<DrawnTrace, AllocError> {
     let mut entries = Vec::new(alloc);
-    let all = polled().into_iter().chain(waited()).chain(ended());
-    for made in all {
-        entries.push(Entry::Made(made))?;
-    }
+    push_all(&mut entries, &polled())?;
+    push_all(&mut entries, &waited())?;
+    push_all(&mut entries, &ended())?;
     Ok(DrawnTrace {
         entries,
         block_freed: true,
         rest: Some((Place::Dropped, SENT)),
     })
+}
+
+fn push_all(entries: &mut Vec<Entry>, steps: &[Made]) -> Result<(), AllocError> {
+    for made in steps {
+        entries.push(Entry::Made(*made))?;
+    }
+    Ok(())
 }
