@@ -58,10 +58,10 @@ impl Beside {
     /// A word of the second channel ends with a prime. Where there is none, it is of a channel within the message.
     fn follow_word(&mut self, text: &str) -> Result<(), Differs> {
         let Some(word) = text.strip_suffix('\'') else {
-            return self.first.follow(read(text)?);
+            return self.first.follow(read_event(text)?);
         };
         match &mut self.second {
-            Some(second) => second.follow(read(word)?),
+            Some(second) => second.follow(read_event(word)?),
             None => Ok(()),
         }
     }
@@ -137,6 +137,7 @@ impl Second {
     }
 }
 
-fn read(word: &str) -> Result<Event, Differs> {
+/// What a word of the program that runs the ends reports.
+fn read_event(word: &str) -> Result<Event, Differs> {
     event_of(word).ok_or(Differs::UnknownWord)
 }

@@ -28,7 +28,7 @@ impl Side {
     }
 }
 
-/// Where the steps of an end lead that no word reports.
+/// Where the steps that no word reports lead an end.
 enum Reached {
     /// To a step that a word reports.
     Told(Step),
@@ -83,8 +83,8 @@ impl Follower {
         Ok((made.before, made.after))
     }
 
-    /// What a step gets that no word reports. A copy is refused if a word before reported so, and no older copy takes
-    /// its place.
+    /// What a step that no word reports gets. A copy is refused if a word before reported so, and no older copy takes
+    /// its place; that refusal is used up here.
     fn given(&mut self, step: Step) -> Given {
         if !self.is_refused || step != Step::Copy {
             return Given::Usual;
@@ -97,7 +97,7 @@ impl Follower {
         }
     }
 
-    /// Makes the steps of an end that no word reports, until its call has replied or a word reports the next.
+    /// Makes those steps of an end that no word reports, until its call has replied or a word reports the next.
     fn go_silently(&mut self, end: End) -> Result<Reached, Differs> {
         for _ in 0..MOST_SILENT {
             if let Some(reply) = self.side(end).reply {
@@ -115,7 +115,7 @@ impl Follower {
         Err(Differs::TooLong)
     }
 
-    /// Makes the steps of an end that no word reports, and returns the next that one reports. The call has to go on
+    /// Makes those steps of an end that no word reports, and returns the next that one reports. The call has to go on
     /// until then.
     fn reach(&mut self, end: End) -> Result<Step, Differs> {
         match self.go_silently(end)? {

@@ -168,8 +168,8 @@ fn go(run: &mut Model, chosen: usize) -> Result<Went, Differs> {
     }
 }
 
-/// Makes the steps of an end, up to one that a word reports. One of them has to ask for what is given, if it is not the
-/// usual.
+/// Makes the steps of an end, up to one that a word reports. One of them has to ask for what is given, unless that is
+/// the usual.
 fn go_on(run: &mut Model, end: End, given: Given) -> Result<Went, Differs> {
     let mut is_own = matches!(given, Given::Usual);
     for _ in 0..MOST_SILENT {

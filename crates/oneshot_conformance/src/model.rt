@@ -208,6 +208,7 @@ impl Model {
         Ok(())
     }
 
+    /// Counts a park or an operation on the word.
     fn count(&mut self, step: Step) {
         match step {
             Step::Park => self.parks = self.parks.saturating_add(1),
