@@ -4,7 +4,7 @@ use crate::numbered::Numbered;
 use futures::task::Poll;
 use oneshot_channel::{RecvError, RecvTimeoutError, TryRecvError};
 use std::fmt;
-use std::fmt::{Display, Formatter, Write};
+use std::fmt::{Debug, Display, Formatter, Write};
 
 /// What a call returns.
 #[derive(Clone, Copy, Drop)]
@@ -86,6 +86,12 @@ impl Display for Reply<u64> {
             Reply::Message(Form::Ready, number) => write!(f, "Ready(Ok({number}))"),
             Reply::Bare(reply) => f.write_str(reply.text()),
         }
+    }
+}
+
+impl Debug for Reply<u64> {
+    fn fmt<W: Write>(&self, f: &mut Formatter<W>) -> fmt::Result {
+        write!(f, "{self}")
     }
 }
 

@@ -5,11 +5,11 @@ mod reads;
 mod writes;
 
 use crate::answers::{status_and_text, text_of};
+use oneshot_asserts::{Asserts, assert_same};
 use oneshot_streams::answer::answer;
 use std::alloc::Global;
 use std::io;
 use std::io::{ErrorKind, Read, Write};
-use std::process::Abort;
 
 /// The most interrupts in a row in these tests.
 const INTERRUPTS: usize = 20;
@@ -119,7 +119,7 @@ impl Write for Writer {
 
 /// Returns the exit status, and all that was written to the errors.
 fn ending<R: Read, W: Write>(
-    rt: &(impl Abort + AllocGlobal),
+    rt: &(impl Asserts + AllocGlobal),
     input: &mut R,
     output: &mut W,
 ) -> String {
@@ -127,4 +127,16 @@ fn ending<R: Read, W: Write>(
     let status = answer(rt.alloc(), input, output, &mut errors);
     let errors = text_of(rt, errors);
     status_and_text(rt, status, &errors)
+}
+
+/// Fails unless the program ended well, and wrote the whole trace. A case is an input, how many calls failed, and how
+/// many preceded them.
+fn assert_whole(
+    rt: &impl Asserts,
+    case: (&str, usize, usize),
+    ended: &str,
+    written: &[u8],
+    trace: &str,
+) {
+    assert_same!(rt; (case, ended, written), (case, "0 ", trace.as_bytes()));
 }

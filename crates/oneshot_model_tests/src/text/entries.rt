@@ -1,13 +1,13 @@
 //! Lines of entries that no script's trace shows.
 
+use oneshot_asserts::assert_same;
 use oneshot_machine::machine::{End, Seen, Step};
 use oneshot_machine::states::Op;
 use oneshot_replay::{Entry, Made, WakerName, WakerPlace};
 use oneshot_text::EntryLine;
-use std::test::Fail;
 
 #[test]
-fn a_copy_shows_as_its_number_and_its_entry(rt: HostRuntime) -> Result<(), Fail> {
+fn a_copy_shows_as_its_number_and_its_entry(rt: HostRuntime) {
     let copy = WakerName::Copy {
         number: 18_446_744_073_709_551_615,
         entry: 12,
@@ -31,9 +31,9 @@ fn a_copy_shows_as_its_number_and_its_entry(rt: HostRuntime) -> Result<(), Fail>
         sender_call: None,
         message: 0,
     };
-    assert_eq!(rt;
-        line.to_string(rt.alloc())?.as_str(),
+    let text = line.to_string(rt.alloc()).expect(&rt, "memory");
+    assert_same!(rt;
+        text.as_str(),
         "13 R exchange 1>1 w18446744073709551615@12:New>Dropped"
     );
-    Ok(())
 }

@@ -1,7 +1,6 @@
 //! Prefixes of texts that ask for a run.
 
 use crate::text::{Case, assert_faults};
-use std::test::Fail;
 
 const WITHOUT_A_SCHEDULE: &[Case; 21] = &[
     ("", "line 1 is missing"),
@@ -107,15 +106,9 @@ const OF_A_FUTURE: &[Case; 21] = &[
 ];
 
 #[test]
-fn each_front_has_its_fault(rt: HostRuntime) -> Result<(), Fail> {
-    let tables: [&[Case]; 4] = [
-        WITHOUT_A_SCHEDULE,
-        OF_LOOKS_AND_OF_AN_ERRORS_SCRIPT,
-        OF_RECEIVES,
-        OF_A_FUTURE,
-    ];
-    for cases in tables {
-        assert_faults(&rt, cases)?;
-    }
-    Ok(())
+fn each_front_has_its_fault(rt: HostRuntime) {
+    assert_faults(&rt, WITHOUT_A_SCHEDULE);
+    assert_faults(&rt, OF_LOOKS_AND_OF_AN_ERRORS_SCRIPT);
+    assert_faults(&rt, OF_RECEIVES);
+    assert_faults(&rt, OF_A_FUTURE);
 }

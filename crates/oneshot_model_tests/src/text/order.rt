@@ -1,7 +1,6 @@
 //! Texts with two faults, of which the first is reported. Input after line 3 is reported last.
 
 use crate::text::{Case, assert_faults};
-use std::test::Fail;
 
 const TWO_FAULTS: &[Case; 18] = &[
     ("Q\nQ\n", "line 1: must begin with S"),
@@ -46,11 +45,11 @@ const BEFORE_MORE_INPUT: &[Case; 12] = &[
 ];
 
 #[test]
-fn lines_go_in_order_and_words_from_left_to_right(rt: HostRuntime) -> Result<(), Fail> {
-    assert_faults(&rt, TWO_FAULTS)
+fn lines_go_in_order_and_words_from_left_to_right(rt: HostRuntime) {
+    assert_faults(&rt, TWO_FAULTS);
 }
 
 #[test]
-fn input_after_line_3_is_reported_last(rt: HostRuntime) -> Result<(), Fail> {
-    assert_faults(&rt, BEFORE_MORE_INPUT)
+fn input_after_line_3_is_reported_last(rt: HostRuntime) {
+    assert_faults(&rt, BEFORE_MORE_INPUT);
 }

@@ -106,16 +106,8 @@ pub(super) fn damaged(
 ) -> Result<Vec<u8>, AllocError> {
     match draws.one_of(&DAMAGES) {
         Damage::Byte(damage) => damaged_at_byte(alloc, text, damage, draws),
-        Damage::Line(damage) => {
-            let mut lines = cut(alloc, text, b"\n")?;
-            damage_lines(&mut lines, damage, draws)?;
-            join(alloc, &lines)
-        }
-        Damage::Word(damage) => {
-            let mut words = cut(alloc, text, b" \n")?;
-            damage_words(&mut words, damage, draws)?;
-            join(alloc, &words)
-        }
+        Damage::Line(damage) => damaged_at_line(alloc, text, damage, draws),
+        Damage::Word(damage) => damaged_at_word(alloc, text, damage, draws),
     }
 }
 
@@ -139,6 +131,17 @@ fn damaged_at_byte(
     }
 }
 
+fn damaged_at_line(
+    alloc: Global,
+    text: &[u8],
+    damage: LineDamage,
+    draws: &mut Draws,
+) -> Result<Vec<u8>, AllocError> {
+    let mut lines = cut(alloc, text, b"\n")?;
+    damage_lines(&mut lines, damage, draws)?;
+    join(alloc, &lines)
+}
+
 fn damage_lines<'a>(
     lines: &mut Vec<Piece<'a>>,
     damage: LineDamage,
@@ -158,6 +161,17 @@ fn damage_lines<'a>(
         }
     }
     Ok(())
+}
+
+fn damaged_at_word(
+    alloc: Global,
+    text: &[u8],
+    damage: WordDamage,
+    draws: &mut Draws,
+) -> Result<Vec<u8>, AllocError> {
+    let mut words = cut(alloc, text, b" \n")?;
+    damage_words(&mut words, damage, draws)?;
+    join(alloc, &words)
 }
 
 fn damage_words<'a>(

@@ -4,10 +4,9 @@ use crate::answers::damaged::assert_as_read;
 use crate::answers::damaged::damage::damaged;
 use crate::answers::damaged::draws::Draws;
 use crate::answers::damaged::reading::Kind;
+use oneshot_asserts::{Asserts, assert_that};
 use std::alloc::{AllocError, AllocGlobal, Global};
 use std::ops::RangeInclusive;
-use std::process::{Abort, Termination};
-use std::test::Fail;
 
 /// Texts that ask for a run. Together they have each word of the grammar.
 const TEXTS: [&str; 8] = [
@@ -38,57 +37,68 @@ fn drawn(alloc: Global, draws: &mut Draws) -> Result<Vec<u8>, AllocError> {
 
 /// Draws this many texts from `seed`, and asserts that the program agrees with the second reading on each, and that
 /// each kind of result came often.
-fn assert_drawn(rt: &(impl Abort + AllocGlobal), seed: u64, texts: usize) -> Result<(), Fail> {
+fn assert_drawn(rt: &(impl Asserts + AllocGlobal), seed: u64, texts: usize) {
     let mut draws = Draws::new(seed);
     let mut kinds = Vec::new(rt.alloc());
     for _ in 0..texts {
-        let text = drawn(rt.alloc(), &mut draws)?;
-        kinds.push(assert_as_read(rt, &text)?)?;
+        let kind = drawn_kind(rt, &mut draws);
+        kinds.push(kind).expect(rt, "memory");
     }
     assert_each_came_often(rt, seed, &kinds);
-    Ok(())
 }
 
-fn assert_each_came_often(rt: &impl Abort, seed: u64, kinds: &[Kind]) {
+/// Draws a text, and returns its kind of result, in which the program agrees with the second reading.
+fn drawn_kind(rt: &(impl Asserts + AllocGlobal), draws: &mut Draws) -> Kind {
+    let text = drawn(rt.alloc(), draws).expect(rt, "memory");
+    assert_as_read(rt, &text)
+}
+
+fn assert_each_came_often(rt: &impl Asserts, seed: u64, kinds: &[Kind]) {
     for &kind in Kind::ALL {
-        let count = kinds.iter().filter(|came| **came == kind).count();
-        assert!(rt; count >= OFTEN, "seed {seed}: {count} of {kind:?}");
+        let count = count_of(kinds, kind);
+        assert_that!(rt; count >= OFTEN, (seed, kind, count));
     }
 }
 
-fn assert_each_drawn(
-    rt: &(impl Abort + AllocGlobal),
-    seeds: RangeInclusive<u64>,
-) -> Result<(), Fail> {
-    for seed in seeds {
-        assert_drawn(rt, seed, DRAWN)?;
+fn count_of(kinds: &[Kind], wanted: Kind) -> usize {
+    let mut count = 0usize;
+    for kind in kinds {
+        if *kind == wanted {
+            count = count.saturating_add(1);
+        }
     }
-    Ok(())
+    count
+}
+
+fn assert_each_drawn(rt: &(impl Asserts + AllocGlobal), seeds: RangeInclusive<u64>) {
+    for seed in seeds {
+        assert_drawn(rt, seed, DRAWN);
+    }
 }
 
 // A test has 60 seconds, also where `rt try` runs it.
 #[test]
-fn texts_drawn_from_seeds_one_to_three(rt: HostRuntime) -> Result<(), Fail> {
-    assert_each_drawn(&rt, 1..=3)
+fn texts_drawn_from_seeds_one_to_three(rt: HostRuntime) {
+    assert_each_drawn(&rt, 1..=3);
 }
 
 #[test]
-fn texts_drawn_from_seeds_four_to_six(rt: HostRuntime) -> Result<(), Fail> {
-    assert_each_drawn(&rt, 4..=6)
+fn texts_drawn_from_seeds_four_to_six(rt: HostRuntime) {
+    assert_each_drawn(&rt, 4..=6);
 }
 
 #[test]
-fn texts_drawn_from_seeds_seven_and_eight(rt: HostRuntime) -> Result<(), Fail> {
-    assert_each_drawn(&rt, 7..=8)
+fn texts_drawn_from_seeds_seven_and_eight(rt: HostRuntime) {
+    assert_each_drawn(&rt, 7..=8);
 }
 
 #[test]
-fn texts_drawn_from_seeds_nine_and_ten(rt: HostRuntime) -> Result<(), Fail> {
-    assert_each_drawn(&rt, 9..=10)
+fn texts_drawn_from_seeds_nine_and_ten(rt: HostRuntime) {
+    assert_each_drawn(&rt, 9..=10);
 }
 
 #[test]
-#[should_panic(expected = "seed 1: 0 of ")]
+#[should_panic(expected = "(1, Trace, 0)")]
 fn a_kind_that_does_not_come_ends_a_test(rt: HostRuntime) {
-    let _ = assert_drawn(&rt, 1, 0).report(&rt);
+    assert_drawn(&rt, 1, 0);
 }

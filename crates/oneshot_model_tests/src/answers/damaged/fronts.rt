@@ -2,10 +2,9 @@
 
 use crate::answers::damaged::assert_as_read;
 use crate::answers::damaged::reading::Kind;
-use crate::answers::output_of;
+use crate::answers::{assert_trace, output_of};
+use oneshot_asserts::{Asserts, assert_same};
 use std::alloc::AllocGlobal;
-use std::process::{Abort, Termination};
-use std::test::Fail;
 
 /// The lines of both scripts, and the letter of the third line.
 const LINES: &str = "S send 7\nR future poll 1 drop\nX";
@@ -13,39 +12,37 @@ const LINES: &str = "S send 7\nR future poll 1 drop\nX";
 const SCHEDULE: &str = "rrrrrssrrssrrrrs";
 
 #[test]
-fn each_front_of_a_schedule(rt: HostRuntime) -> Result<(), Fail> {
-    let mut front = Vec::from_slice(rt.alloc(), LINES.as_bytes())?;
-    assert_traced(&rt, &front, 0)?;
-    assert_eq!(rt;
-        output_of(&rt, &front).as_str(),
-        "rest NotSent(7)\nblock here\n"
-    );
-    front.push(b' ')?;
-    for (index, letter) in SCHEDULE.as_bytes().iter().enumerate() {
-        front.push(*letter)?;
-        assert_traced(&rt, &front, index.saturating_add(1))?;
+fn each_front_of_a_schedule(rt: HostRuntime) {
+    assert_traced(&rt, LINES, 0);
+    assert_trace(&rt, LINES, "rest NotSent(7)\nblock here\n");
+    for moves in 1..=SCHEDULE.len() {
+        assert_traced(&rt, &front_of(&rt, moves), moves);
     }
-    let trace = output_of(&rt, &front);
-    front.push(b'\n')?;
-    assert_traced(&rt, &front, SCHEDULE.len())?;
-    assert_eq!(rt; output_of(&rt, &front).as_str(), trace.as_str());
-    Ok(())
+    assert_end_changes_nothing(&rt, &front_of(&rt, SCHEDULE.len()));
+}
+
+/// Both scripts, and this many moves of the schedule.
+fn front_of(rt: &(impl Asserts + AllocGlobal), moves: usize) -> String {
+    let letters = SCHEDULE.get(..moves).expect(rt, "a schedule");
+    format!(in rt.alloc(); "{LINES} {letters}").expect(rt, "memory")
+}
+
+/// Asserts that an input with the whole schedule has the same trace if its last line ends.
+fn assert_end_changes_nothing(rt: &(impl Asserts + AllocGlobal), input: &str) {
+    let ended = format!(in rt.alloc(); "{input}\n").expect(rt, "memory");
+    assert_traced(rt, &ended, SCHEDULE.len());
+    assert_trace(rt, &ended, &output_of(rt, input.as_bytes()));
 }
 
 /// Asserts a trace of so many entries, with which the second reading agrees.
-fn assert_traced(
-    rt: &(impl Abort + AllocGlobal),
-    input: &[u8],
-    entries: usize,
-) -> Result<(), Fail> {
-    let kind = assert_as_read(rt, input)?;
-    let lines = output_of(rt, input).lines().count();
-    assert_eq!(rt; (kind, lines), (Kind::Trace, entries.saturating_add(2)));
-    Ok(())
+fn assert_traced(rt: &(impl Asserts + AllocGlobal), input: &str, entries: usize) {
+    let kind = assert_as_read(rt, input.as_bytes());
+    let lines = output_of(rt, input.as_bytes()).lines().count();
+    assert_same!(rt; (kind, lines), (Kind::Trace, entries.saturating_add(2)));
 }
 
 #[test]
 #[should_panic(expected = "right: (Trace, 3)")]
 fn a_trace_without_its_entry_ends_a_test(rt: HostRuntime) {
-    let _ = assert_traced(&rt, LINES.as_bytes(), 1).report(&rt);
+    assert_traced(&rt, LINES, 1);
 }

@@ -91,18 +91,25 @@ pub(super) fn change_end<'a>(
     old: &[u8],
     new: &'a [u8],
 ) {
-    let ended = pieces.iter().filter(|piece| piece.end == old).count();
-    match index_of_end(pieces, old, draws.below(ended)) {
-        Some(at) if at < pieces.len() => pieces[at].end = new,
-        _ => {}
+    let mut before = draws.below(count_ends(pieces, old));
+    for piece in pieces.iter_mut() {
+        if piece.end == old {
+            if before == 0 {
+                piece.end = new;
+                return;
+            }
+            before -= 1;
+        }
     }
 }
 
-/// Returns the index of the piece that ends in `end` after `before` others that do.
-fn index_of_end(pieces: &[Piece<'_>], end: &[u8], before: usize) -> Option<usize> {
-    let mut ended = pieces
-        .iter()
-        .enumerate()
-        .filter(|(_, piece)| piece.end == end);
-    ended.nth(before).map(|(at, _)| at)
+/// Counts the pieces that end in `end`.
+fn count_ends(pieces: &[Piece<'_>], end: &[u8]) -> usize {
+    let mut count = 0usize;
+    for piece in pieces {
+        if piece.end == end {
+            count = count.saturating_add(1);
+        }
+    }
+    count
 }

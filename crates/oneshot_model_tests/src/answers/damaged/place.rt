@@ -120,8 +120,12 @@ fn first(word: &str, letter: &'static str, after: Place) -> Result<Place, Wrong>
 }
 
 fn call(word: &str, words: Words) -> Result<Place, Wrong> {
-    let found = words.iter().find(|(text, _)| *text == word);
-    found.map(|(_, after)| *after).ok_or(Wrong::UnknownWord)
+    for (text, after) in words {
+        if *text == word {
+            return Ok(*after);
+        }
+    }
+    Err(Wrong::UnknownWord)
 }
 
 fn letters(word: &str) -> Result<Place, Wrong> {

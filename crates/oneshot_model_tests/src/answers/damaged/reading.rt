@@ -1,7 +1,6 @@
 //! A second reading of a text, by the grammar alone: what the text asks for, or its first fault.
 
 use crate::answers::damaged::place::{Place, Wrong};
-use std::alloc::{AllocError, Global};
 use std::{fmt, str};
 
 /// What a text asks for, as far as the output shows it.
@@ -33,7 +32,7 @@ pub(super) enum Flaw {
 }
 
 /// The result of a reading, without lines and words.
-#[derive(Clone, Copy, Debug, Eq, PartialEq)]
+#[derive(Clone, Copy, Debug, PartialEq)]
 pub(crate) enum Kind {
     Trace,
     NotAscii,
@@ -77,9 +76,9 @@ impl Flaw {
 impl fmt::Display for Flaw {
     fn fmt<W: fmt::Write>(&self, f: &mut fmt::Formatter<W>) -> fmt::Result {
         match *self {
-            Flaw::NotAscii => write!(f, "input is not ASCII"),
+            Flaw::NotAscii => f.write_str("input is not ASCII"),
             Flaw::Missing { line } => write!(f, "line {line} is missing"),
-            Flaw::InputAfter => write!(f, "input after line 3"),
+            Flaw::InputAfter => f.write_str("input after line 3"),
             Flaw::Word { line, word, wrong } => {
                 write!(f, "line {line}: ")?;
                 write_wrong(f, word, wrong)
@@ -99,46 +98,56 @@ fn write_wrong<W: fmt::Write>(f: &mut fmt::Formatter<W>, word: usize, wrong: Wro
 }
 
 /// Reads what `input` asks for.
-pub(super) fn read(alloc: Global, input: &[u8]) -> Result<Result<Asked<'_>, Flaw>, AllocError> {
+pub(super) fn read(input: &[u8]) -> Result<Asked<'_>, Flaw> {
     match str::from_utf8(input) {
-        Ok(text) if text.is_ascii() => {
-            let lines: Vec<&str> = text.split_terminator('\n').collect(alloc)?;
-            Ok(read_lines(&lines))
-        }
-        _ => Ok(Err(Flaw::NotAscii)),
+        Ok(text) if text.is_ascii() => read_lines(text),
+        _ => Err(Flaw::NotAscii),
     }
 }
 
-fn read_lines<'a>(lines: &[&'a str]) -> Result<Asked<'a>, Flaw> {
-    let begins = [
-        (1, Place::Sender),
-        (2, Place::Receiver),
-        (3, Place::Schedule),
-    ];
-    let mut rest = lines.iter();
-    for (line, begin) in begins {
-        let words = rest.next().ok_or(Flaw::Missing { line })?;
-        read_words(line, begin, words)?;
+fn read_lines(text: &str) -> Result<Asked<'_>, Flaw> {
+    let (sender, rest) = read_line(text, 1, Place::Sender)?;
+    let (_, rest) = read_line(rest, 2, Place::Receiver)?;
+    let (schedule, rest) = read_line(rest, 3, Place::Schedule)?;
+    if !rest.is_empty() {
+        return Err(Flaw::InputAfter);
     }
-    match lines {
-        [sender, _, schedule] => Ok(Asked {
-            message: sender.split(' ').skip_while(|word| *word != "send").nth(1),
-            letters: schedule.strip_prefix("X ").unwrap_or(""),
-        }),
-        _ => Err(Flaw::InputAfter),
+    Ok(Asked {
+        message: message_of(sender),
+        letters: schedule.strip_prefix("X ").unwrap_or(""),
+    })
+}
+
+/// Reads the first line of `text`, which has the number `line` and begins at the place `begin`. Returns it, and the
+/// text after it.
+fn read_line(text: &str, line: usize, begin: Place) -> Result<(&str, &str), Flaw> {
+    if text.is_empty() {
+        return Err(Flaw::Missing { line });
     }
+    let (words, rest) = text.split_once('\n').unwrap_or((text, ""));
+    read_words(line, begin, words)?;
+    Ok((words, rest))
 }
 
 /// Reads the words of a line that begins at the place `begin`.
 fn read_words(line: usize, begin: Place, words: &str) -> Result<(), Flaw> {
     let mut place = begin;
-    for (word, text) in words.split(' ').enumerate() {
-        place = place
-            .after(text)
-            .map_err(|wrong| Flaw::Word { line, word, wrong })?;
+    let mut word = 0usize;
+    for text in words.split(' ') {
+        match place.after(text) {
+            Ok(after) => place = after,
+            Err(wrong) => return Err(Flaw::Word { line, word, wrong }),
+        }
+        word = word.saturating_add(1);
     }
-    let word = words.split(' ').count();
-    place
-        .end()
-        .map_err(|wrong| Flaw::Word { line, word, wrong })
+    match place.end() {
+        Ok(()) => Ok(()),
+        Err(wrong) => Err(Flaw::Word { line, word, wrong }),
+    }
+}
+
+/// The word after `send` in the sender's line, if it has one.
+fn message_of(sender: &str) -> Option<&str> {
+    let (_, after) = sender.split_once(" send ")?;
+    after.split(' ').next()
 }

@@ -1,13 +1,12 @@
 //! Tests of readers that fail, are interrupted or never end, and of inputs of about one or two blocks.
 
-use super::{FAILURES, Failures, INTERRUPTS, Reader, ending};
+use super::{FAILURES, Failures, INTERRUPTS, Reader, assert_whole, ending};
 use crate::answers::{SENT, SENT_TRACE, assert_trace, idle};
+use oneshot_asserts::{Asserts, assert_same};
 use oneshot_streams::fault::Fault;
 use oneshot_streams::run::run;
 use std::io;
 use std::io::{ErrorKind, Read};
-use std::process::Abort;
-use std::test::Fail;
 
 #[test]
 fn a_failed_read_is_told_alone(rt: HostRuntime) {
@@ -20,15 +19,14 @@ fn a_failed_read_is_told_alone(rt: HostRuntime) {
 }
 
 /// Asserts that a read that fails after this many others is the reader's last call, and that nothing is written.
-fn assert_told_alone(rt: &(impl Abort + AllocGlobal), before: usize, kind: ErrorKind) {
+fn assert_told_alone(rt: &(impl Asserts + AllocGlobal), before: usize, kind: ErrorKind) {
     let mut reader = Reader::new(SENT, Failures::of(before, 1, kind));
     let mut written = Vec::new(rt.alloc());
     let ended = ending(rt, &mut reader, &mut written);
-    let case = (kind, before);
-    let reads_after = reader.failures.after;
-    assert_eq!(rt;
-        (case, ended.as_str(), written.is_empty(), reads_after),
-        (case, "1 read failed\n", true, 0)
+    let found = (written.is_empty(), reader.failures.after);
+    assert_same!(rt;
+        (kind, before, ended.as_str(), found),
+        (kind, before, "1 read failed\n", (true, 0))
     );
 }
 
@@ -42,24 +40,21 @@ fn an_interrupted_read_is_made_again(rt: HostRuntime) {
 }
 
 /// Asserts that the output is whole where this many interrupts follow this many reads.
-fn assert_made_again(rt: &(impl Abort + AllocGlobal), before: usize, count: usize) {
+fn assert_made_again(rt: &(impl Asserts + AllocGlobal), before: usize, count: usize) {
     let interrupts = Failures::of(before, count, ErrorKind::Interrupted);
     let mut written = Vec::new(rt.alloc());
     let ended = ending(rt, &mut Reader::new(SENT, interrupts), &mut written);
-    assert_eq!(rt;
-        (count, before, ended.as_str(), written.as_slice()),
-        (count, before, "0 ", SENT_TRACE.as_bytes())
-    );
+    let case = (SENT, count, before);
+    assert_whole(rt, case, &ended, &written, SENT_TRACE);
 }
 
 #[test]
-fn inputs_of_about_one_and_two_blocks(rt: HostRuntime) -> Result<(), Fail> {
+fn inputs_of_about_one_and_two_blocks(rt: HostRuntime) {
     // Six bytes precede the moves.
     for moves in [4_089, 4_090, 4_091, 8_185, 8_186, 8_187] {
-        let (input, output) = idle(rt.alloc(), moves)?;
+        let (input, output) = idle(&rt, moves);
         assert_trace(&rt, &input, &output);
     }
-    Ok(())
 }
 
 /// Never ends, and counts the bytes that it returned.
@@ -82,6 +77,6 @@ fn an_endless_input_is_too_long(rt: HostRuntime) {
     let mut written = Vec::new(rt.alloc());
     let ended = run(rt.alloc(), &mut reader, &mut written);
     let too_long = matches!(ended, Err(Fault::InputTooLong));
-    assert_eq!(rt; (too_long, written.is_empty()), (true, true));
+    assert_same!(rt; (too_long, written.is_empty()), (true, true));
     assert!(rt; reader.given > 1_048_576 && reader.given <= 1_048_576 + 4096);
 }

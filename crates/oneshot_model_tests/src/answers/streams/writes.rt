@@ -1,11 +1,10 @@
 //! Tests of writers that fail, are interrupted, or take few bytes at a time.
 
-use super::{FAILURES, Failures, INTERRUPTS, Reader, Writer, ending};
+use super::{FAILURES, Failures, INTERRUPTS, Reader, Writer, assert_whole, ending};
 use crate::answers::{SENT, SENT_TRACE, idle};
+use oneshot_asserts::{Asserts, assert_same};
 use oneshot_streams::answer::answer;
 use std::io::ErrorKind;
-use std::process::Abort;
-use std::test::Fail;
 
 /// As `SENT`, with the largest message. The line that shows this message has more than 64 bytes, so it does not
 /// wait with others.
@@ -29,12 +28,16 @@ const TRACES: &[(&str, &str); 2] = &[(SENT, SENT_TRACE), (LONG, LONG_TRACE)];
 #[test]
 fn short_reads_and_writes_move_all(rt: HostRuntime) {
     for &(input, trace) in TRACES {
-        let mut writer = Writer::new(rt.alloc(), 1, Failures::none());
-        let mut reader = Reader::new(input, Failures::none());
-        let ended = ending(&rt, &mut reader, &mut writer);
-        assert_eq!(rt; ended.as_str(), "0 ", "{input}");
-        assert_eq!(rt; writer.written.as_slice(), trace.as_bytes(), "{input}");
+        assert_moved(&rt, input, trace);
     }
+}
+
+/// Asserts that the input and its trace are moved a byte at a time.
+fn assert_moved(rt: &(impl Asserts + AllocGlobal), input: &'static str, trace: &str) {
+    let mut writer = Writer::new(rt.alloc(), 1, Failures::none());
+    let mut reader = Reader::new(input, Failures::none());
+    let ended = ending(rt, &mut reader, &mut writer);
+    assert_whole(rt, (input, 0, 0), &ended, &writer.written, trace);
 }
 
 #[test]
@@ -51,25 +54,31 @@ fn a_failed_write_ends_the_output(rt: HostRuntime) {
 
 /// Asserts that a write that fails after this many others is the writer's last call.
 fn assert_ends(
-    rt: &(impl Abort + AllocGlobal),
+    rt: &(impl Asserts + AllocGlobal),
     (input, trace): (&str, &str),
     before: usize,
     kind: ErrorKind,
 ) {
     let mut writer = Writer::new(rt.alloc(), 1, Failures::of(before, 1, kind));
     let ended = ending(rt, &mut input.as_bytes(), &mut writer);
+    let case = (input, kind, before);
+    assert_cut(rt, case, &ended, &writer, trace);
+    assert_same!(rt; (case, writer.written.len()), (case, before));
+}
+
+/// Fails unless the write that failed was the writer's last call, and what was written is a front of the trace.
+fn assert_cut(
+    rt: &impl Asserts,
+    case: (&str, ErrorKind, usize),
+    ended: &str,
+    writer: &Writer,
+    trace: &str,
+) {
+    let case = (case, writer.written.len());
     let begun = trace.as_bytes().starts_with(&writer.written);
-    let calls_after = writer.failures.after;
-    assert_eq!(rt;
-        (
-            input,
-            kind,
-            ended.as_str(),
-            writer.written.len(),
-            begun,
-            calls_after
-        ),
-        (input, kind, "1 write failed\n", before, true, 0)
+    assert_same!(rt;
+        (case, ended, begun, writer.failures.after),
+        (case, "1 write failed\n", true, 0)
     );
 }
 
@@ -86,7 +95,7 @@ fn an_interrupted_write_is_made_again(rt: HostRuntime) {
 
 /// Asserts that all is written where this many interrupts follow this many writes.
 fn assert_made_again(
-    rt: &(impl Abort + AllocGlobal),
+    rt: &(impl Asserts + AllocGlobal),
     (input, trace): (&str, &str),
     before: usize,
     count: usize,
@@ -94,43 +103,48 @@ fn assert_made_again(
     let interrupts = Failures::of(before, count, ErrorKind::Interrupted);
     let mut writer = Writer::new(rt.alloc(), 1, interrupts);
     let ended = ending(rt, &mut input.as_bytes(), &mut writer);
-    let written = writer.written.as_slice();
-    assert_eq!(rt;
-        (input, count, before, ended.as_str(), written),
-        (input, count, before, "0 ", trace.as_bytes())
-    );
+    let case = (input, count, before);
+    assert_whole(rt, case, &ended, &writer.written, trace);
 }
 
 #[test]
-fn a_long_output_ends_where_a_write_fails(rt: HostRuntime) -> Result<(), Fail> {
-    let (input, output) = idle(rt.alloc(), 3000)?;
+fn a_long_output_ends_where_a_write_fails(rt: HostRuntime) {
+    let (input, output) = idle(&rt, 3000);
     for before in 0..100usize {
-        let failures = Failures::of(before, 1, ErrorKind::StorageFull);
-        let mut writer = Writer::new(rt.alloc(), 1000, failures);
-        let ended = ending(&rt, &mut input.as_bytes(), &mut writer);
-        if ended.as_str() == "0 " {
-            // The call that fails would be one after the last.
-            assert_eq!(rt;
-                (writer.failures.count, writer.written.as_slice()),
-                (1, output.as_bytes())
-            );
-            return Ok(());
+        if assert_cut_or_whole(&rt, &input, &output, before) {
+            return;
         }
-        let begun = output.as_bytes().starts_with(&writer.written);
-        let calls_after = writer.failures.after;
-        assert_eq!(rt;
-            (before, ended.as_str(), begun, calls_after),
-            (before, "1 write failed\n", true, 0)
-        );
     }
-    Err(Fail::from("100 calls were too few"))
+    panic!(rt; "100 calls were too few")
+}
+
+/// Asserts that the output ends at a write that fails after this many others, unless it is whole, because that write was
+/// not made. Returns whether it is whole.
+fn assert_cut_or_whole(
+    rt: &(impl Asserts + AllocGlobal),
+    input: &str,
+    output: &str,
+    before: usize,
+) -> bool {
+    let kind = ErrorKind::StorageFull;
+    let mut writer = Writer::new(rt.alloc(), 1000, Failures::of(before, 1, kind));
+    let ended = ending(rt, &mut input.as_bytes(), &mut writer);
+    if ended.as_str() == "0 " {
+        // The call that fails would be one after the last.
+        let written = writer.written.as_slice();
+        assert_same!(rt; (writer.failures.count, written), (1, output.as_bytes()));
+        return true;
+    }
+    let case = ("a long input", kind, before);
+    assert_cut(rt, case, &ended, &writer, output);
+    false
 }
 
 #[test]
 fn a_writer_that_takes_nothing_has_failed(rt: HostRuntime) {
     let mut writer = Writer::new(rt.alloc(), 0, Failures::none());
     let ended = ending(&rt, &mut SENT.as_bytes(), &mut writer);
-    assert_eq!(rt; ended.as_str(), "1 write failed\n");
+    assert_same!(rt; ended.as_str(), "1 write failed\n");
 }
 
 #[test]
@@ -139,7 +153,7 @@ fn where_a_fault_cannot_be_told_the_status_tells(rt: HostRuntime) {
     let mut errors = Writer::new(rt.alloc(), 100, broken);
     let mut written = Vec::new(rt.alloc());
     let status = answer(rt.alloc(), &mut &b"Q"[..], &mut written, &mut errors);
-    assert_eq!(rt;
+    assert_same!(rt;
         (status, written.is_empty(), errors.written.is_empty()),
         (2, true, true)
     );
