@@ -5,13 +5,13 @@ use oneshot_loops::command::fault::Fault;
 use oneshot_loops::command::{Command, USAGE, parse_command};
 use oneshot_loops::measure::measure;
 use std::alloc::AllocError;
-use std::env;
 use std::io::ErrorKind;
 use std::process::ExitCode;
 use std::random::RandomSource;
 use std::rt::{Clock, Env};
 use std::sync::Wait;
 use std::thread::Threads;
+use std::{env, io};
 
 fn main(rt: HostRuntime) -> ExitCode {
     match answer(&rt) {
@@ -29,9 +29,17 @@ fn answer<R: Env + Print + AllocGlobal + Clock + RandomSource + Threads + Wait +
     rt: &R,
 ) -> Result<(), Fault> {
     let words = arguments(rt)?;
-    let Some(command) = parse_command(words.as_slice()) else {
-        return Err(Fault::BadArguments);
-    };
+    match parse_command(words.as_slice()) {
+        Some(command) => perform(rt, command),
+        None => Err(Fault::BadArguments),
+    }
+}
+
+/// Performs `command`, and prints its result.
+fn perform<R: Print + AllocGlobal + Clock + RandomSource + Threads + Wait + Sync>(
+    rt: &R,
+    command: Command,
+) -> Result<(), Fault> {
     let printed = match command {
         Command::Usage => println!(rt; "{USAGE}"),
         Command::Measure {
@@ -43,15 +51,23 @@ fn answer<R: Env + Print + AllocGlobal + Clock + RandomSource + Threads + Wait +
             println!(rt; "{channel} {kind}: {count} rounds in {nanoseconds} ns")
         }
     };
-    printed.map_err(|_| Fault::WriteFailed)
+    match printed {
+        Ok(()) => Ok(()),
+        Err(_) => Err(Fault::WriteFailed),
+    }
 }
 
 /// The program's arguments, without its own name.
 fn arguments<R: Env + AllocGlobal>(rt: &R) -> Result<Vec<String>, Fault> {
-    let mut words = env::args(rt).map_err(|error| match error.kind() {
-        ErrorKind::OutOfMemory => Fault::OutOfMemory(AllocError),
-        _ => Fault::BadArguments,
-    })?;
+    let mut words = env::args(rt).map_err(arguments_fault)?;
     let _name = words.next();
     Ok(words.collect(rt.alloc())?)
+}
+
+/// Returns `error`, why the arguments could not be read, as a fault.
+fn arguments_fault(error: io::Error) -> Fault {
+    match error.kind() {
+        ErrorKind::OutOfMemory => Fault::OutOfMemory(AllocError),
+        _ => Fault::BadArguments,
+    }
 }

@@ -7,11 +7,11 @@ use futures::Future;
 use futures::executor::block_on;
 use futures::task::{Context, Poll};
 use futures::test::MockTask;
+use oneshot_asserts::{Asserts, assert_same};
 use oneshot_channel::{AsyncReceiver, RecvError, TryRecvError, async_channel};
 use std::alloc::Global;
 use std::io;
-use std::test::Fail;
-use std::thread::{Threads, join, sleep, spawn};
+use std::thread::{Threads, sleep, spawn};
 use std::time::Duration;
 
 /// Starts a thread that sends `number`. Only the caller that awaits it needs a runtime that waits.
@@ -33,45 +33,54 @@ fn poll_once<T: Drop>(
 }
 
 #[test]
-fn a_thread_is_awaited(rt: HostRuntime) -> Result<(), Fail> {
-    let receiver = start(&rt, rt.alloc(), 21)?;
-    assert_eq!(rt; block_on(&rt, receiver)?, Ok(21));
-    Ok(())
+fn a_thread_is_awaited(rt: HostRuntime) {
+    let receiver = start(&rt, rt.alloc(), 21).expect(&rt, "a thread");
+    let received = block_on(&rt, receiver).expect(&rt, "an executor");
+    assert_same!(rt; received, Ok(21));
 }
 
 #[test]
-fn a_message_is_awaited(rt: HostRuntime) -> Result<(), Fail> {
-    let (sender, receiver) = async_channel((), rt.alloc())?;
-    let (received, sent) = join(
-        &rt,
-        || block_on(&rt, receiver),
-        || {
-            sleep(&rt, Duration::from_millis(20));
-            sender.send(19u64).is_ok()
-        },
-    );
-    assert_eq!(rt; (received?, sent), (Ok(19), true));
-    Ok(())
+fn a_message_is_awaited(rt: HostRuntime) {
+    let (sender, receiver) = async_channel((), rt.alloc()).expect(&rt, "memory");
+    let sending = spawn(&rt, move || {
+        sleep(&rt, Duration::from_millis(20));
+        sender.send(19u64).is_ok()
+    });
+    let sending = sending.expect(&rt, "a thread");
+    let received = block_on(&rt, receiver).expect(&rt, "an executor");
+    assert_same!(rt; (received, sending.join(&rt)), (Ok(19), true));
 }
 
 #[test]
-fn a_message_is_polled_by_hand(rt: HostRuntime) -> Result<(), Fail> {
-    let task = MockTask::new(&rt)?;
-    let (sender, mut receiver) = async_channel((), rt.alloc())?;
-    let polled = task.poll(&mut receiver);
-    let early = (polled, task.poll(&mut receiver), receiver.try_recv());
-    let before = task.is_woken();
+fn a_message_is_polled_by_hand(rt: HostRuntime) {
+    let task = MockTask::new(&rt).expect(&rt, "a task");
+    let (sender, mut receiver) = async_channel((), rt.alloc()).expect(&rt, "memory");
+    assert_pending(&rt, &task, &mut receiver);
     let sent = (sender.send(19u64).is_ok(), task.is_woken());
-    let empty = (Poll::Pending, Poll::Pending, Err(TryRecvError::Empty));
-    assert_eq!(rt; (early, before, sent), (empty, false, (true, true)));
-    let late = (task.poll(&mut receiver), task.is_woken());
-    let again = (task.poll(&mut receiver), task.is_woken());
-    assert_eq!(rt;
-        (late, again),
+    assert_same!(rt; sent, (true, true));
+    assert_ready(&rt, &task, &mut receiver);
+}
+
+/// Asserts that the message is not there yet, and that the task is not woken.
+fn assert_pending(rt: &impl Asserts, task: &MockTask, receiver: &mut AsyncReceiver<u64, ()>) {
+    let polled = (task.poll(receiver), task.poll(receiver));
+    let tried = (receiver.try_recv(), task.is_woken());
+    let empty = Err(TryRecvError::Empty);
+    assert_same!(rt;
+        (polled, tried),
+        ((Poll::Pending, Poll::Pending), (empty, false))
+    );
+}
+
+/// Asserts that a poll returns the message and the next one an error, and that neither wakes the task.
+fn assert_ready(rt: &impl Asserts, task: &MockTask, receiver: &mut AsyncReceiver<u64, ()>) {
+    let polled = (task.poll(receiver), task.is_woken());
+    let again = (task.poll(receiver), task.is_woken());
+    assert_same!(rt;
+        (polled, again),
         (
             (Poll::Ready(Ok(19)), false),
             (Poll::Ready(Err(RecvError)), false)
         )
     );
-    Ok(())
 }

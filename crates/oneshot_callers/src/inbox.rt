@@ -3,9 +3,9 @@
 ghost use Rattle.std.specs.Prelude.{◌≡◌, true, IfOk, IsNone};
 ghost use Rattle.oneshot_channel.specs.Ends.{IsClosed, IsOpen};
 
+use oneshot_asserts::assert_same;
 use oneshot_channel::{Receiver, Sender, TryRecvError, channel};
 use std::alloc::{AllocError, Global};
-use std::test::Fail;
 
 /// A receiver that is tried now and then, and whether its message came or can never come.
 #[derive(Drop)]
@@ -49,15 +49,14 @@ impl<T: Drop> Inbox<T> {
 }
 
 #[test]
-fn an_inbox_gives_its_message_once(rt: HostRuntime) -> Result<(), Fail> {
-    let (sender, mut inbox) = Inbox::new(rt.alloc())?;
+fn an_inbox_gives_its_message_once(rt: HostRuntime) {
+    let (sender, mut inbox) = Inbox::new(rt.alloc()).expect(&rt, "memory");
     let early = (inbox.try_once(), inbox.done);
     let sent = sender.send(19u64).is_ok();
     let late = (inbox.try_once(), inbox.done);
     let again = inbox.try_once();
-    assert_eq!(rt;
+    assert_same!(rt;
         (early, sent, late, again),
         ((None, false), true, (Some(19), true), None)
     );
-    Ok(())
 }

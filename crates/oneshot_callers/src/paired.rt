@@ -3,12 +3,12 @@
 ghost use Rattle.std.specs.Prelude.{◌≡◌, ◌<◌, None, Some, Err, IfOk, IfSome};
 ghost use Rattle.oneshot_channel.specs.TryRecvError.TheVariants as Tried;
 
+use oneshot_asserts::assert_same;
 use oneshot_channel::laws::an_open_future_took_none;
 use oneshot_channel::{
     AsyncReceiver, Promise, Receiver, Sender, TryRecvError, async_channel, async_channel_for,
     channel_for,
 };
-use std::test::Fail;
 
 /// Promises an index below this length.
 #[derive(Drop)]
@@ -55,23 +55,25 @@ fn tried<T: Drop, Rt: Drop, P: Promise<T>>(
 }
 
 #[test]
-fn both_ends_are_about_one_length(rt: HostRuntime) -> Result<(), Fail> {
-    let (sender, mut receiver) = channel_for((), rt.alloc(), &Below(3))?;
+fn both_ends_are_about_one_length(rt: HostRuntime) {
+    let Ok((sender, mut receiver)) = channel_for((), rt.alloc(), &Below(3)) else {
+        panic!(rt; "memory")
+    };
     let received = left_by(sender, &mut receiver);
-    let (sender, mut future) = async_channel_for((), rt.alloc(), &Below(3))?;
+    let Ok((sender, mut future)) = async_channel_for((), rt.alloc(), &Below(3)) else {
+        panic!(rt; "memory")
+    };
     let taken = left_to_a_future(sender, &mut future);
-    assert_eq!(rt; (received, taken), (None, None));
-    Ok(())
+    assert_same!(rt; (received, taken), (None, None));
 }
 
 #[test]
-fn a_future_takes_its_message_once(rt: HostRuntime) -> Result<(), Fail> {
-    let (sender, mut future) = async_channel::<u8, ()>((), rt.alloc())?;
+fn a_future_takes_its_message_once(rt: HostRuntime) {
+    let (sender, mut future) = async_channel::<u8, ()>((), rt.alloc()).expect(&rt, "memory");
     let early = tried(&mut future);
     let sent = sender.send(7).is_ok();
     let late = (tried(&mut future), tried(&mut future));
     let empty = Err(TryRecvError::Empty);
     let closed = Err(TryRecvError::Disconnected);
-    assert_eq!(rt; (early, sent, late), (empty, true, (Ok(7), closed)));
-    Ok(())
+    assert_same!(rt; (early, sent, late), (empty, true, (Ok(7), closed)));
 }

@@ -2,8 +2,8 @@
 
 ghost use Rattle.std.specs.Prelude.{◌<◌, IfSome};
 
+use oneshot_asserts::assert_same;
 use oneshot_channel::{Promise, Receiver, TryRecvError, channel_for};
-use std::test::Fail;
 
 /// Promises an index below this length.
 #[derive(Drop)]
@@ -21,12 +21,13 @@ fn index_of<Rt: Drop>(receiver: &mut Receiver<usize, Rt, Below>) -> Option<usize
 }
 
 #[test]
-fn an_index_is_below_its_length(rt: HostRuntime) -> Result<(), Fail> {
-    let (sender, mut receiver) = channel_for((), rt.alloc(), &Below(3))?;
+fn an_index_is_below_its_length(rt: HostRuntime) {
+    let Ok((sender, mut receiver)) = channel_for((), rt.alloc(), &Below(3)) else {
+        panic!(rt; "memory")
+    };
     let early = index_of(&mut receiver);
     let sent = sender.send_kept(2).is_ok();
     let late = (index_of(&mut receiver), receiver.try_recv());
     let closed = Err(TryRecvError::Disconnected);
-    assert_eq!(rt; (early, sent, late), (None, true, (Some(2), closed)));
-    Ok(())
+    assert_same!(rt; (early, sent, late), (None, true, (Some(2), closed)));
 }

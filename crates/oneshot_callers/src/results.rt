@@ -4,11 +4,11 @@ ghost use Rattle.std.specs.Prelude.{◌≡◌, ◌≢◌, None, Ok, Err, IsErr, 
 ghost use Rattle.oneshot_channel.specs.Ends.{IsClosed, IsOpen};
 ghost use Rattle.oneshot_channel.specs.TryRecvError.TheVariants as Tried;
 
+use oneshot_asserts::{Asserts, assert_same};
 use oneshot_channel::{
     RawReceiver, Receiver, RecvError, RecvTimeoutError, Sender, TryRecvError, channel,
 };
 use std::sync::Wait;
-use std::test::Fail;
 use std::time::{Clock, Duration, Instant};
 
 /// Sends, and keeps the message if the receiver is gone.
@@ -81,77 +81,79 @@ fn opaque_received_before<T: Drop, Rt: Wait + Clock + Drop>(
     Receiver::from_raw(raw).recv()
 }
 
+/// The ends of a channel whose receiver waits by this runtime.
+fn opened<R: Asserts + AllocGlobal>(rt: &R) -> (Sender<u64>, Receiver<u64, &R>) {
+    channel(rt, rt.alloc()).expect(rt, "memory")
+}
+
+/// A receiver whose message, 19, was sent.
+fn receiver_of_19<R: Asserts + AllocGlobal>(rt: &R) -> Receiver<u64, &R> {
+    let (sender, receiver) = opened(rt);
+    assert!(rt; sender.send(19).is_ok());
+    receiver
+}
+
 #[test]
-fn a_message_is_kept_if_the_receiver_is_gone(rt: HostRuntime) -> Result<(), Fail> {
-    let (sender, receiver) = channel(&rt, rt.alloc())?;
+fn a_message_is_kept_if_the_receiver_is_gone(rt: HostRuntime) {
+    let (sender, receiver) = opened(&rt);
     drop(receiver);
-    assert_eq!(rt; send_or_keep(sender, 19), Some(19));
-    Ok(())
+    assert_same!(rt; send_or_keep(sender, 19), Some(19));
 }
 
 #[test]
-fn a_message_that_was_sent_is_not_kept(rt: HostRuntime) -> Result<(), Fail> {
-    let (sender, receiver) = channel(&rt, rt.alloc())?;
+fn a_message_that_was_sent_is_not_kept(rt: HostRuntime) {
+    let (sender, receiver) = opened(&rt);
     let kept = send_or_keep(sender, 19);
-    assert_eq!(rt; (kept, receiver.recv()), (None, Ok(19)));
-    Ok(())
+    assert_same!(rt; (kept, receiver.recv()), (None, Ok(19)));
 }
 
 #[test]
-fn a_poll_is_made_again_while_the_channel_is_open(rt: HostRuntime) -> Result<(), Fail> {
-    let (sender, mut receiver) = channel::<u64, ()>((), rt.alloc())?;
+fn a_poll_is_made_again_while_the_channel_is_open(rt: HostRuntime) {
+    let (sender, mut receiver) = channel::<u64, ()>((), rt.alloc()).expect(&rt, "memory");
     let early = poll(&mut receiver);
     let sent = sender.send(19).is_ok();
     let late = (poll(&mut receiver), poll(&mut receiver));
-    assert_eq!(rt;
+    assert_same!(rt;
         (early, sent, late),
         (Ok(None), true, (Ok(Some(19)), Err(RecvError)))
     );
-    Ok(())
 }
 
 #[test]
-fn no_second_message_comes(rt: HostRuntime) -> Result<(), Fail> {
-    let (sender, mut receiver) = channel(&rt, rt.alloc())?;
-    let sent = sender.send(19u64).is_ok();
+fn no_second_message_comes(rt: HostRuntime) {
+    let mut receiver = receiver_of_19(&rt);
     let closed = Err(TryRecvError::Disconnected);
-    assert_eq!(rt; (sent, twice(&mut receiver)), (true, (Ok(19), closed)));
-    assert_eq!(rt; receiver.recv(), Err(RecvError));
-    Ok(())
+    assert_same!(rt; twice(&mut receiver), (Ok(19), closed));
+    assert_same!(rt; receiver.recv(), Err(RecvError));
 }
 
 #[test]
-fn a_receiver_blocks_on_after_its_deadline(rt: HostRuntime) -> Result<(), Fail> {
-    let (sender, receiver) = channel(&rt, rt.alloc())?;
-    let now = Instant::now(&rt)?;
+fn a_receiver_blocks_on_after_its_deadline(rt: HostRuntime) {
+    let now = Instant::now(&rt).expect(&rt, "a clock");
+    let (sender, receiver) = opened(&rt);
     let mut sender = Some(sender);
     let received = keep_waiting(receiver, now, || {
         if let Some(sender) = sender.take() {
             // `keep_waiting`, which calls this closure, still has the receiver, so the message is not refused.
-            let _ = sender.send(19u64);
+            let _ = sender.send(19);
         }
     });
-    assert_eq!(rt; received, Ok(19));
-    Ok(())
+    assert_same!(rt; received, Ok(19));
 }
 
 #[test]
-fn a_receiver_that_received_ends_with_an_error(rt: HostRuntime) -> Result<(), Fail> {
-    let (sender, mut receiver) = channel(&rt, rt.alloc())?;
-    let sent = sender.send(19u64).is_ok();
+fn a_receiver_that_received_ends_with_an_error(rt: HostRuntime) {
+    let mut receiver = receiver_of_19(&rt);
     let first = receiver.recv_timeout(Duration::from_secs(60));
-    assert_eq!(rt; (sent, first), (true, Ok(19)));
+    assert_same!(rt; first, Ok(19));
     if first.is_ok() {
-        assert_eq!(rt; received_before(receiver), Err(RecvError));
+        assert_same!(rt; received_before(receiver), Err(RecvError));
     }
-    Ok(())
 }
 
 #[test]
-fn an_opaque_receiver_that_received_ends_with_an_error(rt: HostRuntime) -> Result<(), Fail> {
-    let (sender, mut receiver) = channel(&rt, rt.alloc())?;
-    let sent = sender.send(19u64).is_ok();
-    assert_eq!(rt; (sent, receiver.recv_ref()), (true, Ok(19)));
-    assert_eq!(rt; opaque_received_before(receiver.into_raw()), Err(RecvError));
-    Ok(())
+fn an_opaque_receiver_that_received_ends_with_an_error(rt: HostRuntime) {
+    let mut receiver = receiver_of_19(&rt);
+    assert_same!(rt; receiver.recv_ref(), Ok(19));
+    assert_same!(rt; opaque_received_before(receiver.into_raw()), Err(RecvError));
 }

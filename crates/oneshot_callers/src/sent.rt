@@ -2,9 +2,9 @@
 
 ghost use Rattle.std.specs.Prelude.{◌≡◌, IfOk};
 
+use oneshot_asserts::assert_same;
 use oneshot_channel::{Promise, Receiver, RecvError, Sender, channel_for};
 use std::sync::Wait;
-use std::test::Fail;
 use std::thread::join;
 use std::time::Clock;
 
@@ -31,9 +31,10 @@ fn send_it(sender: Sender<u64, Exactly>, message: u64) -> bool
 }
 
 #[test]
-fn the_message_that_comes_back_is_the_one_that_was_sent(rt: HostRuntime) -> Result<(), Fail> {
-    let (sender, receiver) = channel_for(&rt, rt.alloc(), &Exactly(19))?;
+fn the_message_that_comes_back_is_the_one_that_was_sent(rt: HostRuntime) {
+    let Ok((sender, receiver)) = channel_for(&rt, rt.alloc(), &Exactly(19)) else {
+        panic!(rt; "memory")
+    };
     let (message, sent) = join(&rt, || received(receiver), || send_it(sender, 19));
-    assert_eq!(rt; (message, sent), (Ok(19), true));
-    Ok(())
+    assert_same!(rt; (message, sent), (Ok(19), true));
 }

@@ -3,9 +3,9 @@
 ghost use Rattle.std.specs.Prelude.{◌≡◌, None, Some, Err, IfOk};
 ghost use Rattle.oneshot_channel.specs.TryRecvError.TheVariants as Tried;
 
+use oneshot_asserts::assert_same;
 use oneshot_channel::laws::an_open_receiver_took_none;
 use oneshot_channel::{Promise, Receiver, TryRecvError, channel};
-use std::test::Fail;
 
 /// Receives if the message is there, whatever was done with the receiver before. A message that comes is the one
 /// that the receiver took. After `Empty` the receiver has taken none.
@@ -21,13 +21,12 @@ fn tried<T: Drop, Rt: Drop, P: Promise<T>>(
 }
 
 #[test]
-fn a_message_is_taken_once(rt: HostRuntime) -> Result<(), Fail> {
-    let (sender, mut receiver) = channel::<u8, ()>((), rt.alloc())?;
+fn a_message_is_taken_once(rt: HostRuntime) {
+    let (sender, mut receiver) = channel::<u8, ()>((), rt.alloc()).expect(&rt, "memory");
     let early = tried(&mut receiver);
     let sent = sender.send(7).is_ok();
     let late = (tried(&mut receiver), tried(&mut receiver));
     let empty = Err(TryRecvError::Empty);
     let closed = Err(TryRecvError::Disconnected);
-    assert_eq!(rt; (early, sent, late), (empty, true, (Ok(7), closed)));
-    Ok(())
+    assert_same!(rt; (early, sent, late), (empty, true, (Ok(7), closed)));
 }

@@ -6,9 +6,9 @@ ghost use Rattle.oneshot_channel.specs.Called.{as_receiver, ReceiverCalled};
 ghost use Rattle.oneshot_channel.specs.Ends.{UnnamedWaker};
 ghost use Rattle.oneshot_channel.specs.ReceiverStart.TheVariants.{TryRecv};
 
+use oneshot_asserts::assert_same;
 use oneshot_channel::laws::calls_add_up;
 use oneshot_channel::{Receiver, TryRecvError, channel};
-use std::test::Fail;
 
 /// Tries twice to receive, with a receiver whose log is empty.
 fn tried_twice<T: Send + Drop>(
@@ -25,14 +25,17 @@ fn tried_twice<T: Send + Drop>(
 }
 
 #[test]
-fn nothing_is_there_and_then_nobody(rt: HostRuntime) -> Result<(), Fail> {
-    let (sender, mut receiver) = channel::<u8, ()>((), rt.alloc())?;
+fn nothing_is_there_and_then_nobody(rt: HostRuntime) {
+    let Ok((sender, mut receiver)) = channel::<u8, ()>((), rt.alloc()) else {
+        panic!(rt; "memory")
+    };
     let kept = tried_twice(&mut receiver);
     drop(sender);
-    let (_, mut receiver) = channel::<u8, ()>((), rt.alloc())?;
+    let Ok((_, mut receiver)) = channel::<u8, ()>((), rt.alloc()) else {
+        panic!(rt; "memory")
+    };
     let gone = tried_twice(&mut receiver);
     let empty = Err(TryRecvError::Empty);
     let closed = Err(TryRecvError::Disconnected);
-    assert_eq!(rt; (kept, gone), ((empty, empty), (closed, closed)));
-    Ok(())
+    assert_same!(rt; (kept, gone), ((empty, empty), (closed, closed)));
 }

@@ -4,12 +4,12 @@ ghost use Rattle.std.specs.Prelude.{◌≡◌, ◌≤◌, IfOk, IfSome};
 
 use futures::executor::block_on;
 use futures::future::{Either, join, select};
+use oneshot_asserts::assert_same;
 use oneshot_channel::reply::{Answer, Request, Ticket, request};
-use std::alloc::{AllocError, AllocGlobal};
+use std::alloc::AllocGlobal;
 use std::io;
 use std::random::RandomSource;
 use std::sync::Wait;
-use std::test::Fail;
 
 /// How many seats were wanted, and how many are given.
 #[derive(Drop)]
@@ -92,21 +92,23 @@ where
 }
 
 #[test]
-fn both_replies_come(rt: HostRuntime) -> Result<(), Fail> {
-    let (few, first) = request((), rt.alloc(), 7u32).map_err(|_| AllocError)?;
-    let (many, second) = request((), rt.alloc(), 11u32).map_err(|_| AllocError)?;
+fn both_replies_come(rt: HostRuntime) {
+    let (few, first) = request((), rt.alloc(), 7u32).expect(&rt, "memory");
+    let (many, second) = request((), rt.alloc(), 11u32).expect(&rt, "memory");
     let served = (serve(many), serve(few));
-    let given = both_replies(&rt, first, second)?;
-    assert_eq!(rt; (served, given), ((true, true), Some((7, 10))));
-    Ok(())
+    let given = both_replies(&rt, first, second).expect(&rt, "an executor");
+    assert_same!(rt; (served, given), ((true, true), Some((7, 10))));
 }
 
 #[test]
-fn one_reply_comes_first(rt: HostRuntime) -> Result<(), Fail> {
-    let (unserved, first) = request((), rt.alloc(), 7u32).map_err(|_| AllocError)?;
-    let (served, second) = request((), rt.alloc(), 7u32).map_err(|_| AllocError)?;
+fn one_reply_comes_first(rt: HostRuntime) {
+    let Ok((unserved, first)) = request((), rt.alloc(), 7u32) else {
+        panic!(rt; "memory")
+    };
+    let Ok((served, second)) = request((), rt.alloc(), 7u32) else {
+        panic!(rt; "memory")
+    };
     let in_time = serve(served);
-    let given = first_reply(&rt, first, second)?;
-    assert_eq!(rt; (in_time, given, serve(unserved)), (true, Some(7), false));
-    Ok(())
+    let given = first_reply(&rt, first, second).expect(&rt, "an executor");
+    assert_same!(rt; (in_time, given, serve(unserved)), (true, Some(7), false));
 }

@@ -8,12 +8,12 @@ ghost use Rattle.oneshot_channel.specs.Polls.{is_registered};
 use futures::executor::block_on;
 use futures::task::Poll;
 use futures::test::MockTask;
+use oneshot_asserts::assert_same;
 use oneshot_channel::{AsyncReceiver, RecvError, TryRecvError, async_channel};
 use std::io;
 use std::random::RandomSource;
 use std::sync::Wait;
-use std::test::Fail;
-use std::thread::{join, sleep};
+use std::thread::{sleep, spawn};
 use std::time::Duration;
 
 /// Returns the message, or an error if none can come. `None`: try or poll again; a waiting task still waits.
@@ -42,41 +42,33 @@ fn at_once_or_awaited<R: Wait + RandomSource + AllocGlobal, T: Drop, Rt: Drop>(
 }
 
 #[test]
-fn a_message_that_is_there_is_received_at_once(rt: HostRuntime) -> Result<(), Fail> {
-    let (sender, receiver) = async_channel(&rt, rt.alloc())?;
+fn a_message_that_is_there_is_received_at_once(rt: HostRuntime) {
+    let (sender, receiver) = async_channel(&rt, rt.alloc()).expect(&rt, "memory");
     let sent = sender.send(19u64).is_ok();
-    let received = at_once_or_awaited(&rt, receiver)?;
-    assert_eq!(rt; (sent, received), (true, Ok(19)));
-    Ok(())
+    let received = at_once_or_awaited(&rt, receiver).expect(&rt, "an executor");
+    assert_same!(rt; (sent, received), (true, Ok(19)));
 }
 
 #[test]
-fn a_message_that_is_not_there_is_awaited(rt: HostRuntime) -> Result<(), Fail> {
-    let (sender, receiver) = async_channel(&rt, rt.alloc())?;
-    let (received, sent) = join(
-        &rt,
-        || at_once_or_awaited(&rt, receiver),
-        || {
-            sleep(&rt, Duration::from_millis(20));
-            sender.send(20u64).is_ok()
-        },
-    );
-    assert_eq!(rt; (received?, sent), (Ok(20), true));
-    Ok(())
+fn a_message_that_is_not_there_is_awaited(rt: HostRuntime) {
+    let (sender, receiver) = async_channel(&rt, rt.alloc()).expect(&rt, "memory");
+    let sending = spawn(&rt, move || {
+        sleep(&rt, Duration::from_millis(20));
+        sender.send(20u64).is_ok()
+    });
+    let sending = sending.expect(&rt, "a thread");
+    let received = at_once_or_awaited(&rt, receiver).expect(&rt, "an executor");
+    assert_same!(rt; (received, sending.join(&rt)), (Ok(20), true));
 }
 
 #[test]
-fn a_try_leaves_the_task_to_be_woken(rt: HostRuntime) -> Result<(), Fail> {
-    let task = MockTask::new(&rt)?;
-    let (sender, mut receiver) = async_channel(&rt, rt.alloc())?;
+fn a_try_leaves_the_task_to_be_woken(rt: HostRuntime) {
+    let task = MockTask::new(&rt).expect(&rt, "a task");
+    let (sender, mut receiver) = async_channel(&rt, rt.alloc()).expect(&rt, "memory");
     let early = (task.poll(&mut receiver), try_once(&mut receiver));
-    let before = task.is_woken();
+    assert_same!(rt; (early, task.is_woken()), ((Poll::Pending, None), false));
     let sent = (sender.send(19u64).is_ok(), task.is_woken());
-    assert_eq!(rt;
-        (early, before, sent),
-        ((Poll::Pending, None), false, (true, true))
-    );
+    assert_same!(rt; sent, (true, true));
     let late = (try_once(&mut receiver), try_once(&mut receiver));
-    assert_eq!(rt; late, (Some(Ok(19)), Some(Err(RecvError))));
-    Ok(())
+    assert_same!(rt; late, (Some(Ok(19)), Some(Err(RecvError))));
 }

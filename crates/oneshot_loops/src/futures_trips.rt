@@ -5,7 +5,7 @@ ghost use Rattle.std.specs.Prelude.{◌≡◌, IfOk, vec_len};
 use crate::fault::Fault;
 use crate::queues::{awaited, queue};
 use crate::request;
-use crate::round_trip::BATCH;
+use crate::round_trip::{BATCH, join_halves, put_ends};
 use crate::tally::Tally;
 use futures::channel::oneshot::{Receiver, Sender, channel};
 use futures::task::Queue;
@@ -13,7 +13,7 @@ use std::alloc::{AllocGlobal, Global};
 use std::mem::size_of;
 use std::random::RandomSource;
 use std::sync::Wait;
-use std::thread::{Threads, join};
+use std::thread::Threads;
 
 /// A request of this round trip.
 pub type Request = request::Request<Sender<()>>;
@@ -97,8 +97,7 @@ fn channels(
     for _opened in 0..count {
         let (sender, receiver) = channel::<Request>(alloc)?;
         tally.made(size_of::<Request>());
-        senders.push(sender)?;
-        receivers.push(receiver)?;
+        put_ends(sender, receiver, &mut senders, &mut receivers)?;
     }
     Ok((senders, receivers))
 }
@@ -113,14 +112,12 @@ fn batch<R: Threads + Wait + Sync + RandomSource + AllocGlobal>(
     ensures { IfOk result (λ made. made ≡ count) }
 {
     let (senders, receivers) = channels(alloc, count, tally)?;
-    let (asked, served) = join(
+    let (replies, _) = join_halves(
         rt,
         move || ask_all(rt, alloc, senders),
         move || serve_all(rt, receivers),
-    );
-    let (replies, asked) = asked?;
-    tally.add(asked);
-    tally.add(served?);
+        tally,
+    )?;
     Ok(replies)
 }
 

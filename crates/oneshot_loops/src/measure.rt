@@ -45,5 +45,8 @@ pub fn timed<C: Clock, F: FnOnce() -> Result<(), Fault>>(
         return Err(Fault::ClockFailed);
     };
     work()?;
-    start.elapsed(clock).map_err(|_| Fault::ClockFailed)
+    match start.elapsed(clock) {
+        Ok(time) => Ok(time),
+        Err(_) => Err(Fault::ClockFailed),
+    }
 }

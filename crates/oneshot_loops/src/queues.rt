@@ -23,8 +23,11 @@ pub fn awaited<T, E: Drop, R: Wait, F: Future<Output = Result<T, E>>>(
 ) -> Result<T, Fault>
     requires { F.can_poll receiver }
 {
-    let received = block_on_queue(rt, queue, receiver).map_err(task_fault)?;
-    received.map_err(|_| Fault::MessageLost)
+    match block_on_queue(rt, queue, receiver) {
+        Ok(Ok(message)) => Ok(message),
+        Ok(Err(_)) => Err(Fault::MessageLost),
+        Err(error) => Err(task_fault(error)),
+    }
 }
 
 /// Returns `error`, why a queue or a task could not be made, as a fault.

@@ -1,12 +1,12 @@
 //! Round trips between two threads, with a new channel for each request and for each reply.
 
-ghost use Rattle.std.specs.Prelude.{◌≡◌, IfOk, vec_len};
+ghost use Rattle.std.specs.Prelude.{◌≡◌, ◌+◌, Ok, IfOk, vec_len};
 
 use crate::fault::Fault;
 use crate::request;
 use crate::tally::Tally;
 use oneshot_channel::{Receiver, Sender, channel};
-use std::alloc::Global;
+use std::alloc::{AllocError, Global};
 use std::mem::size_of;
 use std::sync::Wait;
 use std::thread::{Threads, join};
@@ -77,6 +77,20 @@ fn serve_all<Rt: Wait + Clock + Drop>(all: Vec<Receiver<Request, Rt>>) -> Result
     Ok(tally)
 }
 
+/// Puts both ends of a channel into their lists. `Err`: out of memory.
+pub(crate) fn put_ends<S: Drop, R: Drop>(
+    sender: S,
+    receiver: R,
+    senders: &mut Vec<S>,
+    receivers: &mut Vec<R>,
+) -> Result<(), AllocError>
+    ensures { IfOk result (λ _. vec_len senders.new ≡ vec_len senders.old + 1) }
+{
+    senders.push(sender)?;
+    receivers.push(receiver)?;
+    Ok(())
+}
+
 /// Makes a channel for each request of a batch.
 fn channels<'r, R>(
     rt: &'r R,
@@ -91,10 +105,32 @@ fn channels<'r, R>(
     for _opened in 0..count {
         let (sender, receiver) = channel(rt, alloc)?;
         tally.made(size_of::<Request>());
-        senders.push(sender)?;
-        receivers.push(receiver)?;
+        put_ends(sender, receiver, &mut senders, &mut receivers)?;
     }
     Ok((senders, receivers))
+}
+
+/// Runs both halves of a batch, `asker` on a new thread, and adds what they counted to `tally`.
+///
+/// `Ok`: what `asker` returned, whose tally is in `tally` already. `Err`: the fault of a half.
+pub(crate) fn join_halves<R: Threads, A, S>(
+    rt: &R,
+    asker: A,
+    server: S,
+    tally: &mut Tally,
+) -> Result<(u64, Tally), Fault>
+where
+    A: FnOnce() -> Result<(u64, Tally), Fault> + Send,
+    S: FnOnce() -> Result<Tally, Fault>,
+    requires asks { A.pre asker }
+    requires serves { S.pre server }
+    ensures { IfOk result (λ asked. A.post asker (Ok asked)) }
+{
+    let (asked, served) = join(rt, asker, server);
+    let asked = asked?;
+    tally.add(asked.1);
+    tally.add(served?);
+    Ok(asked)
 }
 
 /// Makes `count` round trips with a thread started for them, and returns how many.
@@ -108,14 +144,12 @@ fn batch<R: Threads + Wait + Clock + Sync>(
 {
     let (senders, receivers) = channels(rt, alloc, count, tally)?;
     // The asker runs on the new thread, so that only senders move there.
-    let (asked, served) = join(
+    let (replies, _) = join_halves(
         rt,
         move || ask_all(rt, alloc, senders),
         move || serve_all(receivers),
-    );
-    let (replies, asked) = asked?;
-    tally.add(asked);
-    tally.add(served?);
+        tally,
+    )?;
     Ok(replies)
 }
 

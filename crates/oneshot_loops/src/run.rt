@@ -26,6 +26,14 @@ fn large() -> [u8; 4096] {
     [7; 4096]
 }
 
+/// Drops how many round trips were made, and keeps a fault.
+fn without_count(trips: Result<u64, Fault>) -> Result<(), Fault> {
+    match trips {
+        Ok(_) => Ok(()),
+        Err(fault) => Err(fault),
+    }
+}
+
 /// Makes `count` rounds of the loop `kind` over `channel`, and counts what they did in `tally`.
 ///
 /// `Err`: the channel cannot run the loop, or a round's fault.
@@ -66,7 +74,7 @@ fn run_oneshot<R: AllocGlobal + RandomSource + Threads + Wait + Clock + Sync>(
         Loop::MakeSendReceiveDropLarge => repeat(count, || {
             rounds::make_send_receive_drop(alloc, large(), tally)
         }),
-        Loop::RoundTrip => round_trip::round_trips(rt, alloc, count, tally).map(|_| ()),
+        Loop::RoundTrip => without_count(round_trip::round_trips(rt, alloc, count, tally)),
         Loop::Awaited(kind) => run_oneshot_awaited(rt, kind, count, tally),
     }
 }
@@ -119,7 +127,7 @@ fn run_crossbeam<R: AllocGlobal + Threads + Wait + Sync>(
         Loop::MakeSendReceiveDropLarge => repeat(count, || {
             crossbeam_rounds::make_send_receive_drop(rt, alloc, large(), tally)
         }),
-        Loop::RoundTrip => crossbeam_trips::round_trips(rt, alloc, count, tally).map(|_| ()),
+        Loop::RoundTrip => without_count(crossbeam_trips::round_trips(rt, alloc, count, tally)),
         Loop::Awaited(_) => Err(Fault::CannotRun),
     }
 }
@@ -146,7 +154,9 @@ fn run_oneshot_awaited<R: AllocGlobal + RandomSource + Threads + Wait + Sync>(
             let round = awaited_rounds::PollPending::new(alloc, count, SMALL);
             repeat_in_task(rt, 1, round, tally)
         }
-        Awaited::RoundTripAwait => awaited_trips::round_trips(rt, alloc, count, tally).map(|_| ()),
+        Awaited::RoundTripAwait => without_count(awaited_trips::round_trips(
+            rt, alloc, count, tally,
+        )),
     }
 }
 
@@ -172,6 +182,8 @@ fn run_futures_awaited<R: AllocGlobal + RandomSource + Threads + Wait + Sync>(
             let round = futures_awaited_rounds::PollPending::new(alloc, count, SMALL);
             repeat_in_task(rt, 1, round, tally)
         }
-        Awaited::RoundTripAwait => futures_trips::round_trips(rt, alloc, count, tally).map(|_| ()),
+        Awaited::RoundTripAwait => without_count(futures_trips::round_trips(
+            rt, alloc, count, tally,
+        )),
     }
 }

@@ -39,6 +39,20 @@ pub fn work(rt: &impl Wait, requests: &queue::Receiver<Request>, report: Sender<
     let _ = report.send(served);
 }
 
+/// Puts a request for the square of `root` into the queue. The result has the receiver of its reply. `Err`: out of
+/// memory.
+fn ask_through<'r, R: Wait + Clock>(
+    rt: &'r R,
+    alloc: Global,
+    requests: &queue::Sender<Request>,
+    root: u32,
+) -> Result<Asked<&'r R>, AllocError> {
+    let (request, asked) = ask(rt, alloc, root)?;
+    // A request that the queue refuses is dropped here, so its answer is `Lost`.
+    let _ = requests.send(rt, request);
+    Ok(asked)
+}
+
 /// Puts a request for each number's square into the queue.
 ///
 /// `rt` is the runtime that waits for each reply, `alloc` allocates the channels and the result,
@@ -54,10 +68,7 @@ pub fn ask_all<'r, R: Wait + Clock>(
 {
     let mut all = Vec::new(alloc);
     for root in roots {
-        let (request, asked) = ask(rt, alloc, *root)?;
-        // A request that the queue refuses is dropped here, so its answer is `Lost`.
-        let _ = requests.send(rt, request);
-        all.push(asked)?;
+        all.push(ask_through(rt, alloc, requests, *root)?)?;
     }
     Ok(all)
 }
@@ -96,6 +107,34 @@ pub fn total<Rt: Wait + Clock + Drop>(
     Some(served)
 }
 
+/// Puts a request for each number's square into the queue, closes it, and waits for each reply. `Err`: out of memory.
+fn answers_of<R: Wait + Clock>(
+    rt: &R,
+    alloc: Global,
+    requests: queue::Sender<Request>,
+    roots: &[u32],
+    limit: Duration,
+) -> Result<Vec<Answer>, AllocError>
+    ensures { IfOk result (λ answers. vec_len answers ≡ length roots.now) }
+{
+    let all = ask_all(rt, alloc, &requests, roots)?;
+    // The workers end once the queue is empty.
+    drop(requests);
+    answers_to(alloc, all, limit)
+}
+
+/// Makes the channel of a worker's report, puts its receiver into `reports`, and returns its sender. `Err`: out of
+/// memory.
+fn report_into<Rt: Drop>(
+    rt: Rt,
+    alloc: Global,
+    reports: &mut Vec<Receiver<u64, Rt>>,
+) -> Result<Sender<u64>, AllocError> {
+    let (report, reported) = channel(rt, alloc)?;
+    reports.push(reported)?;
+    Ok(report)
+}
+
 /// Starts workers, has them reply to a request for the square of each number, and shuts them down.
 ///
 /// `rt` is the runtime of the threads, `alloc` allocates the queue and the channels, `workers` is the
@@ -120,15 +159,11 @@ pub fn pooled<R: Threads + Wait + Clock + Sync>(
         {
             let mut reports = Vec::new(alloc);
             for _ in 0..workers {
-                let (report, reported) = channel(rt, alloc)?;
-                reports.push(reported)?;
+                let report = report_into(rt, alloc, &mut reports)?;
                 // If the worker cannot be started, its sender is dropped, and `served` is `None`.
                 let _ = scope.spawn(move || work(rt, taken, report));
             }
-            let all = ask_all(rt, alloc, &requests, roots)?;
-            // The workers end once the queue is empty.
-            drop(requests);
-            let answers = answers_to(alloc, all, limit)?;
+            let answers = answers_of(rt, alloc, requests, roots, limit)?;
             let served = total(reports, limit);
             Ok(Outcome { answers, served })
         },

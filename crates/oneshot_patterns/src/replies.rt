@@ -5,7 +5,7 @@ ghost use Rattle.std.specs.Prelude.{◌≡◌, ◌*◌, IfOk, IfSome};
 use crate::request::{Asked, Request, Square, answer_to, ask};
 use futures::executor::block_on;
 use futures::future::{Either, join, select};
-use oneshot_channel::AsyncReceiver;
+use oneshot_channel::{AsyncReceiver, RecvError};
 use std::alloc::{AllocGlobal, Global};
 use std::random::RandomSource;
 use std::sync::Wait;
@@ -32,6 +32,24 @@ where
     Ok((answer_to(first_root, first), answer_to(second_root, second)))
 }
 
+/// Returns the square of `root` that `reply` has, or else awaits `other`. `Err`: the executor failed.
+fn answer_or_await<R, Rt>(
+    rt: &R,
+    root: u32,
+    reply: Result<Square, RecvError>,
+    other: AsyncReceiver<Square, Rt>,
+) -> io::Result<Option<u64>>
+where
+    R: Wait + RandomSource + AllocGlobal,
+    Rt: Drop,
+    ensures { IfOk result (λ answer. IfSome answer (λ value. value ≡ root * root)) }
+{
+    match answer_to(root, reply) {
+        Some(value) => Ok(Some(value)),
+        None => Ok(answer_to(root, block_on(rt, other)?)),
+    }
+}
+
 /// Awaits the first reply to two requests for the square of one number.
 ///
 /// `rt` is the executor's runtime, `root` the number, and `first` and `second` are the futures of its
@@ -48,14 +66,15 @@ where
     Rt: Drop,
     ensures { IfOk result (λ answer. IfSome answer (λ value. value ≡ root * root)) }
 {
-    let (reply, other) = match block_on(rt, select(first, second))? {
-        Either::Left(came) => came,
-        Either::Right(came) => came,
-    };
-    match answer_to(root, reply) {
-        Some(value) => Ok(Some(value)),
-        None => Ok(answer_to(root, block_on(rt, other)?)),
+    match block_on(rt, select(first, second))? {
+        Either::Left((reply, other)) => answer_or_await(rt, root, reply, other),
+        Either::Right((reply, other)) => answer_or_await(rt, root, reply, other),
     }
+}
+
+/// Serves both requests, on two threads.
+fn serve_both<R: Threads + Sync>(rt: &R, first: Request, second: Request) {
+    let _ = thread::join(rt, move || first.serve(), move || second.serve());
 }
 
 /// Runs `await_replies` while other threads serve two requests, and returns what it returns.
@@ -68,11 +87,7 @@ fn beside_servers<R: Threads + Sync, A, F: FnOnce() -> A>(
     requires { F.pre await_replies }
     ensures { F.post await_replies result }
 {
-    let (_, replies) = thread::join(
-        rt,
-        move || thread::join(rt, move || first.serve(), move || second.serve()),
-        await_replies,
-    );
+    let (_, replies) = thread::join(rt, move || serve_both(rt, first, second), await_replies);
     replies
 }
 

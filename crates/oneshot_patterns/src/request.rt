@@ -1,6 +1,6 @@
 //! Requests, each with its own channel for the reply.
 
-ghost use Rattle.std.specs.Prelude.{◌≡◌, ◌*◌, ◌≤◌, ℕ, Ok, IfOk, IfSome, vec_len, length};
+ghost use Rattle.std.specs.Prelude.{◌≡◌, ◌+◌, ◌*◌, ◌≤◌, ℕ, Ok, IfOk, IfSome, vec_len, length};
 
 use oneshot_channel::{Receiver, RecvError, RecvTimeoutError, Sender, channel};
 use std::alloc::{AllocError, Global};
@@ -158,6 +158,22 @@ fn wait_all<Rt: Wait + Clock + Drop>(
     Ok(replies)
 }
 
+/// Makes a request for the square of `root`, and puts both sides of it into their lists. `Err`: out of memory.
+fn ask_into<Rt: Drop>(
+    rt: Rt,
+    alloc: Global,
+    root: u32,
+    requests: &mut Vec<Request>,
+    asked: &mut Vec<Asked<Rt>>,
+) -> Result<(), AllocError>
+    ensures { IfOk result (λ _. vec_len asked.new ≡ vec_len asked.old + 1) }
+{
+    let (request, waiting) = ask(rt, alloc, root)?;
+    requests.push(request)?;
+    asked.push(waiting)?;
+    Ok(())
+}
+
 /// Requests the square of each number from a worker on another thread, and waits for the replies.
 ///
 /// `rt` runs the thread and waits, `alloc` allocates the channels and the result, and `roots` has the
@@ -173,9 +189,7 @@ pub fn squares_of<R: Threads + Wait + Clock + Sync>(
     let mut requests = Vec::new(alloc);
     let mut asked = Vec::new(alloc);
     for root in roots {
-        let (request, waiting) = ask(rt, alloc, *root)?;
-        requests.push(request)?;
-        asked.push(waiting)?;
+        ask_into(rt, alloc, *root, &mut requests, &mut asked)?;
     }
     let (_, squares) = join(
         rt,

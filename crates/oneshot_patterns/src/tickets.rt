@@ -86,6 +86,21 @@ where
     }
 }
 
+/// Puts a request for the square of `root` into the queue. The result has its ticket. `Err`: out of memory.
+fn ask_through<'r, R: Wait + Clock>(
+    rt: &'r R,
+    alloc: Global,
+    requests: &queue::Sender<Request<u32, Square>>,
+    root: u32,
+) -> Result<Pending<&'r R>, AllocError> {
+    let Ok((request, ticket)) = reply::request(rt, alloc, root) else {
+        return Err(AllocError);
+    };
+    // A request that the queue refuses is dropped here, so its answer is `Lost`.
+    let _ = requests.send(rt, request);
+    Ok(Pending { root, ticket })
+}
+
 /// Puts a request for each number's square into the queue. `Err`: out of memory.
 fn ask_each<'r, R: Wait + Clock>(
     rt: &'r R,
@@ -97,13 +112,7 @@ fn ask_each<'r, R: Wait + Clock>(
 {
     let mut all = Vec::new(alloc);
     for root in roots {
-        let (request, ticket) = reply::request(rt, alloc, *root).map_err(|_| AllocError)?;
-        // A request that the queue refuses is dropped here, so its answer is `Lost`.
-        let _ = requests.send(rt, request);
-        all.push(Pending {
-            root: *root,
-            ticket,
-        })?;
+        all.push(ask_through(rt, alloc, requests, *root)?)?;
     }
     Ok(all)
 }
@@ -134,6 +143,22 @@ impl<Rt: Wait + Clock + Drop> Pending<Rt> {
     }
 }
 
+/// Puts a request for each number's square into the queue, closes it, and waits for each square. `Err`: out of memory.
+fn answers_of<R: Wait + Clock>(
+    rt: &R,
+    alloc: Global,
+    requests: queue::Sender<Request<u32, Square>>,
+    roots: &[u32],
+    limit: Duration,
+) -> Result<Vec<Answer>, AllocError>
+    ensures { IfOk result (λ answers. vec_len answers ≡ length roots.now) }
+{
+    let all = ask_each(rt, alloc, &requests, roots)?;
+    // The workers end once the queue is empty.
+    drop(requests);
+    squares_within(alloc, all, limit)
+}
+
 /// Starts workers, has them answer a request for the square of each number, and shuts them down.
 ///
 /// `rt` is the runtime of the threads, `alloc` allocates the queue and the channels, `workers` is the
@@ -160,10 +185,7 @@ pub fn asked<R: Threads + Wait + Clock + Sync>(
                 // If no worker can be started, each answer is `Late`.
                 let _ = scope.spawn(move || serve_queue(rt, taken));
             }
-            let all = ask_each(rt, alloc, &requests, roots)?;
-            // The workers end once the queue is empty.
-            drop(requests);
-            squares_within(alloc, all, limit)
+            answers_of(rt, alloc, requests, roots, limit)
         },
     )
 }

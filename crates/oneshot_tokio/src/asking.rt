@@ -4,7 +4,7 @@ ghost use Rattle.std.specs.Prelude.{◌≡◌, IfOk, map};
 
 use crate::client::{Client, Pending, Reply};
 use crate::pool::Pool;
-use crate::server::{Server, Service};
+use crate::server::{Job, Server, Service};
 use crate::within::Within;
 use futures::executor::block_on;
 use oneshot_channel::{Sender, async_channel};
@@ -14,7 +14,7 @@ use std::random::RandomSource;
 use std::sync::Wait;
 use std::thread::{Threads, join};
 use std::time::{Clock, Duration};
-use tokio::sync::mpsc::unbounded_channel;
+use tokio::sync::mpsc::{UnboundedReceiver, unbounded_channel};
 
 /// Awaits each reply in turn, under an executor on the runtime `rt`. `Err`: out of memory, or it failed.
 fn replies<R>(rt: &R, all: Vec<Pending>) -> io::Result<Vec<Reply>>
@@ -76,6 +76,29 @@ where
     served
 }
 
+/// Asks for the square of each number, and for one that it gives up, and has them served in a round on `pool`.
+///
+/// `Err`: out of memory, no clock, or no thread could be started.
+fn ask_in_round<R>(
+    client: &Client<'_, R>,
+    pool: &Pool,
+    jobs: UnboundedReceiver<Job>,
+    roots: &[u32],
+    given_up: u32,
+) -> io::Result<Served>
+where
+    R: Threads + Wait + Clock + RandomSource + AllocGlobal + Sync,
+    ensures { IfOk result (λ served. map (λ r. r.root) served.0.items ≡ roots.now) }
+{
+    let (stop, stopped) = async_channel((), client.rt.alloc())?;
+    let round = Round {
+        all: client.ask_all(roots)?,
+        given_up: client.give_up(given_up)?,
+        stop,
+    };
+    serve_round(client.rt, pool, Server { jobs, stopped }, round)
+}
+
 /// The outcome of the requests.
 #[derive(Drop)]
 pub struct Outcome {
@@ -101,19 +124,13 @@ pub fn asked<R: Threads + Wait + Clock + RandomSource + AllocGlobal + Sync>(
     ensures { IfOk result (λ outcome. map (λ r. r.root) outcome.replies.items ≡ roots.now) }
 {
     let (queue, jobs) = unbounded_channel(rt.alloc())?;
-    let (stop, stopped) = async_channel((), rt.alloc())?;
     let client = Client {
         rt,
         time: pool.time(),
         jobs: &queue,
         limit,
     };
-    let round = Round {
-        all: client.ask_all(roots)?,
-        given_up: client.give_up(given_up)?,
-        stop,
-    };
-    let (replies, given_up) = serve_round(rt, pool, Server { jobs, stopped }, round)?;
+    let (replies, given_up) = ask_in_round(&client, pool, jobs, roots, given_up)?;
     let after = client.ask(0)?.reply(rt)?;
     Ok(Outcome {
         replies,

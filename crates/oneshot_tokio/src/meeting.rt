@@ -10,7 +10,7 @@ use std::sync::Wait;
 use std::sync::atomic::{AtomicUsize, Ordering};
 use std::thread::{Threads, sleep};
 use std::time::{Clock, Duration};
-use tokio::sync::mpsc::unbounded_channel;
+use tokio::sync::mpsc::{UnboundedSender, unbounded_channel};
 
 /// How many milliseconds a task waits for the others: more than a thread takes to start.
 const PATIENCE: u64 = 10_000;
@@ -45,6 +45,14 @@ impl<R: Clock> Guest<'_, R> {
     }
 }
 
+/// Puts so many tasks that wait for one another into `queue`.
+fn invite<'a, R>(queue: &UnboundedSender<Guest<'a, R>>, rt: &'a R, place: &'a Place, all: usize) {
+    for _ in 0..all {
+        // The queue is open: `met` has its receiver.
+        let _ = queue.send(Guest { rt, place, all });
+    }
+}
+
 /// Runs so many tasks that wait for one another on the threads of `pool`, and returns how many of them saw all.
 ///
 /// `rt` runs the threads. With fewer threads than tasks, some task waits in vain. `Err`: out of memory, or no thread
@@ -58,11 +66,7 @@ where
         met: AtomicUsize::new(0),
     };
     let (queue, guests) = unbounded_channel(rt.alloc())?;
-    for _ in 0..all {
-        let place = &place;
-        // The queue is open: its receiver is here.
-        let _ = queue.send(Guest { rt, place, all });
-    }
+    invite(&queue, rt, &place, all);
     drop(queue);
     pool.run_all(
         rt,

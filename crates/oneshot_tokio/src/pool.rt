@@ -5,7 +5,7 @@ ghost use Rattle.futures.specs.Runs.{AllItems};
 use futures::executor::{SpawnAll, TaskSet, block_on};
 use futures::task::{Doorbell, Solo};
 use futures::{Future, Stream};
-use oneshot_channel::{Receiver, RecvTimeoutError, channel};
+use oneshot_channel::{Receiver, RecvTimeoutError, Sender, channel};
 use std::alloc::AllocGlobal;
 use std::io;
 use std::random::RandomSource;
@@ -47,6 +47,16 @@ impl Pool {
     }
 }
 
+/// Fires the timers that are due. `Err`: no clock.
+fn fire<R: Clock>(rt: &R, timers: &mut Driver, task: &Solo) -> io::Result<()> {
+    let now = Instant::now(rt)?;
+    let mut poll = task.begin();
+    // When the next timer is due does not matter: the next turn is a millisecond away.
+    timers.turn(&mut poll, now);
+    poll.park();
+    Ok(())
+}
+
 /// Once a millisecond, fires the timers that are due. Ends when the stop signal comes or its sender is dropped.
 ///
 /// `rt` runs this thread, `timers` fires them as `task`, and `stop` is the receiver of the signal. `Err`: no
@@ -58,16 +68,40 @@ pub fn keep_time<R: Wait + Clock>(
     mut stop: Receiver<(), &R>,
 ) -> io::Result<()> {
     for _ in rt.forever() {
-        let now = Instant::now(rt)?;
-        let mut poll = task.begin();
-        // When the next timer is due does not matter: the wait below lasts a millisecond.
-        timers.turn(&mut poll, now);
-        poll.park();
+        fire(rt, &mut timers, &task)?;
         if stop.recv_timeout(Duration::from_millis(1)) != Err(RecvTimeoutError::Timeout) {
             break;
         }
     }
     Ok(())
+}
+
+/// Calls `uses`, and stops the thread that has the receiver of `stop`.
+fn use_and_stop<T, F: FnOnce(Pool) -> T>(uses: F, pool: Pool, stop: Sender<()>) -> T
+    requires { F.IsAlwaysCallable uses }
+{
+    let value = uses(pool);
+    // If the thread of the timers is gone, there is nothing to stop.
+    let _ = stop.send(());
+    value
+}
+
+/// Calls `uses` while another thread fires `timers` as `task`. `Err`: out of memory, or no clock.
+fn beside_timers<R, T, F>(rt: &R, timers: Driver, task: Solo, pool: Pool, uses: F) -> io::Result<T>
+where
+    R: Threads + Wait + Clock + AllocGlobal + Sync,
+    T: Drop,
+    F: FnOnce(Pool) -> T,
+    requires { F.IsAlwaysCallable uses }
+{
+    let (stop, stopped) = channel(rt, rt.alloc())?;
+    let (kept, value) = join(
+        rt,
+        move || keep_time(rt, timers, task, stopped),
+        move || use_and_stop(uses, pool, stop),
+    );
+    kept?;
+    Ok(value)
 }
 
 /// Calls `uses` with a pool of `workers` threads, and stops the thread of its timers when it returns.
@@ -86,17 +120,5 @@ where
         workers,
     };
     let task = Solo::new(rt, Doorbell::parking())?;
-    let (stop, stopped) = channel(rt, rt.alloc())?;
-    let (kept, value) = join(
-        rt,
-        move || keep_time(rt, timers, task, stopped),
-        move || {
-            let value = uses(pool);
-            // If the thread of the timers is gone, there is nothing to stop.
-            let _ = stop.send(());
-            value
-        },
-    );
-    kept?;
-    Ok(value)
+    beside_timers(rt, timers, task, pool, uses)
 }

@@ -4,12 +4,12 @@
 ghost use Rattle.std.specs.Prelude.{◌≡◌, IfOk};
 
 use oneshot_channel::reply::{Request, Ticket, request};
-use oneshot_channel::{RecvTimeoutError, async_channel_for};
+use oneshot_channel::{RecvTimeoutError, Sender, async_channel_for};
 use oneshot_tokio::asking::asked;
 use oneshot_tokio::meeting::met;
 use oneshot_tokio::pool::{Pool, with_pool};
 use oneshot_tokio::promised::{Below, item_within};
-use oneshot_tokio::server::serve;
+use oneshot_tokio::server::{Service, serve};
 use oneshot_tokio::square::Square;
 use oneshot_tokio::ticket::square_within;
 use std::alloc::{AllocError, AllocGlobal, Global};
@@ -49,6 +49,15 @@ impl Tally {
         };
         *number = number.saturating_add(1);
     }
+
+    fn show(self, rt: &impl Print) -> io::Result<()> {
+        let Tally {
+            came,
+            timed_out,
+            lost,
+        } = self;
+        println!(rt; "in all: {came} came, {timed_out} timed out, {lost} were lost")
+    }
 }
 
 fn show<R>(rt: &R, pool: &Pool) -> io::Result<()>
@@ -65,15 +74,9 @@ where
     show_lost_request(rt, pool, &mut tally)?;
     show_item(rt, pool, &mut tally)?;
     show_late_item(rt, pool, &mut tally)?;
-    let together = met(rt, pool, WORKERS)?;
-    println!(rt; "pool: {together} tasks at once")?;
+    show_meeting(rt, pool)?;
     show_server(rt, pool, &mut tally)?;
-    let Tally {
-        came,
-        timed_out,
-        lost,
-    } = tally;
-    println!(rt; "in all: {came} came, {timed_out} timed out, {lost} were lost")
+    tally.show(rt)
 }
 
 /// Counts and prints the value that came, or why none did.
@@ -117,11 +120,13 @@ fn show_reply<R>(rt: &R, pool: &Pool, tally: &mut Tally) -> io::Result<()>
 where
     R: AllocGlobal + Print + Threads + Wait + Clock + RandomSource + Sync,
 {
+    let time = pool.time();
+    let limit = Duration::from_secs(SECONDS);
     let (request, ticket) = square_of(rt.alloc(), 12)?;
     let (_, square) = join(
         rt,
         move || serve(request),
-        move || square_within(rt, pool.time(), Duration::from_secs(SECONDS), ticket),
+        move || square_within(rt, time, limit, ticket),
     );
     show_value(rt, tally, "ticket", square?)
 }
@@ -136,6 +141,13 @@ where
     let square = square_within(rt, pool.time(), limit, ticket)?;
     show_wait(rt, "ticket", start, limit)?;
     show_value(rt, tally, "ticket", square)?;
+    show_late_answer(rt, request)
+}
+
+/// Answers a request for the square of 9, and prints whether the reply came back.
+fn show_late_answer(rt: &impl Print, request: Request<u32, Square>) -> io::Result<()>
+    requires { request.channel.about.question ≡ 9 }
+{
     match request.answer(Square::of(9)) {
         Ok(()) => println!(rt; "ticket: the reply was sent"),
         Err(refused) => println!(rt; "ticket: {} came back", refused.into_inner().value),
@@ -179,10 +191,26 @@ where
     let item = item_within(rt, pool.time(), limit, &[10, 20, 30], index)?;
     show_wait(rt, "promise", start, limit)?;
     show_value(rt, tally, "promise", item)?;
+    show_late_index(rt, sender)
+}
+
+/// Sends an index below 3, and prints whether it came back.
+fn show_late_index(rt: &impl Print, sender: Sender<usize, Below>) -> io::Result<()>
+    requires { sender.channel.about.0 ≡ 3 }
+{
     match sender.send_kept(2) {
         Ok(()) => println!(rt; "promise: the index was sent"),
         Err(refused) => println!(rt; "promise: {} came back", refused.into_inner()),
     }
+}
+
+/// Prints how many tasks the pool ran at once.
+fn show_meeting<R>(rt: &R, pool: &Pool) -> io::Result<()>
+where
+    R: AllocGlobal + Print + Threads + Wait + Clock + RandomSource + Sync,
+{
+    let together = met(rt, pool, WORKERS)?;
+    println!(rt; "pool: {together} tasks at once")
 }
 
 fn show_server<R>(rt: &R, pool: &Pool, tally: &mut Tally) -> io::Result<()>
@@ -194,9 +222,14 @@ where
     for reply in outcome.replies {
         show_value(rt, tally, "server", reply.square)?;
     }
-    match outcome.given_up {
-        Some(service) => println!(rt; "given up: {service:?}")?,
-        None => println!(rt; "given up: no report")?,
-    }
+    show_given_up(rt, outcome.given_up)?;
     show_value(rt, tally, "after the stop", outcome.after.square)
+}
+
+/// Prints how the server dealt with the request that was given up.
+fn show_given_up(rt: &impl Print, given_up: Option<Service>) -> io::Result<()> {
+    match given_up {
+        Some(service) => println!(rt; "given up: {service:?}"),
+        None => println!(rt; "given up: no report"),
+    }
 }

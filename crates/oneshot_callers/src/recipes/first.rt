@@ -4,12 +4,12 @@ ghost use Rattle.std.specs.Prelude.{◌≡◌, ◌<◌, IfOk};
 
 use futures::executor::block_on;
 use futures::future::{Either, select};
+use oneshot_asserts::assert_same;
 use oneshot_channel::{AsyncReceiver, Promise, RecvError, TryRecvError, async_channel_for};
 use std::alloc::AllocGlobal;
 use std::io;
 use std::random::RandomSource;
 use std::sync::Wait;
-use std::test::Fail;
 
 /// Promises an index below this length.
 #[derive(Drop)]
@@ -39,23 +39,32 @@ fn first_of<R: Wait + RandomSource + AllocGlobal>(
 }
 
 #[test]
-fn the_other_message_is_not_lost(rt: HostRuntime) -> Result<(), Fail> {
-    let (left, left_future) = async_channel_for((), rt.alloc(), &Below(9))?;
-    let (right, right_future) = async_channel_for((), rt.alloc(), &Below(9))?;
+fn the_other_message_is_not_lost(rt: HostRuntime) {
+    let Ok((left, left_future)) = async_channel_for((), rt.alloc(), &Below(9)) else {
+        panic!(rt; "memory")
+    };
+    let Ok((right, right_future)) = async_channel_for((), rt.alloc(), &Below(9)) else {
+        panic!(rt; "memory")
+    };
     let sent = (right.send_kept(7).is_ok(), left.send_kept(5).is_ok());
-    let both = first_of(&rt, left_future, right_future)?;
-    assert_eq!(rt; (sent, both), ((true, true), (Ok(5), Ok(7))));
-    Ok(())
+    let both = first_of(&rt, left_future, right_future).expect(&rt, "an executor");
+    assert_same!(rt; (sent, both), ((true, true), (Ok(5), Ok(7))));
 }
 
 #[test]
-fn a_message_after_the_first_comes_back(rt: HostRuntime) -> Result<(), Fail> {
-    let (left, left_future) = async_channel_for((), rt.alloc(), &Below(9))?;
-    let (right, right_future) = async_channel_for((), rt.alloc(), &Below(9))?;
+fn a_message_after_the_first_comes_back(rt: HostRuntime) {
+    let Ok((left, left_future)) = async_channel_for((), rt.alloc(), &Below(9)) else {
+        panic!(rt; "memory")
+    };
+    let Ok((right, right_future)) = async_channel_for((), rt.alloc(), &Below(9)) else {
+        panic!(rt; "memory")
+    };
     let sent = right.send_kept(7).is_ok();
-    let both = first_of(&rt, left_future, right_future)?;
-    let back = left.send_kept(5).map_err(|error| error.into_inner());
+    let both = first_of(&rt, left_future, right_future).expect(&rt, "an executor");
+    let back = match left.send_kept(5) {
+        Ok(()) => None,
+        Err(refused) => Some(refused.into_inner()),
+    };
     let empty = Err(TryRecvError::Empty);
-    assert_eq!(rt; (sent, both, back), (true, (Ok(7), empty), Err(5)));
-    Ok(())
+    assert_same!(rt; (sent, both, back), (true, (Ok(7), empty), Some(5)));
 }

@@ -3,10 +3,10 @@
 ghost use Rattle.std.specs.Prelude.{◌≡◌, ◌≤◌, IfSome};
 ghost use Rattle.std.specs.List.{sum};
 
+use oneshot_asserts::assert_same;
 use oneshot_channel::{Promise, Receiver, Sender, channel_for};
 use std::alloc::Global;
 use std::sync::Wait;
-use std::test::Fail;
 use std::thread;
 use std::time::Clock;
 
@@ -66,7 +66,7 @@ fn count_large(part: Part) {
 }
 
 #[test]
-fn all_counts_add_up(rt: HostRuntime) -> Result<(), Fail> {
+fn all_counts_add_up(rt: HostRuntime) {
     for (sizes, wanted) in [([50, 30, 20], Some(100)), ([50, 3, 20], None)] {
         let counted = thread::scope(thread::scope_env(), &rt, |scope| {
             total(&rt, rt.alloc(), &sizes, |part| {
@@ -74,7 +74,6 @@ fn all_counts_add_up(rt: HostRuntime) -> Result<(), Fail> {
                 let _ = scope.spawn(move || count_large(part));
             })
         });
-        assert_eq!(rt; counted, wanted);
+        assert_same!(rt; counted, wanted);
     }
-    Ok(())
 }

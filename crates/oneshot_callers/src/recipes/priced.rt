@@ -5,11 +5,10 @@ ghost use Rattle.std.specs.Prelude.{◌≡◌, ⊤, IfOk};
 mod deadline;
 mod pending;
 
+use oneshot_asserts::assert_same;
 use oneshot_channel::RecvTimeoutError;
 use oneshot_channel::reply::{Answer, Request, Ticket, request};
-use std::alloc::AllocError;
 use std::sync::Wait;
-use std::test::Fail;
 use std::time::{Clock, Duration};
 
 /// An article, and its price in cents if it is sold.
@@ -48,14 +47,13 @@ fn serve(request: Request<u32, Price>, cents: Option<u64>) -> bool {
 }
 
 #[test]
-fn a_price_names_its_article(rt: HostRuntime) -> Result<(), Fail> {
+fn a_price_names_its_article(rt: HostRuntime) {
     for (article, cents) in [(7, Some(250)), (8, None)] {
-        let (request, ticket) = request(&rt, rt.alloc(), article).map_err(|_| AllocError)?;
+        let (request, ticket) = request(&rt, rt.alloc(), article).expect(&rt, "memory");
         let served = serve(request, cents);
-        assert_eq!(rt;
+        assert_same!(rt;
             (served, price_of(ticket)),
             (true, Ok(Price { article, cents }))
         );
     }
-    Ok(())
 }

@@ -3,10 +3,10 @@
 ghost use Rattle.std.specs.Prelude.{◌≤◌, ◌<◌};
 ghost use Rattle.oneshot_channel.specs.Ends.{IsClosed};
 
+use oneshot_asserts::assert_same;
 use oneshot_channel::{Receiver, RecvTimeoutError, Sender, TryRecvError, channel};
 use std::sync::Wait;
-use std::test::Fail;
-use std::thread::{join, sleep};
+use std::thread::{sleep, spawn, yield_now};
 use std::time::{Clock, Duration};
 
 /// Calls `round` until it is told to stop, or its owner is gone, but at most `limit` times.
@@ -35,41 +35,46 @@ fn shut_down<Rt: Wait + Clock + Drop>(
 }
 
 #[test]
-fn a_worker_works_until_it_is_told_or_left(rt: HostRuntime) -> Result<(), Fail> {
-    let (stop, mut stopped) = channel((), rt.alloc())?;
-    let untold = work(&mut stopped, 5, || {});
+fn a_worker_works_until_it_is_told_or_left(rt: HostRuntime) {
+    let (stop, mut stopped) = channel((), rt.alloc()).expect(&rt, "memory");
+    let untold = work(&mut stopped, 5, yield_now);
     let mut stop = Some(stop);
     let mut made = 0u64;
     let told = work(&mut stopped, u64::MAX, || {
         made = made.wrapping_add(1);
         if made == 3 {
-            // `work`, which calls this closure, still has the receiver, so the signal is not refused.
-            let _ = stop.take().map(|stop| stop.send(()));
+            tell(&mut stop);
         }
     });
-    let (stop, mut stopped) = channel((), rt.alloc())?;
+    let (stop, mut stopped) = channel((), rt.alloc()).expect(&rt, "memory");
     drop(stop);
-    let left = work(&mut stopped, 5, || {});
-    assert_eq!(rt; (untold, told, left), (5, 3, 0));
-    Ok(())
+    let left = work(&mut stopped, 5, yield_now);
+    assert_same!(rt; (untold, told, left), (5, 3, 0));
+}
+
+/// Tells a worker to stop, if it was not told yet.
+fn tell(stop: &mut Option<Sender<()>>) {
+    if let Some(stop) = stop.take() {
+        // The worker still has the receiver, so the signal is not refused.
+        let _ = stop.send(());
+    }
 }
 
 #[test]
-fn a_worker_reports_the_rounds_that_it_made(rt: HostRuntime) -> Result<(), Fail> {
-    let (stop, mut stopped) = channel((), rt.alloc())?;
-    let (sender, report) = channel(&rt, rt.alloc())?;
+fn a_worker_reports_the_rounds_that_it_made(rt: HostRuntime) {
+    let (stop, stopped) = channel((), rt.alloc()).expect(&rt, "memory");
+    let (sender, report) = channel(&rt, rt.alloc()).expect(&rt, "memory");
+    let worker = spawn(&rt, move || work_and_report(stopped, sender));
+    let worker = worker.expect(&rt, "a thread");
+    sleep(&rt, Duration::from_millis(20));
+    let rounds = shut_down(stop, report);
+    let (made, sent) = worker.join(&rt);
+    assert_same!(rt; (sent, rounds), (true, Ok(made)));
+}
+
+/// Works until it is told to stop, and reports its rounds. Returns how many it made, and whether the report was sent.
+fn work_and_report(mut stop: Receiver<(), ()>, report: Sender<u64>) -> (u64, bool) {
     let mut made = 0u64;
-    let (sent, rounds) = join(
-        &rt,
-        || {
-            let rounds = work(&mut stopped, u64::MAX, || made = made.wrapping_add(1));
-            sender.send(rounds).is_ok()
-        },
-        || {
-            sleep(&rt, Duration::from_millis(20));
-            shut_down(stop, report)
-        },
-    );
-    assert_eq!(rt; (sent, rounds), (true, Ok(made)));
-    Ok(())
+    let rounds = work(&mut stop, u64::MAX, || made = made.wrapping_add(1));
+    (made, report.send(rounds).is_ok())
 }

@@ -5,13 +5,13 @@ ghost use Rattle.std.specs.Prelude.{◌≡◌, IfOk};
 use super::{Price, serve};
 use futures::executor::block_on;
 use futures::task::{Doorbell, Solo};
-use oneshot_channel::reply::{Ticket, request};
+use oneshot_asserts::{Asserts, assert_same};
+use oneshot_channel::reply::{Request, Ticket, request};
 use oneshot_channel::{Receiver, RecvTimeoutError, channel};
-use std::alloc::{AllocError, AllocGlobal};
+use std::alloc::AllocGlobal;
 use std::io;
 use std::random::RandomSource;
 use std::sync::Wait;
-use std::test::Fail;
 use std::thread::join;
 use std::time::{Clock, Duration, Instant};
 use tokio::time::{Driver, Handle};
@@ -51,30 +51,71 @@ where
     Ok(())
 }
 
-/// What each of three tickets brought, and whether the one that came late was refused.
+/// What a ticket brought.
 type Brought = Result<Price, RecvTimeoutError>;
 
-/// Awaits a price that is sent, one that is sent late, and one that is not sent.
-fn three_prices<R>(rt: &R, time: &Handle) -> io::Result<([Brought; 3], bool)>
+/// A request for the price of an article, and the ticket for it.
+fn asked<R>(rt: &R, article: u32) -> (Request<u32, Price>, Ticket<u32, Price, ()>)
 where
-    R: Wait + Clock + RandomSource + AllocGlobal,
+    R: Asserts + AllocGlobal,
 {
-    let (sent, first) = request((), rt.alloc(), 7u32).map_err(|_| AllocError)?;
-    let (late, second) = request((), rt.alloc(), 8u32).map_err(|_| AllocError)?;
-    let (lost, third) = request((), rt.alloc(), 9u32).map_err(|_| AllocError)?;
+    request((), rt.alloc(), article).expect(rt, "memory")
+}
+
+/// Awaits a price for at most `millis` milliseconds.
+fn await_price<R>(rt: &R, time: &Handle, millis: u64, ticket: Ticket<u32, Price, ()>) -> Brought
+where
+    R: Asserts + Wait + Clock + RandomSource + AllocGlobal,
+{
+    let reply = price_within(rt, time, Duration::from_millis(millis), ticket);
+    reply.expect(rt, "an executor")
+}
+
+/// Awaits a price that is sent, one that is sent late, and one that is not sent. Returns what each ticket brought, and
+/// whether the late price was taken.
+fn three_prices<R>(rt: &R, time: &Handle) -> ([Brought; 3], bool)
+where
+    R: Asserts + Wait + Clock + RandomSource + AllocGlobal,
+{
+    let (sent, first) = asked(rt, 7);
+    let (late, second) = asked(rt, 8);
+    let (lost, third) = asked(rt, 9);
     serve(sent, Some(250));
     drop(lost);
-    let first = price_within(rt, time, Duration::from_secs(10), first)?;
-    let second = price_within(rt, time, Duration::from_millis(20), second)?;
-    let third = price_within(rt, time, Duration::from_secs(10), third)?;
-    Ok(([first, second, third], serve(late, Some(90))))
+    let first = await_price(rt, time, 10_000, first);
+    let second = await_price(rt, time, 20, second);
+    let third = await_price(rt, time, 10_000, third);
+    ([first, second, third], serve(late, Some(90)))
+}
+
+/// A driver of timers that begins now, and its handle.
+fn timers<R>(rt: &R) -> (Driver, Handle)
+where
+    R: Asserts + Clock + AllocGlobal,
+{
+    let now = Instant::now(rt).expect(rt, "a clock");
+    let timers = Driver::new(rt.alloc(), now).expect(rt, "memory");
+    let time = timers.handle().clone().expect(rt, "memory");
+    (timers, time)
+}
+
+/// What the three tickets should bring.
+fn wanted() -> [Brought; 3] {
+    let price = Price {
+        article: 7,
+        cents: Some(250),
+    };
+    [
+        Ok(price),
+        Err(RecvTimeoutError::Timeout),
+        Err(RecvTimeoutError::Disconnected),
+    ]
 }
 
 #[test]
-fn a_price_comes_in_time_or_not(rt: HostRuntime) -> Result<(), Fail> {
-    let timers = Driver::new(rt.alloc(), Instant::now(&rt)?)?;
-    let time = timers.handle().clone()?;
-    let (stop, stopped) = channel(&rt, rt.alloc())?;
+fn a_price_comes_in_time_or_not(rt: HostRuntime) {
+    let (timers, time) = timers(&rt);
+    let (stop, stopped) = channel(&rt, rt.alloc()).expect(&rt, "memory");
     let (kept, prices) = join(
         &rt,
         || keep_time(&rt, timers, stopped),
@@ -84,17 +125,6 @@ fn a_price_comes_in_time_or_not(rt: HostRuntime) -> Result<(), Fail> {
             prices
         },
     );
-    kept?;
-    let (prices, was_late) = prices?;
-    let price = Price {
-        article: 7,
-        cents: Some(250),
-    };
-    let wanted = [
-        Ok(price),
-        Err(RecvTimeoutError::Timeout),
-        Err(RecvTimeoutError::Disconnected),
-    ];
-    assert_eq!(rt; (prices, was_late), (wanted, false));
-    Ok(())
+    kept.expect(&rt, "the timers are kept");
+    assert_same!(rt; prices, (wanted(), false));
 }

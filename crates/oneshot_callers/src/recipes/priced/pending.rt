@@ -5,11 +5,11 @@ ghost use Rattle.std.specs.Ordering.{nat_cmp};
 ghost use Rattle.std.specs.BTreeMap.{get};
 
 use super::Price;
+use oneshot_asserts::assert_same;
 use oneshot_channel::TryRecvError;
 use oneshot_channel::reply::{Request, Ticket, request};
 use std::alloc::{AllocError, Global};
 use std::collections::BTreeMap;
-use std::test::Fail;
 
 /// The requests that wait for a reply, by the article that each asks for.
 type Pending = BTreeMap<u32, Request<u32, Price>>;
@@ -41,23 +41,24 @@ fn settle(pending: &mut Pending, price: Price) -> bool
 }
 
 #[test]
-fn each_price_reaches_its_ticket(rt: HostRuntime) -> Result<(), Fail> {
+fn each_price_reaches_its_ticket(rt: HostRuntime) {
     let mut pending = BTreeMap::new(rt.alloc());
-    let mut seven = ask((), rt.alloc(), &mut pending, 7)?;
-    let mut eight = ask((), rt.alloc(), &mut pending, 8)?;
-    let first = (settle(&mut pending, price(8, 90)), seven.try_take());
-    let second = settle(&mut pending, price(7, 250));
-    let again = settle(&mut pending, price(7, 251));
-    let unasked = settle(&mut pending, price(9, 10));
-    let empty = Err(TryRecvError::Empty);
-    assert_eq!(rt;
-        (first, second, again, unasked),
-        ((true, empty), true, false, false)
-    );
-    let taken = (seven.try_take(), eight.try_take());
-    let prices = (Ok(price(7, 250)), Ok(price(8, 90)));
-    assert_eq!(rt; (taken, pending.len()), (prices, 0));
-    Ok(())
+    let mut seven = ask((), rt.alloc(), &mut pending, 7).expect(&rt, "memory");
+    let mut eight = ask((), rt.alloc(), &mut pending, 8).expect(&rt, "memory");
+    assert!(rt; settle(&mut pending, price(8, 90)));
+    assert_same!(rt; seven.try_take(), Err(TryRecvError::Empty));
+    assert_same!(rt; settle_others(&mut pending), (true, false, false));
+    assert_same!(rt; pending.len(), 0);
+    assert_same!(rt; seven.try_take(), Ok(price(7, 250)));
+    assert_same!(rt; eight.try_take(), Ok(price(8, 90)));
+}
+
+/// Sends a price, another one for the same article, and one that nobody asked for.
+fn settle_others(pending: &mut Pending) -> (bool, bool, bool) {
+    let second = settle(pending, price(7, 250));
+    let again = settle(pending, price(7, 251));
+    let unasked = settle(pending, price(9, 10));
+    (second, again, unasked)
 }
 
 fn price(article: u32, cents: u64) -> Price {
