@@ -1,72 +1,68 @@
 //! A message that counts its drops.
 
+use oneshot_asserts::{Asserts, assert_same};
 use oneshot_calls::Numbered;
-use oneshot_channel::Sender;
-use std::alloc::Global;
-use std::process::Abort;
-use std::sync::Arc;
+use std::fmt::Debug;
 use std::sync::atomic::{AtomicU64, Ordering};
-use std::test::Fail;
 
 /// A message whose drop is counted.
-pub(super) struct Counted {
+pub(super) struct Counted<'a> {
     value: u64,
-    drops: Arc<AtomicU64>,
+    drops: &'a AtomicU64,
 }
 
-/// How often the message of each round was dropped.
-#[derive(Drop)]
-pub(super) struct Drops(Vec<Arc<AtomicU64>>);
+impl<'a> Counted<'a> {
+    /// Returns a message of 999, whose drop is counted in `drops`.
+    pub(super) fn new(drops: &'a AtomicU64) -> Counted<'a> {
+        Counted { value: 999, drops }
+    }
+}
 
-impl Drop for Counted {
+impl Drop for Counted<'_> {
     fn drop(self) {
         let Counted { value: _, drops } = self;
         drops.fetch_add(1, Ordering::SeqCst);
     }
 }
 
-/// A sender, and the message for it.
-pub(super) type Loaded = (Sender<Counted>, Counted);
-
-/// Makes a message of 999 for each sender, and the counts of their drops.
-pub(super) fn load(
-    alloc: Global,
-    senders: Vec<Sender<Counted>>,
-) -> Result<(Vec<Loaded>, Drops), Fail> {
-    let mut loaded = Vec::new(alloc);
-    let mut counts = Vec::new(alloc);
-    for sender in senders {
-        let drops = Arc::new(alloc, AtomicU64::new(0))?;
-        counts.push(Arc::try_clone(&drops)?)?;
-        loaded.push((sender, Counted { value: 999, drops }))?;
-    }
-    Ok((loaded, Drops(counts)))
-}
-
-impl Numbered for Counted {
+impl Numbered for Counted<'_> {
     fn number(&self) -> u64 {
         self.value
     }
 }
 
+/// How often the message of each round was dropped.
+#[derive(Drop)]
+pub(super) struct Drops(Vec<AtomicU64>);
+
 impl Drops {
-    /// Fails unless there were so many messages, and each was dropped once. `about` names the rounds.
-    pub(super) fn assert_once(&self, rt: &impl Abort, about: &str, messages: u64) {
-        assert_eq!(rt; (about, self.0.len() as u64), (about, messages));
-        for (round, drops) in (1u64..).zip(&self.0) {
+    /// Returns a count of 0 for the message of each round.
+    pub(super) fn new(rt: &(impl AllocGlobal + Asserts), rounds: u64) -> Drops {
+        let mut counts = Vec::new(rt.alloc());
+        for _ in 0..rounds {
+            counts.push(AtomicU64::new(0)).expect(rt, "memory");
+        }
+        Drops(counts)
+    }
+
+    /// The count of each round.
+    pub(super) fn counts(&self) -> &[AtomicU64] {
+        &self.0
+    }
+
+    /// Fails unless the message of each round was dropped once. `about` names the rounds.
+    pub(super) fn assert_once<D: Copy + PartialEq + Debug>(&self, rt: &impl Asserts, about: D) {
+        let mut round = 0u64;
+        for drops in &self.0 {
+            round = round.saturating_add(1);
             let count = drops.load(Ordering::SeqCst);
-            assert!(rt; count == 1, "{about}: {count} drops of message {round}");
+            assert_same!(rt; (about, round, count), (about, round, 1));
         }
     }
 }
 
 #[test]
-#[should_panic(expected = "recv: 0 drops of message 1")]
+#[should_panic(expected = "left: (\"recv\", 1, 0)")]
 fn a_message_that_is_not_dropped_ends_a_test(rt: HostRuntime) {
-    let mut counts = Vec::new(rt.alloc());
-    let drops = Arc::new(rt.alloc(), AtomicU64::new(0)).ok();
-    counts
-        .push(drops.expect(&rt, "memory"))
-        .expect(&rt, "memory");
-    Drops(counts).assert_once(&rt, "recv", 1);
+    Drops::new(&rt, 1).assert_once(&rt, "recv");
 }

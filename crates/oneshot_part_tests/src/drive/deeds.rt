@@ -8,6 +8,7 @@ ghost use Rattle.oneshot_drive.specs.BetweenCalls.{AtRest, IsReady};
 ghost use Rattle.oneshot_drive.specs.Polls.{IsPolled};
 
 use crate::drive::steps::steps_of;
+use oneshot_asserts::{Asserts, assert_same};
 use oneshot_calls::{Ask, Bare, Call, ReceiverCall, Reply, SenderCall, Task};
 use oneshot_drive::{
     async_try_recv, drop_async, drop_receiver, poll, recv, recv_deadline, recv_ref, recv_timeout,
@@ -15,9 +16,7 @@ use oneshot_drive::{
 };
 use oneshot_memory::{MemoryFuture, MemoryReceiver, MemoryTask, Wakes};
 use std::alloc::{AllocError, AllocGlobal, Global};
-use std::process::Abort;
 use std::sync::Wait;
-use std::test::Fail;
 use std::time::Duration;
 
 /// The lines of a life, and all steps of the receiver or of the future.
@@ -54,12 +53,12 @@ fn read(text: &str) -> Option<Line<'_>> {
     let text = text.trim_ascii();
     let (done, has) = text.split_once(" | ")?;
     let (deed, reply) = match done.split_once(" = ") {
-        Some((call, reply)) => (read_call(call)?, reply),
-        None => (read_beside(done)?, Bare::Nothing.text()),
+        Some((call, reply)) => (read_call(call), reply),
+        None => (read_beside(done), Bare::Nothing.text()),
     };
     Some(Line {
         text,
-        deed,
+        deed: deed?,
         reply,
         has,
     })
@@ -72,16 +71,25 @@ fn read_call(text: &str) -> Option<Deed> {
     }
 }
 
-/// Reads what happens beside a receiver. `S send in 3 for 1`: the sender will send after 3 pauses, and linger for 1.
+/// Reads what happens beside a receiver.
 fn read_beside(text: &str) -> Option<Deed> {
-    let Some((deed, times)) = text.split_once(" in ") else {
-        return match Call::of_text(text) {
-            Some(Call::Sender(SenderCall::Send)) => Some(Deed::Sends),
-            Some(Call::Sender(SenderCall::Drop)) => Some(Deed::Goes),
-            None if text == "refuse" => Some(Deed::Refuses),
-            _ => None,
-        };
-    };
+    match text.split_once(" in ") {
+        Some((deed, times)) => read_planned(deed, times),
+        None => read_done(text),
+    }
+}
+
+fn read_done(text: &str) -> Option<Deed> {
+    match Call::of_text(text) {
+        Some(Call::Sender(SenderCall::Send)) => Some(Deed::Sends),
+        Some(Call::Sender(SenderCall::Drop)) => Some(Deed::Goes),
+        None if text == "refuse" => Some(Deed::Refuses),
+        _ => None,
+    }
+}
+
+/// Reads what will happen. `S send`, `3 for 1`: the sender will send after 3 pauses, and linger for 1.
+fn read_planned(deed: &str, times: &str) -> Option<Deed> {
     let (first, lingers) = times.split_once(" for ").unwrap_or((times, "0"));
     let (first, lingers) = (first.parse::<u64>().ok()?, lingers.parse::<u64>().ok()?);
     match Call::of_text(deed) {
@@ -94,45 +102,35 @@ fn read_beside(text: &str) -> Option<Deed> {
 
 impl Line<'_> {
     /// Fails unless the line states this reply, and that the receiver's hand then has this.
-    fn assert_hand<R: Abort + AllocGlobal>(
-        &self,
-        rt: &R,
-        reply: Reply<u64>,
-        hand: &Option<u8>,
-    ) -> Result<(), AllocError> {
-        let hand = format!(in rt.alloc(); "{hand:?}")?;
-        self.assert(rt, reply, &hand)
+    fn assert_hand<R: Asserts + AllocGlobal>(&self, rt: &R, reply: Reply<u64>, hand: &Option<u8>) {
+        let hand = format!(in rt.alloc(); "{hand:?}").expect(rt, "memory");
+        self.assert(rt, reply, &hand);
     }
 
     /// Fails unless the line states this reply, and that the future's tasks then have these counts.
-    fn assert_counts<R: Abort + AllocGlobal>(
+    fn assert_counts<R: Asserts + AllocGlobal>(
         &self,
         rt: &R,
         reply: Reply<u64>,
         tasks: &[MemoryTask; 2],
-    ) -> Result<(), AllocError> {
-        self.assert(rt, reply, &counts_of(rt.alloc(), tasks)?)
+    ) {
+        let counts = counts_of(rt.alloc(), tasks).expect(rt, "memory");
+        self.assert(rt, reply, &counts);
     }
 
     /// Fails unless the line states this reply, and that the life then has this.
-    fn assert<R: Abort + AllocGlobal>(
-        &self,
-        rt: &R,
-        reply: Reply<u64>,
-        has: &str,
-    ) -> Result<(), AllocError> {
-        let reply = format!(in rt.alloc(); "{reply}")?;
-        assert_eq!(rt;
+    fn assert<R: Asserts + AllocGlobal>(&self, rt: &R, reply: Reply<u64>, has: &str) {
+        let reply = reply.to_string(rt.alloc()).expect(rt, "memory");
+        assert_same!(rt;
             (self.text, reply.as_str(), has),
             (self.text, self.reply, self.has)
         );
-        Ok(())
     }
 }
 
-/// Reads a line of a life. `Err`: it is none.
-fn read_line(text: &str) -> Result<Line<'_>, Fail> {
-    Ok(read(text).ok_or("a line of a life")?)
+/// Reads a line of a life. Fails if it is none.
+fn read_line<'a>(rt: &impl Asserts, text: &'a str) -> Line<'a> {
+    read(text).expect(rt, "a line of a life")
 }
 
 /// Lets happen what is no call of the receiver.
@@ -180,26 +178,39 @@ fn perform<R: Wait>(
     }
 }
 
+/// Does a deed after which the receiver may be gone.
+fn perform_last<R: Wait>(
+    rt: &R,
+    g: &mut MemoryReceiver<'_, u64, u8, R>,
+    hand: &mut Option<u8>,
+    deed: Deed,
+) -> Reply<u64>
+    requires rests { AtRest g.old.state }
+    requires ready { IsReady hand.old (receiver_of g.old.state.log) }
+{
+    match deed {
+        Deed::Calls(ReceiverCall::Recv) => Reply::received(recv(g, rt, hand)),
+        Deed::Calls(ReceiverCall::Drop) => {
+            drop_receiver(g);
+            Reply::Bare(Bare::Dropped)
+        }
+        deed => perform(rt, g, hand, deed),
+    }
+}
+
 /// Does a receiver's deeds, of which the last may end it, and returns its steps.
-fn receive<R: Wait + Abort + AllocGlobal>(rt: &R, lines: &str, last: &str) -> Result<String, Fail> {
+fn receive<R: Wait + Asserts + AllocGlobal>(rt: &R, lines: &str, last: &str) -> String {
     let mut g = MemoryReceiver::new(rt, rt.alloc());
     let mut hand = Some(9);
     for line in lines.lines() {
-        let line = read_line(line)?;
+        let line = read_line(rt, line);
         let reply = perform(rt, &mut g, &mut hand, line.deed);
-        line.assert_hand(rt, reply, &hand)?;
+        line.assert_hand(rt, reply, &hand);
     }
-    let last = read_line(last)?;
-    let reply = match last.deed {
-        Deed::Calls(ReceiverCall::Recv) => Reply::received(recv(&mut g, rt, &mut hand)),
-        Deed::Calls(ReceiverCall::Drop) => {
-            drop_receiver(&mut g);
-            Reply::Bare(Bare::Dropped)
-        }
-        deed => perform(rt, &mut g, &mut hand, deed),
-    };
-    last.assert_hand(rt, reply, &hand)?;
-    Ok(steps_of(rt.alloc(), g.events())?)
+    let last = read_line(rt, last);
+    let reply = perform_last(rt, &mut g, &mut hand, last.deed);
+    last.assert_hand(rt, reply, &hand);
+    steps_of(rt.alloc(), g.events()).expect(rt, "memory")
 }
 
 type Future<'a, 't, R> = MemoryFuture<'a, 't, u64, R>;
@@ -245,51 +256,58 @@ fn counts(task: &MemoryTask) -> (u64, u64, u64) {
     (task.copies(), task.ended(), task.wakes())
 }
 
+/// Does a deed after which the future may be gone.
+fn perform_last_polled<'t, R: Wait>(
+    future: &mut Future<'_, 't, R>,
+    tasks: &'t [MemoryTask; 2],
+    deed: Deed,
+) -> Reply<u64>
+    requires { IsPolled future.old.receiver.state }
+{
+    match deed {
+        Deed::Calls(ReceiverCall::Drop) => {
+            drop_async(future);
+            Reply::Bare(Bare::Dropped)
+        }
+        deed => perform_polled(future, tasks, deed),
+    }
+}
+
 /// Does a future's deeds, of which the last may drop it, and returns its steps.
-fn poll_all<R: Wait + Abort + AllocGlobal>(
-    rt: &R,
-    lines: &str,
-    last: &str,
-) -> Result<String, Fail> {
+fn poll_all<R: Wait + Asserts + AllocGlobal>(rt: &R, lines: &str, last: &str) -> String {
     let tasks = [MemoryTask::new(), MemoryTask::new()];
     let mut future = Future::new(rt, rt.alloc(), &tasks[0]);
     for line in lines.lines() {
-        let line = read_line(line)?;
+        let line = read_line(rt, line);
         let reply = perform_polled(&mut future, &tasks, line.deed);
-        line.assert_counts(rt, reply, &tasks)?;
+        line.assert_counts(rt, reply, &tasks);
     }
-    let last = read_line(last)?;
-    let reply = match last.deed {
-        Deed::Calls(ReceiverCall::Drop) => {
-            drop_async(&mut future);
-            Reply::Bare(Bare::Dropped)
-        }
-        deed => perform_polled(&mut future, &tasks, deed),
-    };
-    last.assert_counts(rt, reply, &tasks)?;
-    Ok(steps_of(rt.alloc(), future.receiver.events())?)
+    let last = read_line(rt, last);
+    let reply = perform_last_polled(&mut future, &tasks, last.deed);
+    last.assert_counts(rt, reply, &tasks);
+    steps_of(rt.alloc(), future.receiver.events()).expect(rt, "memory")
 }
 
-fn assert_life<R: Wait + Abort + AllocGlobal>(rt: &R, life: &Life) -> Result<(), Fail> {
-    let (text, steps) = *life;
-    let (kind, lines) = text.split_once('\n').ok_or("a life of no line")?;
+/// Does the deeds of a life, and returns its steps.
+fn steps_of_life<R: Wait + Asserts + AllocGlobal>(rt: &R, life: &str) -> String {
+    let (kind, lines) = life.split_once('\n').expect(rt, "a life of a line");
     let (lines, last) = lines.rsplit_once('\n').unwrap_or(("", lines));
-    let made = match kind {
-        "channel" => receive(rt, lines, last)?,
-        "async_channel" => poll_all(rt, lines, last)?,
-        _ => return Err(Fail::new("a life of no channel")),
-    };
-    assert_eq!(rt; (text, made.as_str()), (text, steps));
-    Ok(())
+    match kind {
+        "channel" => receive(rt, lines, last),
+        "async_channel" => poll_all(rt, lines, last),
+        _ => panic!(rt; "a life of no channel"),
+    }
+}
+
+fn assert_life<R: Wait + Asserts + AllocGlobal>(rt: &R, life: &Life) {
+    let (text, steps) = *life;
+    let made = steps_of_life(rt, text);
+    assert_same!(rt; (text, made.as_str()), (text, steps));
 }
 
 /// Fails unless each line of each life has its reply and leaves what it states, and each life has its steps.
-pub(crate) fn assert_lives<R: Wait + Abort + AllocGlobal>(
-    rt: &R,
-    lives: &[Life],
-) -> Result<(), Fail> {
+pub(crate) fn assert_lives<R: Wait + Asserts + AllocGlobal>(rt: &R, lives: &[Life]) {
     for life in lives {
-        assert_life(rt, life)?;
+        assert_life(rt, life);
     }
-    Ok(())
 }

@@ -1,5 +1,6 @@
 //! Messages and wakers over grounds in memory that count their drops.
 
+use oneshot_asserts::assert_same;
 use oneshot_drive::{drop_error, drop_receiver, recv, send};
 use oneshot_memory::{MemoryReceiver, MemorySender};
 use std::cell::Cell;
@@ -25,7 +26,7 @@ fn the_errors_drop_drops_the_message_once(rt: HostRuntime) {
     drop_error(&mut g);
     let ended = drops.get();
     drop(g);
-    assert_eq!(rt; (refused, ended, drops.get()), (0, 1, 1));
+    assert_same!(rt; (refused, ended, drops.get()), (0, 1, 1));
 }
 
 #[test]
@@ -43,7 +44,7 @@ fn a_receiver_that_left_meanwhile_costs_its_waker_and_the_message_once(rt: HostR
     let ended = (messages.get(), wakers.get());
     drop(g);
     let freed = (messages.get(), wakers.get());
-    assert_eq!(rt; (refused, ended, freed), ((0, 1), (1, 1), (1, 1)));
+    assert_same!(rt; (refused, ended, freed), ((0, 1), (1, 1), (1, 1)));
 }
 
 #[test]
@@ -52,7 +53,7 @@ fn send_uses_the_waker_up(rt: HostRuntime) {
     let waker = Counted(&drops);
     let mut g = MemorySender::<u64, Counted, _>::with_waiting_receiver(&rt, rt.alloc(), waker);
     let is_sent = send(&mut g, 7);
-    assert_eq!(rt; (is_sent, drops.get()), (true, 1));
+    assert_same!(rt; (is_sent, drops.get()), (true, 1));
 }
 
 #[test]
@@ -63,7 +64,7 @@ fn the_receivers_drop_drops_the_message_once(rt: HostRuntime) {
     drop_receiver(&mut g);
     let ended = drops.get();
     drop(g);
-    assert_eq!(rt; (ended, drops.get()), (1, 1));
+    assert_same!(rt; (ended, drops.get()), (1, 1));
 }
 
 #[test]
@@ -75,5 +76,5 @@ fn recv_gives_the_message_out(rt: HostRuntime) {
     let (is_received, received_drops) = (received.is_ok(), drops.get());
     drop(received);
     drop(g);
-    assert_eq!(rt; (is_received, received_drops, drops.get()), (true, 0, 1));
+    assert_same!(rt; (is_received, received_drops, drops.get()), (true, 0, 1));
 }

@@ -2,8 +2,6 @@
 //! task is woken.
 
 use crate::drive::deeds::{Life, assert_lives};
-use std::process::Termination;
-use std::test::Fail;
 
 const WAITS: &[Life; 5] = &[
     (
@@ -46,8 +44,8 @@ const WAITS: &[Life; 5] = &[
 ];
 
 #[test]
-fn a_poll_leaves_one_copy_to_the_sender(rt: HostRuntime) -> Result<(), Fail> {
-    assert_lives(&rt, WAITS)
+fn a_poll_leaves_one_copy_to_the_sender(rt: HostRuntime) {
+    assert_lives(&rt, WAITS);
 }
 
 const REFUSED_COPIES: &[Life; 3] = &[
@@ -84,8 +82,8 @@ const REFUSED_COPIES: &[Life; 3] = &[
 ];
 
 #[test]
-fn a_refused_copy_wakes_its_task_and_leaves_the_stored_one(rt: HostRuntime) -> Result<(), Fail> {
-    assert_lives(&rt, REFUSED_COPIES)
+fn a_refused_copy_wakes_its_task_and_leaves_the_stored_one(rt: HostRuntime) {
+    assert_lives(&rt, REFUSED_COPIES);
 }
 
 const TRIES: &[Life; 3] = &[
@@ -122,8 +120,8 @@ const TRIES: &[Life; 3] = &[
 ];
 
 #[test]
-fn a_try_waits_for_nothing_and_leaves_the_copy_in_its_slot(rt: HostRuntime) -> Result<(), Fail> {
-    assert_lives(&rt, TRIES)
+fn a_try_waits_for_nothing_and_leaves_the_copy_in_its_slot(rt: HostRuntime) {
+    assert_lives(&rt, TRIES);
 }
 
 const ABOUT_TO_FINISH: &[Life; 2] = &[
@@ -154,8 +152,8 @@ const ABOUT_TO_FINISH: &[Life; 2] = &[
 ];
 
 #[test]
-fn no_poll_waits_for_a_sender_that_is_about_to_finish(rt: HostRuntime) -> Result<(), Fail> {
-    assert_lives(&rt, ABOUT_TO_FINISH)
+fn no_poll_waits_for_a_sender_that_is_about_to_finish(rt: HostRuntime) {
+    assert_lives(&rt, ABOUT_TO_FINISH);
 }
 
 const DROPS: &[Life; 4] = &[
@@ -194,15 +192,15 @@ const DROPS: &[Life; 4] = &[
 ];
 
 #[test]
-fn a_dropped_future_ends_its_copy(rt: HostRuntime) -> Result<(), Fail> {
-    assert_lives(&rt, DROPS)
+fn a_dropped_future_ends_its_copy(rt: HostRuntime) {
+    assert_lives(&rt, DROPS);
 }
 
 #[test]
 #[should_panic(expected = "(1, 0, 0)")]
 fn other_counts_end_a_test(rt: HostRuntime) {
     let life = ("async_channel\nR poll1 = Pending | (2, 0, 0) (0, 0, 0)", "");
-    let _ = assert_lives(&rt, &[life]).report(&rt);
+    assert_lives(&rt, &[life]);
 }
 
 #[test]
@@ -212,5 +210,5 @@ fn other_steps_of_a_future_end_a_test(rt: HostRuntime) {
         "async_channel\nR try = Err(Empty) | (0, 0, 0) (0, 0, 0)",
         "",
     );
-    let _ = assert_lives(&rt, &[life]).report(&rt);
+    assert_lives(&rt, &[life]);
 }

@@ -1,8 +1,6 @@
 //! The receiver's drivers, with what the sender does meanwhile.
 
 use crate::drive::deeds::{Life, assert_lives};
-use std::process::Termination;
-use std::test::Fail;
 
 const TRIES: &[Life; 2] = &[
     (
@@ -23,8 +21,8 @@ const TRIES: &[Life; 2] = &[
 ];
 
 #[test]
-fn try_recv_waits_for_nothing(rt: HostRuntime) -> Result<(), Fail> {
-    assert_lives(&rt, TRIES)
+fn try_recv_waits_for_nothing(rt: HostRuntime) {
+    assert_lives(&rt, TRIES);
 }
 
 const DROPS: &[Life; 3] = &[
@@ -48,8 +46,8 @@ const DROPS: &[Life; 3] = &[
 ];
 
 #[test]
-fn the_receivers_drop_frees_unless_the_sender_is_here(rt: HostRuntime) -> Result<(), Fail> {
-    assert_lives(&rt, DROPS)
+fn the_receivers_drop_frees_unless_the_sender_is_here(rt: HostRuntime) {
+    assert_lives(&rt, DROPS);
 }
 
 const WAITS_BY_REFERENCE: &[Life; 7] = &[
@@ -104,8 +102,8 @@ const WAITS_BY_REFERENCE: &[Life; 7] = &[
 ];
 
 #[test]
-fn recv_ref_waits_for_the_sender(rt: HostRuntime) -> Result<(), Fail> {
-    assert_lives(&rt, WAITS_BY_REFERENCE)
+fn recv_ref_waits_for_the_sender(rt: HostRuntime) {
+    assert_lives(&rt, WAITS_BY_REFERENCE);
 }
 
 const WAITS_BY_VALUE: &[Life; 6] = &[
@@ -149,8 +147,8 @@ const WAITS_BY_VALUE: &[Life; 6] = &[
 ];
 
 #[test]
-fn recv_waits_for_the_sender_and_frees(rt: HostRuntime) -> Result<(), Fail> {
-    assert_lives(&rt, WAITS_BY_VALUE)
+fn recv_waits_for_the_sender_and_frees(rt: HostRuntime) {
+    assert_lives(&rt, WAITS_BY_VALUE);
 }
 
 const WAITS_UNTIL_A_DEADLINE: &[Life; 9] = &[
@@ -218,8 +216,8 @@ const WAITS_UNTIL_A_DEADLINE: &[Life; 9] = &[
 ];
 
 #[test]
-fn recv_deadline_waits_until_its_deadline(rt: HostRuntime) -> Result<(), Fail> {
-    assert_lives(&rt, WAITS_UNTIL_A_DEADLINE)
+fn recv_deadline_waits_until_its_deadline(rt: HostRuntime) {
+    assert_lives(&rt, WAITS_UNTIL_A_DEADLINE);
 }
 
 const DEADLINES_THAT_COME_TOO_LATE: &[Life; 4] = &[
@@ -253,8 +251,8 @@ const DEADLINES_THAT_COME_TOO_LATE: &[Life; 4] = &[
 ];
 
 #[test]
-fn a_deadline_runs_out_over_what_the_sender_did(rt: HostRuntime) -> Result<(), Fail> {
-    assert_lives(&rt, DEADLINES_THAT_COME_TOO_LATE)
+fn a_deadline_runs_out_over_what_the_sender_did(rt: HostRuntime) {
+    assert_lives(&rt, DEADLINES_THAT_COME_TOO_LATE);
 }
 
 const AFTER_A_DEADLINE: &[Life; 3] = &[
@@ -286,8 +284,8 @@ const AFTER_A_DEADLINE: &[Life; 3] = &[
 ];
 
 #[test]
-fn a_receiver_goes_on_after_its_deadline(rt: HostRuntime) -> Result<(), Fail> {
-    assert_lives(&rt, AFTER_A_DEADLINE)
+fn a_receiver_goes_on_after_its_deadline(rt: HostRuntime) {
+    assert_lives(&rt, AFTER_A_DEADLINE);
 }
 
 const TIMEOUTS: &[Life; 4] = &[
@@ -320,27 +318,27 @@ const TIMEOUTS: &[Life; 4] = &[
 ];
 
 #[test]
-fn recv_timeout_reads_its_clock_for_the_sum(rt: HostRuntime) -> Result<(), Fail> {
-    assert_lives(&rt, TIMEOUTS)
+fn recv_timeout_reads_its_clock_for_the_sum(rt: HostRuntime) {
+    assert_lives(&rt, TIMEOUTS);
 }
 
 #[test]
 #[should_panic(expected = "swap 2:3")]
 fn other_steps_end_a_test(rt: HostRuntime) {
     let life = ("channel\nR drop = dropped | Some(9)", "swap 2:2");
-    let _ = assert_lives(&rt, &[life]).report(&rt);
+    assert_lives(&rt, &[life]);
 }
 
 #[test]
 #[should_panic(expected = "Some(9)")]
 fn another_hand_ends_a_test(rt: HostRuntime) {
     let life = ("channel\nR drop = dropped | None", "swap 2:3");
-    let _ = assert_lives(&rt, &[life]).report(&rt);
+    assert_lives(&rt, &[life]);
 }
 
 #[test]
 #[should_panic(expected = "Err(Empty)")]
 fn another_reply_ends_a_test(rt: HostRuntime) {
     let life = ("channel\nR try = Ok(7) | Some(9)", "load:3");
-    let _ = assert_lives(&rt, &[life]).report(&rt);
+    assert_lives(&rt, &[life]);
 }

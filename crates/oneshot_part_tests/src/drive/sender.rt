@@ -3,11 +3,11 @@
 ghost use Rattle.oneshot_drive.specs.BetweenCalls.{IsFresh};
 
 use crate::drive::steps::steps_of;
+use oneshot_asserts::{Asserts, assert_same};
 use oneshot_drive::{drop_error, drop_sender, into_inner, send};
 use oneshot_memory::MemorySender;
-use std::alloc::Global;
+use std::alloc::{AllocGlobal, Global};
 use std::sync::Wait;
-use std::test::Fail;
 
 /// Where the receiver is.
 #[derive(Clone, Copy)]
@@ -43,6 +43,11 @@ fn ground<R: Wait>(rt: &R, alloc: Global, receiver: Receiver) -> Ground<'_, R>
     }
 }
 
+/// The steps that a sender has made.
+fn steps_made<R: Wait + Asserts + AllocGlobal>(rt: &R, g: &Ground<'_, R>) -> String {
+    steps_of(rt.alloc(), g.events()).expect(rt, "memory")
+}
+
 /// Where the receiver is, the message that comes back, and the steps.
 const SENDS: &[(Receiver, Option<u64>, &str); 5] = &[
     (Receiver::Here, None, "write-message, add:3"),
@@ -69,37 +74,35 @@ const SENDS: &[(Receiver, Option<u64>, &str); 5] = &[
 ];
 
 #[test]
-fn send_makes_its_steps(rt: HostRuntime) -> Result<(), Fail> {
-    for (receiver, refused, steps) in SENDS {
-        let mut g = ground(&rt, rt.alloc(), *receiver);
+fn send_makes_its_steps(rt: HostRuntime) {
+    for &(receiver, refused, steps) in SENDS {
+        let mut g = ground(&rt, rt.alloc(), receiver);
         let returned = if send(&mut g, 7) {
             None
         } else {
             Some(into_inner(&mut g))
         };
-        let made = steps_of(rt.alloc(), g.events())?;
-        assert_eq!(rt; (returned, made.as_str()), (*refused, *steps));
+        let made = steps_made(&rt, &g);
+        assert_same!(rt; (returned, made.as_str()), (refused, steps));
     }
-    Ok(())
 }
 
 #[test]
-fn the_error_of_a_receiver_that_left_meanwhile_frees_once(rt: HostRuntime) -> Result<(), Fail> {
+fn the_error_of_a_receiver_that_left_meanwhile_frees_once(rt: HostRuntime) {
     let mut g = ground(&rt, rt.alloc(), Receiver::Leaves);
     if send(&mut g, 7) {
         panic!(rt; "the receiver left")
     }
-    let before = steps_of(rt.alloc(), g.events())?;
+    let before = steps_made(&rt, &g);
     drop_error(&mut g);
-    let after = steps_of(rt.alloc(), g.events())?;
-    assert_eq!(rt;
+    let after = steps_made(&rt, &g);
+    assert_same!(rt;
         (before.as_str(), after.as_str()),
         (
             "write-message, add:0, take-waker, swap 4:2, wake",
             "write-message, add:0, take-waker, swap 4:2, wake, drop-message, free"
         )
     );
-    Ok(())
 }
 
 const DROPS: &[(Receiver, &str); 5] = &[
@@ -111,11 +114,10 @@ const DROPS: &[(Receiver, &str); 5] = &[
 ];
 
 #[test]
-fn the_senders_drop_makes_its_steps(rt: HostRuntime) -> Result<(), Fail> {
-    for (receiver, steps) in DROPS {
-        let mut g = ground(&rt, rt.alloc(), *receiver);
+fn the_senders_drop_makes_its_steps(rt: HostRuntime) {
+    for &(receiver, steps) in DROPS {
+        let mut g = ground(&rt, rt.alloc(), receiver);
         drop_sender(&mut g);
-        assert_eq!(rt; steps_of(rt.alloc(), g.events())?.as_str(), *steps);
+        assert_same!(rt; steps_made(&rt, &g).as_str(), steps);
     }
-    Ok(())
 }
