@@ -51,10 +51,7 @@ fn perform<R: Print + AllocGlobal + Clock + RandomSource + Threads + Wait + Sync
             println!(rt; "{channel} {kind}: {count} rounds in {nanoseconds} ns")
         }
     };
-    match printed {
-        Ok(()) => Ok(()),
-        Err(_) => Err(Fault::WriteFailed),
-    }
+    printed.map_err(|_| Fault::WriteFailed)
 }
 
 /// The program's arguments, without its own name.

@@ -3,6 +3,8 @@
 use crate::run::{Kind, Scripts};
 use oneshot_calls::{ReceiverCall, SenderCall, Word};
 use std::alloc::{AllocError, Global};
+use std::rt::Env;
+use std::{env, io};
 
 /// The arguments so far.
 #[derive(Drop)]
@@ -13,7 +15,7 @@ pub struct Asked {
 }
 
 /// What an argument is read as.
-#[derive(Clone, Copy, PartialEq, Eq)]
+#[derive(Clone, Copy)]
 enum Part {
     Kind,
     Sender,
@@ -21,8 +23,22 @@ enum Part {
 }
 
 impl Asked {
+    /// Reads the arguments. `None`: one is not allowed where it stands, or a script is missing.
+    pub fn read<R: Env + AllocGlobal>(rt: &R) -> io::Result<Option<Asked>> {
+        let mut asked = Asked::new(rt.alloc());
+        for arg in env::args(rt)?.skip(1) {
+            if !asked.add(arg.as_str())? {
+                return Ok(None);
+            }
+        }
+        Ok(match asked.of {
+            Part::Receiver => Some(asked),
+            Part::Kind | Part::Sender => None,
+        })
+    }
+
     /// No arguments: a plain channel, and a script of no call for each end.
-    pub fn new(alloc: Global) -> Asked {
+    fn new(alloc: Global) -> Asked {
         Asked {
             kind: Kind::Plain,
             scripts: Scripts {
@@ -34,29 +50,39 @@ impl Asked {
     }
 
     /// Adds an argument. Returns whether it is allowed there.
-    pub fn add(&mut self, text: &str) -> Result<bool, AllocError> {
+    fn add(&mut self, text: &str) -> Result<bool, AllocError> {
         match (self.of, text) {
             (Part::Kind, "S") => self.of = Part::Sender,
             (Part::Sender, "R") => self.of = Part::Receiver,
-            (Part::Kind, _) => match kind_of(text) {
-                Some(kind) => self.kind = kind,
-                None => return Ok(false),
-            },
-            (Part::Sender, _) => match SenderCall::of_word(text) {
-                Some(call) => self.scripts.sends.push(call)?,
-                None => return Ok(false),
-            },
-            (Part::Receiver, _) => match ReceiverCall::of_word(text) {
-                Some(call) => self.scripts.receives.push(call)?,
-                None => return Ok(false),
-            },
+            (Part::Kind, _) => return Ok(self.add_kind(text)),
+            (Part::Sender, _) => return self.add_send(text),
+            (Part::Receiver, _) => return self.add_receive(text),
         }
         Ok(true)
     }
 
-    /// Whether both scripts were there.
-    pub fn is_whole(&self) -> bool {
-        self.of == Part::Receiver
+    fn add_kind(&mut self, text: &str) -> bool {
+        let Some(kind) = kind_of(text) else {
+            return false;
+        };
+        self.kind = kind;
+        true
+    }
+
+    fn add_send(&mut self, text: &str) -> Result<bool, AllocError> {
+        let Some(call) = SenderCall::of_word(text) else {
+            return Ok(false);
+        };
+        self.scripts.sends.push(call)?;
+        Ok(true)
+    }
+
+    fn add_receive(&mut self, text: &str) -> Result<bool, AllocError> {
+        let Some(call) = ReceiverCall::of_word(text) else {
+            return Ok(false);
+        };
+        self.scripts.receives.push(call)?;
+        Ok(true)
     }
 }
 

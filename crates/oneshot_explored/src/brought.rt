@@ -2,12 +2,13 @@
 
 use crate::parcel::Parcel;
 use crate::receives::receive_each;
-use crate::run::{NUMBER, Scripts};
+use crate::run::Scripts;
 use crate::sends::send_each;
 use crate::told::{
     AT_FIRST, AT_SECOND, BEGIN_RECEIVER, BEGIN_SENDER, DISCONNECTED, END_RECEIVER, END_SENDER, GOT,
-    MESSAGE, OPENED, OPENING, READY, REFUSED, RELEASE, SENT, tell,
+    REFUSED, SENT, tell,
 };
+use crate::two::{next_parcel, tell_ready};
 use oneshot_channel::{Receiver, Sender, channel};
 use std::alloc::{AllocError, AllocGlobal};
 use std::random::RandomSource;
@@ -92,21 +93,6 @@ pub fn run_sent_receiver<R: Threads + Wait + Clock + RandomSource + AllocGlobal 
     );
     drop(left);
     Ok(())
-}
-
-/// The message of the second channel, which is opened next. The first is open.
-fn next_parcel<R: Clock + AllocGlobal>(rt: &R) -> Result<Parcel, AllocError> {
-    tell(rt, OPENED);
-    tell(rt, MESSAGE);
-    let parcel = Parcel::new(Box::new(rt.alloc(), NUMBER)?, None);
-    tell(rt, OPENING);
-    Ok(parcel)
-}
-
-fn tell_ready<R: Clock>(rt: &R) {
-    tell(rt, OPENED);
-    tell(rt, RELEASE);
-    tell(rt, READY);
 }
 
 /// Begins the sender's thread, and sends the message.

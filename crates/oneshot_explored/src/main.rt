@@ -16,20 +16,13 @@ mod watched;
 
 use asked::Asked;
 use run::run;
+use std::io;
 use std::process::ExitCode;
-use std::{env, io};
 
 fn main(rt: HostRuntime) -> io::Result<ExitCode> {
-    let mut asked = Asked::new(rt.alloc());
-    for arg in env::args(&rt)?.skip(1) {
-        if !asked.add(arg.as_str())? {
-            return Ok(ExitCode::FAILURE);
-        }
-    }
-    if !asked.is_whole() {
+    let Some(Asked { kind, scripts, .. }) = Asked::read(&rt)? else {
         return Ok(ExitCode::FAILURE);
-    }
-    let Asked { kind, scripts, .. } = asked;
+    };
     run(&rt, kind, scripts)?;
     Ok(ExitCode::SUCCESS)
 }

@@ -48,11 +48,10 @@ pub fn tasks_of<R>(rt: &R, calls: &Vec<ReceiverCall>) -> Option<Tasks>
 where
     R: RandomSource + AllocGlobal,
 {
-    if !calls
-        .iter()
-        .any(|call| matches!(call, ReceiverCall::Future))
-    {
-        return None;
+    for call in calls.iter() {
+        if let ReceiverCall::Future = call {
+            return Tasks::new(rt).ok();
+        }
     }
-    Tasks::new(rt).ok()
+    None
 }

@@ -8,7 +8,7 @@ use crate::sends::send_all;
 use crate::told::{DONE, OPENED, OPENING, READY, RECORD, RELEASE, tell};
 use crate::two::run_two;
 use crate::watched::run_watch;
-use oneshot_calls::{ReceiverCall, SenderCall};
+use oneshot_calls::{ReceiverCall, SenderCall, Tasks};
 use oneshot_channel::reply::request;
 use oneshot_channel::{channel, channel_for};
 use std::alloc::{AllocError, AllocGlobal};
@@ -59,18 +59,18 @@ pub fn run<R: Threads + Wait + Clock + RandomSource + AllocGlobal + Sync>(
     let content = Box::new(rt.alloc(), NUMBER)?;
     tell(rt, OPENING);
     match kind {
-        Kind::Plain => run_plain(rt, scripts, Parcel::new(content, None))?,
-        Kind::Promise => run_promised(rt, scripts, Parcel::new(content, None))?,
-        Kind::Request => run_request(rt, scripts, Parcel::new(content, None))?,
-        Kind::Nested => run_nested(rt, scripts, content)?,
+        Kind::Plain => run_plain(rt, scripts, Parcel::new(content, None)),
+        Kind::Promise => run_promised(rt, scripts, Parcel::new(content, None)),
+        Kind::Request => run_request(rt, scripts, Parcel::new(content, None)),
+        Kind::Nested => run_nested(rt, scripts, content),
         Kind::Watch => {
             drop(content);
-            run_watch(rt, &scripts)?;
+            run_watch(rt, &scripts)
         }
-        Kind::TwoChannels => run_two(rt, &scripts, content)?,
-        Kind::SentSender => run_sent_sender(rt, &scripts, content)?,
-        Kind::SentReceiver => run_sent_receiver(rt, &scripts, content)?,
-    }
+        Kind::TwoChannels => run_two(rt, &scripts, content),
+        Kind::SentSender => run_sent_sender(rt, &scripts, content),
+        Kind::SentReceiver => run_sent_receiver(rt, &scripts, content),
+    }?;
     tell(rt, DONE);
     Ok(())
 }
@@ -79,11 +79,8 @@ pub fn run<R: Threads + Wait + Clock + RandomSource + AllocGlobal + Sync>(
 /// parameters.
 macro_rules! run_ends {
     ($rt:ident, $scripts:ident, $parcel:ident, $sender:ident, $receiver:ident) => {{
-        tell($rt, OPENED);
+        let tasks = make_ready($rt, &$scripts.receives);
         let Scripts { sends, receives } = $scripts;
-        let tasks = tasks_of($rt, &receives);
-        tell($rt, RELEASE);
-        tell($rt, READY);
         // What the sender's script leaves is dropped here, when no end runs any more.
         let mut left = None;
         join(
@@ -93,6 +90,18 @@ macro_rules! run_ends {
         );
         drop(left);
     }};
+}
+
+/// Reports that the channel is open, and makes the tasks before the threads begin.
+fn make_ready<R: Clock + RandomSource + AllocGlobal>(
+    rt: &R,
+    receives: &Vec<ReceiverCall>,
+) -> Option<Tasks> {
+    tell(rt, OPENED);
+    let tasks = tasks_of(rt, receives);
+    tell(rt, RELEASE);
+    tell(rt, READY);
+    tasks
 }
 
 fn run_plain<R: Threads + Wait + Clock + RandomSource + AllocGlobal + Sync>(

@@ -17,7 +17,6 @@ use std::thread::{Threads, join};
 use std::time::Clock;
 
 /// The codes by which a thread reports where it is.
-#[derive(Clone, Copy)]
 struct Codes {
     sends: u64,
     begins: u64,
@@ -25,14 +24,14 @@ struct Codes {
     ends: u64,
 }
 
-const ONE: Codes = Codes {
+const ONE: &Codes = &Codes {
     sends: AT_FIRST,
     begins: BEGIN_SENDER,
     receives: AT_SECOND,
     ends: END_SENDER,
 };
 
-const OTHER: Codes = Codes {
+const OTHER: &Codes = &Codes {
     sends: AT_SECOND,
     begins: BEGIN_RECEIVER,
     receives: AT_FIRST,
@@ -48,15 +47,10 @@ pub fn run_two<R: Threads + Wait + Clock + RandomSource + AllocGlobal + Sync>(
     content: Box<u64>,
 ) -> Result<(), AllocError> {
     let (sender, receiver) = channel(rt, rt.alloc())?;
-    tell(rt, OPENED);
-    tell(rt, MESSAGE);
-    let parcel = Parcel::new(content, None);
-    let answer = Parcel::new(Box::new(rt.alloc(), NUMBER)?, None);
-    tell(rt, OPENING);
+    let answer = next_parcel(rt)?;
     let (back, waits) = channel(rt, rt.alloc())?;
-    tell(rt, OPENED);
-    tell(rt, RELEASE);
-    tell(rt, READY);
+    tell_ready(rt);
+    let parcel = Parcel::new(content, None);
     // What the senders' scripts leave is dropped here, when no end runs any more.
     let mut left = None;
     let mut left_by_other = None;
@@ -70,10 +64,26 @@ pub fn run_two<R: Threads + Wait + Clock + RandomSource + AllocGlobal + Sync>(
     Ok(())
 }
 
+/// The message of the second channel, which is opened next. The first is open.
+pub fn next_parcel<R: Clock + AllocGlobal>(rt: &R) -> Result<Parcel, AllocError> {
+    tell(rt, OPENED);
+    tell(rt, MESSAGE);
+    let parcel = Parcel::new(Box::new(rt.alloc(), NUMBER)?, None);
+    tell(rt, OPENING);
+    Ok(parcel)
+}
+
+/// Reports that both channels are open, and that the threads begin.
+pub fn tell_ready<R: Clock>(rt: &R) {
+    tell(rt, OPENED);
+    tell(rt, RELEASE);
+    tell(rt, READY);
+}
+
 /// Sends by the one script, and then receives by the other.
 fn use_both<R, S, E>(
     rt: &R,
-    codes: Codes,
+    codes: &Codes,
     scripts: &Scripts,
     sender: S,
     parcel: Parcel,

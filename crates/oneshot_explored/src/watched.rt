@@ -95,15 +95,7 @@ impl<Rt: Drop> Watching<Rt> {
                 self.future = Some(watch.into_future());
                 Some(FUTURE)
             }
-            ReceiverCall::Poll(Task::One) => {
-                let mut gone = self.future.take()?;
-                let polled = task.poll(&mut gone);
-                self.future = Some(gone);
-                Some(match polled {
-                    Poll::Ready(()) => DISCONNECTED,
-                    Poll::Pending => PENDING,
-                })
-            }
+            ReceiverCall::Poll(Task::One) => self.poll(task),
             ReceiverCall::Drop => {
                 drop(self.watch.take());
                 drop(self.future.take());
@@ -111,5 +103,15 @@ impl<Rt: Drop> Watching<Rt> {
             }
             _ => None,
         }
+    }
+
+    fn poll(&mut self, task: &MockTask) -> Option<u64> {
+        let mut gone = self.future.take()?;
+        let polled = task.poll(&mut gone);
+        self.future = Some(gone);
+        Some(match polled {
+            Poll::Ready(()) => DISCONNECTED,
+            Poll::Pending => PENDING,
+        })
     }
 }
