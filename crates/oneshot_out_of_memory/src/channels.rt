@@ -1,86 +1,86 @@
 //! Attempts to make a channel, and a request with its channel.
 
-use crate::outcome::{Outcome, Wrong, ensure};
+use crate::counted::{Counted, ensure_dropped};
+use crate::outcome::{Outcome, Wrong, ensure, made_again};
 use futures::executor::block_on;
 use oneshot::reply::{Length, Request, Ticket, request};
-use oneshot::{async_channel, channel};
+use oneshot::{AsyncReceiver, Receiver, Sender, async_channel, channel};
+use std::alloc::AllocError;
 use std::random::RandomSource;
 use std::sync::Wait;
-use std::sync::atomic::{AtomicU64, Ordering};
-
-/// A runtime whose drop is counted.
-pub(crate) struct Counted<'a, R> {
-    _rt: &'a R,
-    drops: &'a AtomicU64,
-}
-
-impl<'a, R> Drop for Counted<'a, R> {
-    fn drop(self) {
-        let Counted { _rt: _, drops } = self;
-        drops.fetch_add(1, Ordering::SeqCst);
-    }
-}
-
-impl<'a, R> Counted<'a, R> {
-    pub(crate) fn new(rt: &'a R, drops: &'a AtomicU64) -> Counted<'a, R> {
-        Counted { _rt: rt, drops }
-    }
-}
+use std::sync::atomic::AtomicU64;
 
 /// The question of a request.
 pub(crate) const TEXT: &str = "data from sync thread";
 
 /// Calls `channel`. A refusal has to drop the runtime.
-pub(crate) fn make_channel(rt: &impl AllocGlobal) -> Result<Outcome, Wrong> {
-    let drops = AtomicU64::new(0);
-    if channel::<u8, _>(Counted::new(rt, &drops), rt.alloc()).is_ok() {
+pub(crate) fn make_channel<R: AllocGlobal>(rt: &R, drops: &AtomicU64) -> Result<Outcome, Wrong> {
+    if open(rt, drops).is_ok() {
         return Ok(Outcome::Made);
     }
-    ensure(drops.load(Ordering::SeqCst) == 1, Wrong::RuntimeKept)?;
-    let (sender, mut receiver) = channel(Counted::new(rt, &drops), rt.alloc())?;
-    ensure(sender.send(7).is_ok(), Wrong::Broken)?;
-    ensure(receiver.try_recv() == Ok(7), Wrong::Broken)?;
-    Ok(Outcome::Refused)
+    ensure_dropped(drops, 1)?;
+    let (sender, receiver) = open(rt, drops)?;
+    made_again(carries(sender, receiver))
+}
+
+fn open<'a, R: AllocGlobal>(
+    rt: &'a R,
+    drops: &'a AtomicU64,
+) -> Result<(Sender<u8>, Receiver<u8, Counted<'a, R>>), AllocError> {
+    channel(Counted::new(rt, drops), rt.alloc())
+}
+
+/// Whether a message goes through a channel.
+fn carries<Rt: Drop>(sender: Sender<u8>, mut receiver: Receiver<u8, Rt>) -> bool {
+    sender.send(7).is_ok() && matches!(receiver.try_recv(), Ok(7))
 }
 
 /// Calls `async_channel`. A refusal has to drop the runtime.
-pub(crate) fn make_async_channel(
-    rt: &(impl Wait + RandomSource + AllocGlobal),
+pub(crate) fn make_async_channel<R: Wait + RandomSource + AllocGlobal>(
+    rt: &R,
+    drops: &AtomicU64,
 ) -> Result<Outcome, Wrong> {
-    let drops = AtomicU64::new(0);
-    if async_channel::<u8, _>(Counted::new(rt, &drops), rt.alloc()).is_ok() {
+    if open_async(rt, drops).is_ok() {
         return Ok(Outcome::Made);
     }
-    ensure(drops.load(Ordering::SeqCst) == 1, Wrong::RuntimeKept)?;
-    let (sender, receiver) = async_channel(Counted::new(rt, &drops), rt.alloc())?;
+    ensure_dropped(drops, 1)?;
+    let (sender, receiver) = open_async(rt, drops)?;
     ensure(sender.send(7).is_ok(), Wrong::Broken)?;
-    let received = block_on(rt, receiver).map_err(|_| Wrong::RefusedAgain)?;
-    ensure(received == Ok(7), Wrong::Broken)?;
-    Ok(Outcome::Refused)
+    match block_on(rt, receiver) {
+        Ok(received) => made_again(matches!(received, Ok(7))),
+        Err(_) => Err(Wrong::RefusedAgain),
+    }
+}
+
+fn open_async<'a, R: AllocGlobal>(
+    rt: &'a R,
+    drops: &'a AtomicU64,
+) -> Result<(Sender<u8>, AsyncReceiver<u8, Counted<'a, R>>), AllocError> {
+    async_channel(Counted::new(rt, drops), rt.alloc())
 }
 
 /// Calls `request`, after an allocation for the question. A refusal has to return it, and drop the runtime.
-pub(crate) fn make_request(rt: &impl AllocGlobal) -> Result<Outcome, Wrong> {
-    let drops = AtomicU64::new(0);
+pub(crate) fn make_request<R: AllocGlobal>(rt: &R, drops: &AtomicU64) -> Result<Outcome, Wrong> {
     let question = String::from_str(rt.alloc(), TEXT)?;
-    let first = request::<_, Length, _>(Counted::new(rt, &drops), rt.alloc(), question);
-    let Err(question) = first else {
-        return Ok(Outcome::Made);
-    };
-    ensure(drops.load(Ordering::SeqCst) == 1, Wrong::RuntimeKept)?;
-    request_again(rt, Counted::new(rt, &drops), question)
+    let first = request::<_, Length, _>(Counted::new(rt, drops), rt.alloc(), question);
+    match first {
+        Ok(_) => Ok(Outcome::Made),
+        Err(question) => request_again(rt, drops, question),
+    }
 }
 
 /// Makes a request with the question that a refusal returned, and takes the reply.
 fn request_again<R: AllocGlobal>(
     rt: &R,
-    runtime: Counted<'_, R>,
+    drops: &AtomicU64,
     question: String,
 ) -> Result<Outcome, Wrong> {
+    ensure_dropped(drops, 1)?;
     ensure(question.as_str() == TEXT, Wrong::QuestionChanged)?;
-    let second = request(runtime, rt.alloc(), question);
-    let (request, ticket) = second.map_err(|_| Wrong::RefusedAgain)?;
-    take_reply(request, ticket)
+    match request(Counted::new(rt, drops), rt.alloc(), question) {
+        Ok((request, ticket)) => take_reply(request, ticket),
+        Err(_) => Err(Wrong::RefusedAgain),
+    }
 }
 
 /// Answers a request, and takes the reply by its ticket.
@@ -88,10 +88,15 @@ fn take_reply<Rt: Drop>(
     request: Request<String, Length>,
     mut ticket: Ticket<String, Length, Rt>,
 ) -> Result<Outcome, Wrong> {
+    ensure(answers(request)?, Wrong::Broken)?;
+    match ticket.try_take() {
+        Ok(reply) => made_again(reply.bytes() == 21),
+        Err(_) => Err(Wrong::Broken),
+    }
+}
+
+/// Answers a request. Returns whether the reply fits and was sent.
+fn answers(request: Request<String, Length>) -> Result<bool, AllocError> {
     let length = Length::of(request.question().clone()?);
-    ensure(request.fits(&length), Wrong::Broken)?;
-    ensure(request.answer(length).is_ok(), Wrong::Broken)?;
-    let bytes = ticket.try_take().map(|reply| reply.bytes());
-    ensure(bytes == Ok(21), Wrong::Broken)?;
-    Ok(Outcome::Refused)
+    Ok(request.fits(&length) && request.answer(length).is_ok())
 }

@@ -7,17 +7,19 @@
 #![tactic(auto)]
 
 mod channels;
+mod counted;
 mod outcome;
 mod traces;
 mod watches;
 
-use outcome::Wrong;
+use outcome::{Outcome, Wrong};
 use std::alloc::{AllocError, Global};
 use std::io::Read;
 use std::process::ExitCode;
 use std::random::RandomSource;
 use std::str;
 use std::sync::Wait;
+use std::sync::atomic::AtomicU64;
 
 /// How many bytes of the input are read: without an allocation, so that all are of what is made.
 const MOST: usize = 64;
@@ -27,8 +29,7 @@ fn main(rt: HostRuntime) -> ExitCode {
     let count = rt.stdin().read(&mut bytes).unwrap_or(0);
     for line in str::from_utf8(&bytes[..count]).unwrap_or("").lines() {
         if let Err(wrong) = answer(&rt, line) {
-            // If standard error fails too, the status alone reports the fault.
-            let _ = eprintln!(rt; "{line}: {wrong}");
+            report(&rt, line, &wrong);
             return ExitCode::FAILURE;
         }
     }
@@ -38,17 +39,26 @@ fn main(rt: HostRuntime) -> ExitCode {
 /// Makes what this line names, and prints what came of it.
 fn answer(rt: &(impl Print + Wait + RandomSource + AllocGlobal), line: &str) -> Result<(), Wrong> {
     let (name, number) = line.split_once(' ').unwrap_or((line, "0"));
-    spend(rt.alloc(), number.parse().map_err(|_| Wrong::UnknownName)?)?;
+    spend(rt.alloc(), count_of(number)?)?;
+    let drops = AtomicU64::new(0);
     let outcome = match name {
-        "channel" => channels::make_channel(rt),
-        "async_channel" => channels::make_async_channel(rt),
-        "request" => channels::make_request(rt),
-        "watch" => watches::make_watch(rt),
-        "cancellable_request" => watches::make_cancellable_request(rt),
-        "replay" => traces::make_trace(rt),
+        "channel" => channels::make_channel(rt, &drops),
+        "async_channel" => channels::make_async_channel(rt, &drops),
+        "request" => channels::make_request(rt, &drops),
+        "watch" => watches::make_watch(rt, &drops),
+        "cancellable_request" => watches::make_cancellable_request(rt, &drops),
+        "replay" => traces::make_trace(rt.alloc()),
         _ => Err(Wrong::UnknownName),
     }?;
-    println!(rt; "{name}: {outcome}").map_err(|_| Wrong::WriteFailed)
+    print(rt, name, outcome)
+}
+
+/// Reads how many allocations come before what is made.
+fn count_of(number: &str) -> Result<u8, Wrong> {
+    match number.parse() {
+        Ok(count) => Ok(count),
+        Err(_) => Err(Wrong::UnknownName),
+    }
 }
 
 /// Makes `count` allocations, and frees each at once.
@@ -57,4 +67,19 @@ fn spend(alloc: Global, count: u8) -> Result<(), AllocError> {
         let _spent: Box<u8> = Box::new(alloc, 0)?;
     }
     Ok(())
+}
+
+/// Prints what came of an attempt.
+fn print(rt: &impl Print, name: &str, outcome: Outcome) -> Result<(), Wrong> {
+    let text = outcome.text();
+    match println!(rt; "{name}: {text}") {
+        Ok(()) => Ok(()),
+        Err(_) => Err(Wrong::WriteFailed),
+    }
+}
+
+/// Reports what is wrong. If standard error fails too, the status alone reports it.
+fn report(rt: &impl Eprint, line: &str, wrong: &Wrong) {
+    let text = wrong.text();
+    let _ = eprintln!(rt; "{line}: {text}");
 }
