@@ -1,18 +1,16 @@
 //! The example in the crate's documentation: a thread replies to texts with their lengths, which the asker
 //! receives by blocking and by awaiting; and the same by typed requests.
 
+use super::ends::ends;
 use super::times::{assert_woken_since, now};
 use crossbeam_channel as queue;
 use futures::executor::block_on;
-use oneshot::reply::{self, Length};
-use oneshot::{RecvError, RecvTimeoutError, Sender, channel};
+use oneshot::reply::{self, Length, Ticket};
+use oneshot::{Receiver, RecvError, RecvTimeoutError, Sender};
+use oneshot_asserts::{Asserts, assert_same};
 use oneshot_calls::limit;
-use std::alloc::{AllocError, AllocGlobal};
-use std::io;
-use std::process::Abort;
 use std::random::RandomSource;
 use std::sync::Wait;
-use std::test::Fail;
 use std::thread::spawn;
 use std::time::Clock;
 
@@ -32,64 +30,66 @@ fn process(rt: &impl Wait, requests: queue::Receiver<Request>) {
     }
 }
 
-/// Asks for the length of `text`. `false`: the thread is gone.
-fn ask(
-    rt: &(impl Wait + AllocGlobal),
+/// Asks for the length of `text`, and returns the receiver of the answer. Fails if the thread is gone.
+fn ask<'r, R: Wait + AllocGlobal + Asserts>(
+    rt: &'r R,
     requests: &queue::Sender<Request>,
     text: &str,
-    reply: Sender<usize>,
-) -> Result<bool, AllocError> {
-    let text = String::from_str(rt.alloc(), text)?;
-    Ok(requests.send(rt, Request { text, reply }).is_ok())
+) -> Receiver<usize, &'r R> {
+    let text = String::from_str(rt.alloc(), text).expect(rt, "memory");
+    let (reply, answer) = ends(rt);
+    assert!(rt; requests.send(rt, Request { text, reply }).is_ok());
+    answer
 }
 
-/// Asks for the length of `text`, and blocks until it comes. Returns what `ask` returned, and what was received.
-fn ask_and_block(
-    rt: &(impl Wait + Clock + AllocGlobal + Abort),
+/// Asks for the length of `text`, and blocks until it comes.
+fn ask_and_block<R: Wait + Clock + AllocGlobal + Asserts>(
+    rt: &R,
     requests: &queue::Sender<Request>,
     text: &str,
-) -> Result<(bool, Result<usize, RecvTimeoutError>), AllocError> {
-    let (reply, mut answer) = channel(rt, rt.alloc())?;
-    let asked = ask(rt, requests, text, reply)?;
+) -> Result<usize, RecvTimeoutError> {
+    let mut answer = ask(rt, requests, text);
     let start = now(rt);
     let received = answer.recv_timeout(limit());
     assert_woken_since(rt, start);
-    Ok((asked, received))
+    received
 }
 
-/// Asks for the length of `text`, and awaits it. Returns what `ask` returned, and what was received.
-fn ask_and_await(
-    rt: &(impl Wait + Clock + RandomSource + AllocGlobal),
+/// Asks for the length of `text`, and awaits it.
+fn ask_and_await<R: Wait + RandomSource + AllocGlobal + Asserts>(
+    rt: &R,
     requests: &queue::Sender<Request>,
     text: &str,
-) -> io::Result<(bool, Result<usize, RecvError>)> {
-    let (reply, answer) = channel(rt, rt.alloc())?;
-    let asked = ask(rt, requests, text, reply)?;
-    Ok((asked, block_on(rt, answer.into_future())?))
+) -> Result<usize, RecvError> {
+    let answer = ask(rt, requests, text);
+    block_on(rt, answer.into_future()).expect(rt, "memory")
+}
+
+/// Fails unless each text's length comes to whoever blocks for it, and to whoever awaits it.
+fn assert_lengths<R: Wait + Clock + RandomSource + AllocGlobal + Asserts>(
+    rt: &R,
+    requests: &queue::Sender<Request>,
+) {
+    for (text, length) in [("", 0), ("lengths", 7), ("a processing thread", 19)] {
+        assert_same!(rt; ask_and_block(rt, requests, text), Ok(length));
+        assert_same!(rt; ask_and_await(rt, requests, text), Ok(length));
+    }
 }
 
 #[test]
-fn a_processing_thread_answers_lengths(rt: HostRuntime) -> Result<(), Fail> {
-    let (requests, taken) = queue::unbounded(rt.alloc())?;
-    let processor = spawn(&rt, move || process(&rt, taken))?;
-    for (text, length) in [("", 0), ("lengths", 7), ("a processing thread", 19)] {
-        let blocked = ask_and_block(&rt, &requests, text)?;
-        let awaited = ask_and_await(&rt, &requests, text)?;
-        assert_eq!(rt;
-            (blocked, awaited),
-            ((true, Ok(length)), (true, Ok(length)))
-        );
-    }
+fn a_processing_thread_answers_lengths(rt: HostRuntime) {
+    let (requests, taken) = queue::unbounded(rt.alloc()).expect(&rt, "memory");
+    let processor = spawn(&rt, move || process(&rt, taken)).expect(&rt, "a thread");
+    assert_lengths(&rt, &requests);
     drop(requests);
     processor.join(&rt);
-    Ok(())
 }
 
 /// A text whose length is asked for.
 type Typed = reply::Request<String, Length>;
 
 /// Answers a request with its text's length.
-fn answer_typed(rt: &impl Abort, request: Typed) {
+fn answer_typed(rt: &impl Asserts, request: Typed) {
     let length = Length::of(request.question().clone().ok().expect(rt, "memory"));
     if request.fits(&length) {
         // A ticket that is gone needs no reply.
@@ -98,36 +98,55 @@ fn answer_typed(rt: &impl Abort, request: Typed) {
 }
 
 /// Answers each request with its text's length, until nobody can send one any more.
-fn process_typed(rt: &(impl Wait + Abort), requests: queue::Receiver<Typed>) {
+fn process_typed(rt: &(impl Wait + Asserts), requests: queue::Receiver<Typed>) {
     for request in requests.iter(rt) {
         answer_typed(rt, request);
     }
 }
 
-/// Asks for the length of `text`, and waits for it. Returns whether the request was sent, and the length that came.
-fn ask_typed(
-    rt: &(impl Wait + Clock + AllocGlobal + Abort),
+/// Asks for the length of `text`, and returns the ticket for the reply. Fails if the thread is gone.
+fn ask_typed<'r, R: Wait + AllocGlobal + Asserts>(
+    rt: &'r R,
     requests: &queue::Sender<Typed>,
     text: &str,
-) -> Result<(bool, Result<usize, RecvTimeoutError>), AllocError> {
-    let question = String::from_str(rt.alloc(), text)?;
-    let (request, mut ticket) = reply::request(rt, rt.alloc(), question).map_err(|_| AllocError)?;
-    let sent = requests.send(rt, request).is_ok();
+) -> Ticket<String, Length, &'r R> {
+    let question = String::from_str(rt.alloc(), text).expect(rt, "memory");
+    let (request, ticket) = reply::request(rt, rt.alloc(), question).expect(rt, "memory");
+    assert!(rt; requests.send(rt, request).is_ok());
+    ticket
+}
+
+/// Asks for the length of `text`, and waits for it.
+fn ask_and_wait<R: Wait + Clock + AllocGlobal + Asserts>(
+    rt: &R,
+    requests: &queue::Sender<Typed>,
+    text: &str,
+) -> Result<usize, RecvTimeoutError> {
+    let mut ticket = ask_typed(rt, requests, text);
     let start = now(rt);
     let reply = ticket.wait_for(limit());
     assert_woken_since(rt, start);
-    Ok((sent, reply.map(|length| length.bytes())))
+    match reply {
+        Ok(length) => Ok(length.bytes()),
+        Err(error) => Err(error),
+    }
+}
+
+/// Fails unless each text's length comes.
+fn assert_typed_lengths<R: Wait + Clock + AllocGlobal + Asserts>(
+    rt: &R,
+    requests: &queue::Sender<Typed>,
+) {
+    for (text, bytes) in [("", 0), ("t", 1), ("data from sync thread", 21)] {
+        assert_same!(rt; ask_and_wait(rt, requests, text), Ok(bytes));
+    }
 }
 
 #[test]
-fn a_processing_thread_answers_typed_requests(rt: HostRuntime) -> Result<(), Fail> {
-    let (requests, taken) = queue::unbounded(rt.alloc())?;
-    let processor = spawn(&rt, move || process_typed(&rt, taken))?;
-    for (text, bytes) in [("", 0), ("t", 1), ("data from sync thread", 21)] {
-        let replied = ask_typed(&rt, &requests, text)?;
-        assert_eq!(rt; replied, (true, Ok(bytes)));
-    }
+fn a_processing_thread_answers_typed_requests(rt: HostRuntime) {
+    let (requests, taken) = queue::unbounded(rt.alloc()).expect(&rt, "memory");
+    let processor = spawn(&rt, move || process_typed(&rt, taken)).expect(&rt, "a thread");
+    assert_typed_lengths(&rt, &requests);
     drop(requests);
     processor.join(&rt);
-    Ok(())
 }

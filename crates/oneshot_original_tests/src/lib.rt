@@ -12,6 +12,8 @@ mod counted;
 #[cfg(test)]
 mod documentation;
 #[cfg(test)]
+mod ends;
+#[cfg(test)]
 mod examples;
 #[cfg(test)]
 mod future;

@@ -1,33 +1,30 @@
 //! The tests of `tests/raw.rs`: ends made into raw values, and into ends again.
 
-use oneshot::{Receiver, Sender, channel};
-use std::test::Fail;
+use super::ends::idle_ends;
+use oneshot::{Receiver, Sender};
+use oneshot_asserts::assert_same;
 
 #[test]
-fn test_raw_sender(rt: HostRuntime) -> Result<(), Fail> {
-    let (sender, mut receiver) = channel::<u32, ()>((), rt.alloc())?;
+fn test_raw_sender(rt: HostRuntime) {
+    let (sender, mut receiver) = idle_ends(&rt);
     let sender = Sender::from_raw(sender.into_raw());
-    let sent = sender.send(100).is_ok();
-    assert_eq!(rt; (sent, receiver.try_recv()), (true, Ok(100)));
-    Ok(())
+    assert!(rt; sender.send(100u32).is_ok());
+    assert_same!(rt; receiver.try_recv(), Ok(100));
 }
 
 #[test]
-fn test_raw_receiver(rt: HostRuntime) -> Result<(), Fail> {
-    let (sender, receiver) = channel::<u32, ()>((), rt.alloc())?;
+fn test_raw_receiver(rt: HostRuntime) {
+    let (sender, receiver) = idle_ends(&rt);
     let opaque = receiver.into_raw();
-    let sent = sender.send(100).is_ok();
+    assert!(rt; sender.send(100u32).is_ok());
     let mut receiver = Receiver::from_raw(opaque);
-    assert_eq!(rt; (sent, receiver.try_recv()), (true, Ok(100)));
-    Ok(())
+    assert_same!(rt; receiver.try_recv(), Ok(100));
 }
 
 #[test]
-fn test_raw_sender_and_receiver(rt: HostRuntime) -> Result<(), Fail> {
-    let (sender, receiver) = channel::<u32, ()>((), rt.alloc())?;
+fn test_raw_sender_and_receiver(rt: HostRuntime) {
+    let (sender, receiver) = idle_ends(&rt);
     let ends = (sender.into_raw(), receiver.into_raw());
-    let sent = Sender::from_raw(ends.0).send(100).is_ok();
-    let received = Receiver::from_raw(ends.1).try_recv();
-    assert_eq!(rt; (sent, received), (true, Ok(100)));
-    Ok(())
+    assert!(rt; Sender::from_raw(ends.0).send(100u32).is_ok());
+    assert_same!(rt; Receiver::from_raw(ends.1).try_recv(), Ok(100));
 }

@@ -3,142 +3,148 @@
 //! Left out: `non_send_type_can_be_used_on_same_thread`, since a message's type is `Send` here.
 
 use super::counted::Drops;
-use super::threads::{AT_ONCE, Act, By, Pace, ROUNDS, assert_outcomes};
-use super::times::{in_time, second, tenth};
-use oneshot::{RecvError, RecvTimeoutError, SendError, TryRecvError, channel};
-use std::alloc::{AllocError, Global};
-use std::process::Abort;
+use super::ends::{ends, idle_ends};
+use super::threads::{Act, By, Pace, ROUNDS, assert_outcomes, assert_raced};
+use super::times::{in_time, now, second, tenth, time_since};
+use oneshot::{Receiver, RecvError, RecvTimeoutError, SendError, TryRecvError};
+use oneshot_asserts::{Asserts, assert_same};
+use std::fmt::Debug;
 use std::sync::Wait;
-use std::test::Fail;
-use std::time::{Clock, Duration, Instant};
+use std::time::{Clock, Duration};
 
-#[test]
-fn send_before_try_recv(rt: HostRuntime) -> Result<(), Fail> {
-    let (sender, mut receiver) = channel(&rt, rt.alloc())?;
-    let before = receiver.has_message();
-    let sent = sender.send(19i128).is_ok();
-    let there = (receiver.has_message(), receiver.try_recv());
-    let after = (receiver.has_message(), receiver.try_recv());
-    let closed = Err(TryRecvError::Disconnected);
-    assert_eq!(rt;
-        (before, sent, there, after),
-        (false, true, (true, Ok(19)), (false, closed))
-    );
-    let blocked = (receiver.recv_ref(), receiver.recv_timeout(second()));
-    assert_eq!(rt;
-        blocked,
-        (Err(RecvError), Err(RecvTimeoutError::Disconnected))
-    );
-    Ok(())
-}
-
-// Sends `message` and then receives it. `None`: it was refused or did not come.
-fn carried<R: Wait + Clock, T: Send + Drop>(
-    rt: &R,
-    alloc: Global,
-    message: T,
-) -> Result<Option<T>, AllocError> {
-    let (sender, receiver) = channel(rt, alloc)?;
-    if sender.send(message).is_err() {
-        return Ok(None);
-    }
-    Ok(receiver.recv().ok())
+// Fails unless the first try gets the message, and another finds that none will come.
+fn assert_tried_once<R>(rt: &impl Asserts, receiver: &mut Receiver<i128, &R>) {
+    assert!(rt; receiver.has_message());
+    assert_same!(rt; receiver.try_recv(), Ok(19));
+    assert!(rt; !receiver.has_message());
+    assert_same!(rt; receiver.try_recv(), Err(TryRecvError::Disconnected));
 }
 
 #[test]
-fn send_before_recv(rt: HostRuntime) -> Result<(), Fail> {
-    let empty = carried(&rt, rt.alloc(), ())?;
-    let byte = carried(&rt, rt.alloc(), 19u8)?;
-    let word = carried(&rt, rt.alloc(), 21u64)?;
-    assert_eq!(rt; (empty, byte, word), (Some(()), Some(19), Some(21)));
-    let page = [0b1010_1010u8; 4096];
-    let received = carried(&rt, rt.alloc(), page)?;
-    assert!(rt; received.is_some_and(|bytes| bytes.as_slice() == page.as_slice()));
-    Ok(())
-}
-
-#[test]
-fn send_before_recv_ref(rt: HostRuntime) -> Result<(), Fail> {
-    let (sender, mut receiver) = channel(&rt, rt.alloc())?;
-    assert!(rt; sender.send(19i128).is_ok());
-    assert_eq!(rt; (receiver.recv_ref(), receiver.is_closed()), (Ok(19), true));
-    let by_ref = receiver.recv_ref();
-    let tried = receiver.try_recv();
+fn send_before_try_recv(rt: HostRuntime) {
+    let (sender, mut receiver) = ends(&rt);
+    assert!(rt; !receiver.has_message());
+    assert!(rt; sender.send(19).is_ok());
+    assert_tried_once(&rt, &mut receiver);
+    assert_same!(rt; receiver.recv_ref(), Err(RecvError));
     let timed = receiver.recv_timeout(second());
-    let closed = (
-        Err(RecvError),
-        Err(TryRecvError::Disconnected),
-        Err(RecvTimeoutError::Disconnected),
-    );
-    assert_eq!(rt; (by_ref, tried, timed), closed);
-    Ok(())
+    assert_same!(rt; timed, Err(RecvTimeoutError::Disconnected));
+}
+
+// Sends `message`, and then receives it. Fails if it is refused. `None`: it did not come.
+fn carried<R: Wait + Clock + AllocGlobal + Asserts, T: Send + Drop>(
+    rt: &R,
+    message: T,
+) -> Option<T> {
+    let (sender, receiver) = ends(rt);
+    assert!(rt; sender.send(message).is_ok());
+    receiver.recv().ok()
 }
 
 #[test]
-fn send_before_recv_timeout(rt: HostRuntime) -> Result<(), Fail> {
-    in_time(&rt, |slept| {
-        let (sender, mut receiver) = channel(&rt, rt.alloc())?;
-        let sent = sender.send(19i128).is_ok();
-        let before = Instant::now(&rt)?;
-        let received = receiver.recv_timeout(second());
-        let took = before.elapsed(&rt)?;
-        let timed = receiver.recv_timeout(second());
-        let tried = receiver.try_recv();
-        let closed = (
-            Err(RecvTimeoutError::Disconnected),
-            Err(TryRecvError::Disconnected),
-        );
-        assert_eq!(rt; (sent, received, (timed, tried)), (true, Ok(19), closed));
-        assert_eq!(rt; receiver.recv(), Err(RecvError));
-        Ok(took < slept)
-    })
+fn send_before_recv(rt: HostRuntime) {
+    assert_same!(rt; carried(&rt, ()), Some(()));
+    assert_same!(rt; carried(&rt, 19u8), Some(19));
+    assert_same!(rt; carried(&rt, 21u64), Some(21));
+    let page = [0b1010_1010u8; 4096];
+    let received = carried(&rt, page).expect(&rt, "the page");
+    assert!(rt; received.as_slice() == page.as_slice());
+}
+
+// Fails unless these calls, which leave the receiver, find that no message will come.
+fn assert_ended<R: Wait + Clock + Asserts>(rt: &R, receiver: &mut Receiver<i128, &R>) {
+    assert_same!(rt; receiver.recv_ref(), Err(RecvError));
+    assert_same!(rt; receiver.try_recv(), Err(TryRecvError::Disconnected));
+    let timed = receiver.recv_timeout(second());
+    assert_same!(rt; timed, Err(RecvTimeoutError::Disconnected));
 }
 
 #[test]
-fn send_then_drop_receiver(rt: HostRuntime) -> Result<(), Fail> {
-    let (sender, receiver) = channel::<_, ()>((), rt.alloc())?;
-    let sent = sender.send(19i128);
+fn send_before_recv_ref(rt: HostRuntime) {
+    let (sender, mut receiver) = ends(&rt);
+    assert!(rt; sender.send(19).is_ok());
+    assert_same!(rt; receiver.recv_ref(), Ok(19));
+    assert!(rt; receiver.is_closed());
+    assert_ended(&rt, &mut receiver);
+}
+
+// How long a receive by a timeout takes. Fails unless it returns `wanted`.
+fn time_of_timeout<R: Wait + Clock + Asserts, T: PartialEq + Debug + Drop>(
+    rt: &R,
+    receiver: &mut Receiver<T, &R>,
+    timeout: Duration,
+    wanted: Result<T, RecvTimeoutError>,
+) -> Duration {
+    let start = now(rt);
+    let received = receiver.recv_timeout(timeout);
+    let took = time_since(rt, start);
+    assert_same!(rt; received, wanted);
+    took
+}
+
+// Fails unless these calls, of which the last consumes the receiver, find that no message will come.
+fn assert_ended_to_the_last<R: Wait + Clock + Asserts>(rt: &R, mut receiver: Receiver<i128, &R>) {
+    let timed = receiver.recv_timeout(second());
+    assert_same!(rt; timed, Err(RecvTimeoutError::Disconnected));
+    assert_same!(rt; receiver.try_recv(), Err(TryRecvError::Disconnected));
+    assert_same!(rt; receiver.recv(), Err(RecvError));
+}
+
+// How long the receive of a message takes that was sent before. Fails unless later receives find that none will come.
+fn time_after_send<R: Wait + Clock + AllocGlobal + Asserts>(rt: &R) -> Duration {
+    let (sender, mut receiver) = ends(rt);
+    assert!(rt; sender.send(19).is_ok());
+    let took = time_of_timeout(rt, &mut receiver, second(), Ok(19));
+    assert_ended_to_the_last(rt, receiver);
+    took
+}
+
+#[test]
+fn send_before_recv_timeout(rt: HostRuntime) {
+    in_time(&rt, 1, || time_after_send(&rt));
+}
+
+// Sends `message`, and returns the receiver.
+fn sent<T: Send + Drop>(rt: &(impl AllocGlobal + Asserts), message: T) -> Receiver<T, ()> {
+    let (sender, receiver) = idle_ends(rt);
+    assert!(rt; sender.send(message).is_ok());
+    receiver
+}
+
+#[test]
+fn send_then_drop_receiver(rt: HostRuntime) {
+    let receiver = sent(&rt, 19i128);
     drop(receiver);
-    assert!(rt; sent.is_ok());
-    Ok(())
 }
 
 // Returns the error of a send whose receiver is gone.
-fn refused<T: Send + Drop>(
-    rt: &impl Abort,
-    alloc: Global,
-    message: T,
-) -> Result<SendError<T>, AllocError> {
-    let (sender, _) = channel::<T, ()>((), alloc)?;
+fn refused<T: Send + Drop>(rt: &(impl AllocGlobal + Asserts), message: T) -> SendError<T> {
+    let (sender, _) = idle_ends(rt);
     match sender.send(message) {
         Ok(()) => panic!(rt; "the receiver is gone"),
-        Err(error) => Ok(error),
+        Err(error) => error,
     }
 }
 
 #[test]
-fn send_with_dropped_receiver(rt: HostRuntime) -> Result<(), Fail> {
-    let error = refused(&rt, rt.alloc(), 5u128)?;
-    let seen = *error.as_inner();
-    assert_eq!(rt; (seen, error.into_inner()), (5, 5));
-    Ok(())
+fn send_with_dropped_receiver(rt: HostRuntime) {
+    let error = refused(&rt, 5u128);
+    assert_same!(rt; *error.as_inner(), 5);
+    assert_same!(rt; error.into_inner(), 5);
 }
 
 #[test]
-fn try_recv_with_dropped_sender(rt: HostRuntime) -> Result<(), Fail> {
-    let (_, mut receiver) = channel::<u128, ()>((), rt.alloc())?;
-    let found = receiver.has_message();
-    let received = receiver.try_recv();
-    assert_eq!(rt; (found, received), (false, Err(TryRecvError::Disconnected)));
-    Ok(())
+fn try_recv_with_dropped_sender(rt: HostRuntime) {
+    let (_, mut receiver) = idle_ends::<u128, _>(&rt);
+    assert!(rt; !receiver.has_message());
+    assert_same!(rt; receiver.try_recv(), Err(TryRecvError::Disconnected));
 }
 
 #[test]
-fn recv_with_dropped_sender(rt: HostRuntime) -> Result<(), Fail> {
-    let (_, receiver) = channel::<u128, _>(&rt, rt.alloc())?;
+fn recv_with_dropped_sender(rt: HostRuntime) {
+    let (_, receiver) = ends::<u128, _>(&rt);
     assert!(rt; receiver.is_closed());
-    assert_eq!(rt; receiver.recv(), Err(RecvError));
-    Ok(())
+    assert_same!(rt; receiver.recv(), Err(RecvError));
 }
 
 const SEND: Act<u128> = Act("send into", 9);
@@ -152,13 +158,13 @@ const IN_A_WHILE: Pace = Pace {
 };
 
 #[test]
-fn recv_before_send(rt: HostRuntime) -> Result<(), Fail> {
+fn recv_before_send(rt: HostRuntime) {
     let outcomes = [("Ok", "Ok(9)")];
-    assert_outcomes(&rt, IN_A_WHILE, SEND, By::Receiver("recv"), &outcomes)
+    assert_outcomes(&rt, IN_A_WHILE, SEND, By::Receiver("recv"), &outcomes);
 }
 
 #[test]
-fn recv_timeout_before_send(rt: HostRuntime) -> Result<(), Fail> {
+fn recv_timeout_before_send(rt: HostRuntime) {
     let outcomes = [("Ok", "Ok(9)")];
     assert_outcomes(
         &rt,
@@ -166,7 +172,7 @@ fn recv_timeout_before_send(rt: HostRuntime) -> Result<(), Fail> {
         SEND,
         By::Receiver("longtimeout"),
         &outcomes,
-    )
+    );
 }
 
 /// A drop after a longer while.
@@ -176,136 +182,132 @@ const LATER: Pace = Pace {
 };
 
 #[test]
-fn recv_before_send_then_drop_sender(rt: HostRuntime) -> Result<(), Fail> {
+fn recv_before_send_then_drop_sender(rt: HostRuntime) {
     let outcomes = [("dropped", "Err(RecvError)")];
-    assert_outcomes(&rt, LATER, DROP, By::Receiver("recv"), &outcomes)
+    assert_outcomes(&rt, LATER, DROP, By::Receiver("recv"), &outcomes);
 }
 
 #[test]
-fn recv_timeout_before_send_then_drop_sender(rt: HostRuntime) -> Result<(), Fail> {
+fn recv_timeout_before_send_then_drop_sender(rt: HostRuntime) {
     let outcomes = [("dropped", "Err(Disconnected)")];
-    assert_outcomes(&rt, LATER, DROP, By::Receiver("longtimeout"), &outcomes)
+    assert_outcomes(&rt, LATER, DROP, By::Receiver("longtimeout"), &outcomes);
 }
 
 #[test]
-fn try_recv(rt: HostRuntime) -> Result<(), Fail> {
-    let (sender, mut receiver) = channel::<u128, ()>((), rt.alloc())?;
-    let received = receiver.try_recv();
+fn try_recv(rt: HostRuntime) {
+    let (sender, mut receiver) = idle_ends::<u128, _>(&rt);
+    assert_same!(rt; receiver.try_recv(), Err(TryRecvError::Empty));
     drop(sender);
-    assert_eq!(rt; received, Err(TryRecvError::Empty));
-    Ok(())
 }
 
 #[test]
-fn try_recv_then_drop_receiver(rt: HostRuntime) -> Result<(), Fail> {
+fn try_recv_then_drop_receiver(rt: HostRuntime) {
     let send = Act("send into", 42u128);
     let outcomes = [("Ok", "Ok(42)"), ("Ok", "Err(Empty)"), ("42", "Err(Empty)")];
-    assert_outcomes(&rt, AT_ONCE, send, By::Receiver("try"), &outcomes)
+    assert_raced(&rt, send, By::Receiver("try"), &outcomes);
 }
 
-// How long `receive` takes, which gets the instant of its start. Fails unless it times out. `call` names it.
-fn timed_out<T: Drop, F: FnOnce(Instant) -> Result<T, RecvTimeoutError>>(
-    rt: &(impl Clock + Abort),
-    call: &str,
-    receive: F,
-) -> Result<Duration, Fail>
-    requires { F.IsAlwaysCallable receive }
-{
-    let start = Instant::now(rt)?;
-    let received = receive(start);
-    let took = start.elapsed(rt)?;
-    assert!(rt;
-        matches!(received, Err(RecvTimeoutError::Timeout)),
-        "{call}"
-    );
-    Ok(took)
+// How long a receive takes whose deadline is `time` after its start. Fails unless it times out.
+fn time_of_deadline<R: Wait + Clock + Asserts>(
+    rt: &R,
+    receiver: &mut Receiver<u128, &R>,
+    time: Duration,
+) -> Duration {
+    let start = now(rt);
+    let deadline = start.checked_add(time);
+    let received = receiver.recv_deadline(deadline.expect(rt, "an instant can hold it"));
+    let took = time_since(rt, start);
+    assert_same!(rt; received, Err(RecvTimeoutError::Timeout));
+    took
 }
 
-#[test]
-fn recv_deadline_and_timeout_no_time(rt: HostRuntime) -> Result<(), Fail> {
-    in_time(&rt, |slept| {
-        let (_sender, mut receiver) = channel::<u128, _>(&rt, rt.alloc())?;
-        let by_deadline = timed_out(&rt, "recv_deadline", |start| receiver.recv_deadline(start))?;
-        let by_timeout = timed_out(
-            &rt,
-            "recv_timeout",
-            |_| receiver.recv_timeout(Duration::ZERO),
-        )?;
-        Ok(by_deadline / 2 < slept && by_timeout / 2 < slept)
-    })
+// The longer of two times: of a receive whose deadline is now, and of one whose timeout is zero. Fails unless both time
+// out.
+fn time_without_wait<R: Wait + Clock + AllocGlobal + Asserts>(rt: &R) -> Duration {
+    let (_sender, mut receiver) = ends(rt);
+    let by_deadline = time_of_deadline(rt, &mut receiver, Duration::ZERO);
+    let timeout = Err(RecvTimeoutError::Timeout);
+    let by_timeout = time_of_timeout(rt, &mut receiver, Duration::ZERO, timeout);
+    by_deadline.max(by_timeout)
 }
 
 #[test]
-fn recv_deadline_time_should_elapse(rt: HostRuntime) -> Result<(), Fail> {
-    in_time(&rt, |slept| {
-        let (_sender, mut receiver) = channel::<u128, _>(&rt, rt.alloc())?;
-        let took = timed_out(&rt, "recv_deadline", |start| {
-            let end = start.checked_add(tenth());
-            receiver.recv_deadline(end.expect(&rt, "an instant can hold it"))
-        })?;
-        assert!(rt; took > tenth());
-        Ok(took / 3 < slept)
-    })
+fn recv_deadline_and_timeout_no_time(rt: HostRuntime) {
+    in_time(&rt, 2, || time_without_wait(&rt));
+}
+
+// How long a receive waits for a deadline in a tenth of a second. Fails unless that time elapses.
+fn wait_for_deadline<R: Wait + Clock + AllocGlobal + Asserts>(rt: &R) -> Duration {
+    let (_sender, mut receiver) = ends(rt);
+    let took = time_of_deadline(rt, &mut receiver, tenth());
+    assert!(rt; took > tenth());
+    took
 }
 
 #[test]
-fn recv_timeout_time_should_elapse(rt: HostRuntime) -> Result<(), Fail> {
-    in_time(&rt, |slept| {
-        let (_sender, mut receiver) = channel::<u128, _>(&rt, rt.alloc())?;
-        let took = timed_out(&rt, "recv_timeout", |_| receiver.recv_timeout(tenth()))?;
-        assert!(rt; took > tenth());
-        Ok(took / 3 < slept)
-    })
+fn recv_deadline_time_should_elapse(rt: HostRuntime) {
+    in_time(&rt, 3, || wait_for_deadline(&rt));
+}
+
+// How long a receive waits for a timeout of a tenth of a second. Fails unless that time elapses.
+fn wait_for_timeout<R: Wait + Clock + AllocGlobal + Asserts>(rt: &R) -> Duration {
+    let (_sender, mut receiver) = ends::<u128, _>(rt);
+    let timeout = Err(RecvTimeoutError::Timeout);
+    let took = time_of_timeout(rt, &mut receiver, tenth(), timeout);
+    assert!(rt; took > tenth());
+    took
 }
 
 #[test]
-fn message_in_channel_dropped_on_receiver_drop(rt: HostRuntime) -> Result<(), Fail> {
+fn recv_timeout_time_should_elapse(rt: HostRuntime) {
+    in_time(&rt, 3, || wait_for_timeout(&rt));
+}
+
+#[test]
+fn message_in_channel_dropped_on_receiver_drop(rt: HostRuntime) {
     let drops = Drops::new();
-    let (sender, receiver) = channel::<_, ()>((), rt.alloc())?;
     let message = drops.message(());
-    let before = drops.count();
-    let sent = (sender.send(message).is_ok(), drops.count());
+    assert_same!(rt; drops.count(), 0);
+    let receiver = sent(&rt, message);
+    assert_same!(rt; drops.count(), 0);
     drop(receiver);
-    assert_eq!(rt; (before, sent, drops.count()), (0, (true, 0), 1));
-    Ok(())
+    assert_same!(rt; drops.count(), 1);
 }
 
 #[test]
-fn send_error_drops_message_correctly(rt: HostRuntime) -> Result<(), Fail> {
+fn send_error_drops_message_correctly(rt: HostRuntime) {
     let drops = Drops::new();
-    let error = refused(&rt, rt.alloc(), drops.message(()))?;
-    let before = drops.count();
+    let error = refused(&rt, drops.message(()));
+    assert_same!(rt; drops.count(), 0);
     drop(error);
-    assert_eq!(rt; (before, drops.count()), (0, 1));
-    Ok(())
+    assert_same!(rt; drops.count(), 1);
 }
 
 #[test]
-fn send_error_drops_message_correctly_on_into_inner(rt: HostRuntime) -> Result<(), Fail> {
+fn send_error_drops_message_correctly_on_into_inner(rt: HostRuntime) {
     let drops = Drops::new();
-    let error = refused(&rt, rt.alloc(), drops.message(5u8))?;
-    let before = drops.count();
+    let error = refused(&rt, drops.message(5u8));
+    assert_same!(rt; drops.count(), 0);
     let back = error.into_inner();
-    let kept = (back.value, drops.count());
+    assert_same!(rt; (back.value, drops.count()), (5, 0));
     drop(back);
-    assert_eq!(rt; (before, kept, drops.count()), (0, (5, 0), 1));
-    Ok(())
+    assert_same!(rt; drops.count(), 1);
 }
 
 #[test]
-fn dropping_receiver_disconnects_sender(rt: HostRuntime) -> Result<(), Fail> {
-    let (sender, receiver) = channel::<(), ()>((), rt.alloc())?;
-    let before = sender.is_closed() || receiver.is_closed();
+fn dropping_receiver_disconnects_sender(rt: HostRuntime) {
+    let (sender, receiver) = idle_ends::<(), _>(&rt);
+    assert!(rt; !sender.is_closed());
+    assert!(rt; !receiver.is_closed());
     drop(receiver);
-    assert_eq!(rt; (before, sender.is_closed()), (false, true));
-    Ok(())
+    assert!(rt; sender.is_closed());
 }
 
 #[test]
-fn dropping_sender_disconnects_receiver(rt: HostRuntime) -> Result<(), Fail> {
-    let (sender, receiver) = channel::<(), ()>((), rt.alloc())?;
-    let before = sender.is_closed() || receiver.is_closed();
+fn dropping_sender_disconnects_receiver(rt: HostRuntime) {
+    let (sender, receiver) = idle_ends::<(), _>(&rt);
+    assert!(rt; !sender.is_closed());
+    assert!(rt; !receiver.is_closed());
     drop(sender);
-    assert_eq!(rt; (before, receiver.is_closed()), (false, true));
-    Ok(())
+    assert!(rt; receiver.is_closed());
 }

@@ -1,23 +1,21 @@
 //! Both ends of a channel, each on a thread of its own.
 
+use super::ends::{ends, future_ends};
 use super::times::{assert_woken_since, now};
-use oneshot::{Receiver, Sender, async_channel, channel};
+use oneshot::{AsyncReceiver, Receiver, Sender};
+use oneshot_asserts::{Asserts, assert_that};
 use oneshot_calls::{
-    Numbered, ReceiverCall, Receiving, Reply, SenderCall, Sending, Tasks, script, shows,
+    Numbered, ReceiverCall, Receiving, Reply, SenderCall, Sending, Tasks, Word, script, shows,
 };
-use std::alloc::AllocError;
 use std::hint::spin_loop;
-use std::io;
-use std::process::{Abort, Termination};
 use std::random::RandomSource;
 use std::sync::Wait;
 use std::sync::atomic::{AtomicU64, Ordering};
-use std::test::Fail;
 use std::thread::{Threads, join, sleep, yield_now};
 use std::time::{Clock, Duration};
 
 /// The sender's script, and its message.
-#[derive(Clone, Copy, Drop)]
+#[derive(Drop)]
 pub(super) struct Act<T>(pub(super) &'static str, pub(super) T);
 
 /// The receiver's script.
@@ -41,7 +39,7 @@ pub(super) struct Pace {
 pub(super) const ROUNDS: u64 = 500;
 
 /// As many rounds, in which the sender never sleeps.
-pub(super) const AT_ONCE: Pace = Pace {
+const AT_ONCE: Pace = Pace {
     rounds: ROUNDS,
     pause: 0,
 };
@@ -67,7 +65,7 @@ const SPINS: u64 = 20_000_000;
 const QUICK: u64 = 20_000;
 
 // Returns once both threads are here. Fails after `SPINS` loads.
-fn meet(rt: &impl Abort, here: &AtomicU64) {
+fn meet(rt: &impl Asserts, here: &AtomicU64) {
     here.fetch_add(1, Ordering::SeqCst);
     for spin in 0..SPINS {
         if here.load(Ordering::SeqCst) == 2 {
@@ -82,103 +80,110 @@ fn meet(rt: &impl Abort, here: &AtomicU64) {
     panic!(rt; "the other thread does not come");
 }
 
-/// What both ends return. Both threads begin at about the same time, and the sender's then sleeps for
-/// `pause`. (A sleep of no time would take some 50 microseconds.) Fails if the receive took longer than any that is
-/// woken.
-pub(super) fn on_two_threads<
-    R: Threads + Clock + Abort + Sync,
+/// Reads a script. Fails if it has a word that is no call.
+fn calls_of<C: Word + Drop>(rt: &(impl AllocGlobal + Asserts), text: &str) -> Vec<C> {
+    script(rt.alloc(), text).expect(rt, "a script")
+}
+
+/// Makes the calls of a sender `pause` after both threads are here. (A sleep of no time would take some 50
+/// microseconds.)
+fn send<R: Clock + AllocGlobal + Asserts, T: Numbered + Drop>(
+    rt: &R,
+    here: &AtomicU64,
+    pause: Duration,
+    sends: &str,
+    sending: Sending<T, Sender<T>>,
+) -> Reply<T> {
+    let sends: Vec<SenderCall> = calls_of(rt, sends);
+    meet(rt, here);
+    if !pause.is_zero() {
+        sleep(rt, pause);
+    }
+    sending.make_all(&sends)
+}
+
+/// Makes the calls of a receiver, or of the future that it is, once both threads are here. Fails if they took longer
+/// than any that is woken.
+fn receive<R: Wait + Clock + RandomSource + AllocGlobal + Asserts, T: Drop>(
+    rt: &R,
+    here: &AtomicU64,
+    receives: &str,
+    receiving: Receiving<T, Receiver<T, &R>>,
+) -> Reply<T> {
+    let receives: Vec<ReceiverCall> = calls_of(rt, receives);
+    let tasks = Tasks::new(rt).expect(rt, "tasks");
+    meet(rt, here);
+    let start = now(rt);
+    let received = receiving.make_all(rt, Some(&tasks), &receives);
+    assert_woken_since(rt, start);
+    received
+}
+
+/// What both ends return. Both threads begin at about the same time, and the sender's then sleeps for `pause`.
+fn on_two_threads<
+    R: Threads + Wait + Clock + RandomSource + AllocGlobal + Asserts + Sync,
     T: Numbered + Send + Drop,
-    E: Drop,
-    B,
-    F: FnOnce(E) -> B,
 >(
     rt: &R,
     pause: Duration,
-    sends: &[SenderCall],
-    ends: (Sending<T, Sender<T>>, E),
-    receive: F,
-) -> (Reply<T>, B)
-    requires { F.IsAlwaysCallable receive }
-{
-    let (sending, receiver) = ends;
+    sends: &str,
+    sending: Sending<T, Sender<T>>,
+    receives: &str,
+    receiving: Receiving<T, Receiver<T, &R>>,
+) -> Outcome<T> {
     let here = AtomicU64::new(0);
     join(
         rt,
-        || {
-            meet(rt, &here);
-            if !pause.is_zero() {
-                sleep(rt, pause);
-            }
-            sending.make_all(sends)
-        },
-        || {
-            meet(rt, &here);
-            let start = now(rt);
-            let received = receive(receiver);
-            assert_woken_since(rt, start);
-            received
-        },
+        || send(rt, &here, pause, sends, sending),
+        || receive(rt, &here, receives, receiving),
     )
 }
 
-/// Makes the calls of a receiver, or of the future that it is.
-fn receive_all<R: Wait + Clock + RandomSource + AllocGlobal, T: Drop, W: Wait + Clock + Drop>(
-    rt: &R,
-    receives: &[ReceiverCall],
-    receiving: Receiving<T, Receiver<T, W>>,
-) -> io::Result<Reply<T>> {
-    let tasks = Tasks::new(rt)?;
-    Ok(receiving.make_all(rt, Some(&tasks), receives))
-}
-
-/// What both ends return after these calls.
-fn outcome_by<
-    R: Threads + Wait + Clock + RandomSource + AllocGlobal + Abort + Sync,
+/// What both ends of a channel return, whose receiver makes these calls.
+fn outcome_by_receiver<
+    'r,
+    R: Threads + Wait + Clock + RandomSource + AllocGlobal + Asserts + Sync,
     T: Numbered + Send + Drop,
-    W: Wait + Clock + Send + Drop,
 >(
-    rt: &R,
+    rt: &'r R,
     pause: Duration,
-    sends: &[SenderCall],
-    receives: &[ReceiverCall],
-    ends: (Sending<T, Sender<T>>, Receiving<T, Receiver<T, W>>),
-) -> Result<Outcome<T>, Fail> {
-    let receive = |receiving| receive_all(rt, receives, receiving);
-    let (sent, received) = on_two_threads(rt, pause, sends, ends, receive);
-    Ok((sent, received?))
-}
-
-/// Makes a channel, whose receiver is a future if `by` is a future's script.
-fn new_ends<R: Wait + Clock + AllocGlobal, T: Numbered + Send + Drop>(
-    rt: &R,
-    message: T,
-    by: By,
-) -> Result<(Sending<T, Sender<T>>, Receiving<T, Receiver<T, &R>>), AllocError> {
-    match by {
-        By::Receiver(_) => {
-            let (sender, receiver) = channel(rt, rt.alloc())?;
-            let sending = Sending::new(sender, Some(message));
-            Ok((sending, Receiving::new(receiver)))
-        }
-        By::Future(_) => {
-            let (sender, future) = async_channel(rt, rt.alloc())?;
-            let sending = Sending::new(sender, Some(message));
-            Ok((sending, Receiving::of_future(future)))
-        }
-    }
-}
-
-/// What both ends of a new channel return.
-pub(super) fn outcome_of<
-    R: Threads + Wait + Clock + RandomSource + AllocGlobal + Abort + Sync,
-    T: Numbered + Send + Drop,
->(rt: &R, pause: Duration, act: Act<T>, by: By) -> Result<Outcome<T>, Fail> {
+    act: Act<T>,
+    receives: &str,
+    (sender, receiver): (Sender<T>, Receiver<T, &'r R>),
+) -> Outcome<T> {
     let Act(sends, message) = act;
-    let (By::Receiver(receives) | By::Future(receives)) = by;
-    let sends = script::<SenderCall>(rt.alloc(), sends)?;
-    let receives = script::<ReceiverCall>(rt.alloc(), receives)?;
-    let ends = new_ends(rt, message, by)?;
-    outcome_by(rt, pause, &sends, &receives, ends)
+    let sending = Sending::new(sender, Some(message));
+    let receiving = Receiving::new(receiver);
+    on_two_threads(rt, pause, sends, sending, receives, receiving)
+}
+
+/// What both ends of a channel return, whose future makes these calls.
+pub(super) fn outcome_by_future<
+    'r,
+    R: Threads + Wait + Clock + RandomSource + AllocGlobal + Asserts + Sync,
+    T: Numbered + Send + Drop,
+>(
+    rt: &'r R,
+    pause: Duration,
+    act: Act<T>,
+    receives: &str,
+    (sender, future): (Sender<T>, AsyncReceiver<T, &'r R>),
+) -> Outcome<T> {
+    let Act(sends, message) = act;
+    let sending = Sending::new(sender, Some(message));
+    let receiving = Receiving::of_future(future);
+    on_two_threads(rt, pause, sends, sending, receives, receiving)
+}
+
+/// What both ends of a new channel return, whose receiver is a future if `by` is a future's script.
+pub(super) fn outcome_of<
+    R: Threads + Wait + Clock + RandomSource + AllocGlobal + Asserts + Sync,
+    T: Numbered + Send + Drop,
+>(rt: &R, pause: Duration, act: Act<T>, by: By) -> Outcome<T> {
+    match by {
+        By::Receiver(receives) => outcome_by_receiver(rt, pause, act, receives, ends(rt)),
+        By::Future(receives) => outcome_by_future(rt, pause, act, receives, future_ends(rt)),
+    }
 }
 
 /// Whether the replies are one of the wanted outcomes.
@@ -193,35 +198,41 @@ fn is_wanted(sent: &Reply<u64>, received: &Reply<u64>, wanted: &[(&str, &str)]) 
 
 /// Fails unless the replies are one of the wanted outcomes.
 fn assert_wanted(
-    rt: &impl Abort,
+    rt: &impl Asserts,
     calls: &str,
     sent: &Reply<u64>,
     received: &Reply<u64>,
     wanted: &[(&str, &str)],
 ) {
     let is_so = is_wanted(sent, received, wanted);
-    assert!(rt; is_so, "{calls}: {sent}, {received}");
+    assert_that!(rt; is_so, (calls, sent, received));
 }
 
 /// Fails unless each round has one of the wanted outcomes, of which each is two texts.
 pub(super) fn assert_outcomes<
-    R: Threads + Wait + Clock + RandomSource + AllocGlobal + Abort + Sync,
+    R: Threads + Wait + Clock + RandomSource + AllocGlobal + Asserts + Sync,
     T: Copy + Numbered + Send,
->(rt: &R, pace: Pace, act: Act<T>, by: By, wanted: &[(&str, &str)]) -> Result<(), Fail> {
+>(rt: &R, pace: Pace, act: Act<T>, by: By, wanted: &[(&str, &str)]) {
     let (By::Receiver(calls) | By::Future(calls)) = by;
     let Act(sends, message) = act;
     for round in 0..pace.rounds {
         let act = Act(sends, message);
-        let (sent, received) = outcome_of(rt, pace.pause_of(round), act, by)?;
-        let (sent, received) = (sent.numbered(), received.numbered());
-        assert_wanted(rt, calls, &sent, &received, wanted);
+        let (sent, received) = outcome_of(rt, pace.pause_of(round), act, by);
+        assert_wanted(rt, calls, &sent.numbered(), &received.numbered(), wanted);
     }
-    Ok(())
+}
+
+/// Fails unless each round of `AT_ONCE` has one of the wanted outcomes.
+pub(super) fn assert_raced<
+    R: Threads + Wait + Clock + RandomSource + AllocGlobal + Asserts + Sync,
+    T: Copy + Numbered + Send,
+>(rt: &R, act: Act<T>, by: By, wanted: &[(&str, &str)]) {
+    assert_outcomes(rt, AT_ONCE, act, by, wanted);
 }
 
 #[test]
-#[should_panic(expected = "recv: Ok, Ok(1)")]
+#[should_panic(expected = "(\"recv\", Ok, Ok(1))")]
 fn an_outcome_that_is_not_wanted_ends_a_test(rt: HostRuntime) {
     let act = Act("send into", 1u64);
-    let _ = assert_outcomes(&rt, AT_ONCE, act, By::Receiver("recv"), &[]).report(&rt);
+    assert_raced(&rt, act, By::Receiver("recv"), &[]);
 }
