@@ -1,19 +1,20 @@
 //! Tests of the arguments that are read and refused, and of the text of each fault.
 
+use oneshot_asserts::{Asserts, assert_same};
 use oneshot_loops::channels::Channel;
 use oneshot_loops::command::fault::Fault;
 use oneshot_loops::command::{Command, parse_command, parse_count};
 use oneshot_loops::fault as rounds;
 use oneshot_loops::loops::{Awaited, Loop};
-use std::alloc::{AllocError, Global};
-use std::test::Fail;
+use std::alloc::AllocError;
 
-fn parsed(alloc: Global, words: &[&str]) -> Result<Option<Command>, AllocError> {
-    let mut owned = Vec::new(alloc);
+fn parsed(rt: &(impl Asserts + AllocGlobal), words: &[&str]) -> Option<Command> {
+    let mut owned = Vec::new(rt.alloc());
     for word in words {
-        owned.push(String::from_str(alloc, word)?)?;
+        let word = String::from_str(rt.alloc(), word).expect(rt, "memory");
+        owned.push(word).expect(rt, "memory");
     }
-    Ok(parse_command(owned.as_slice()))
+    parse_command(owned.as_slice())
 }
 
 const NAMES: &[(&str, Loop); 10] = &[
@@ -36,17 +37,16 @@ const NAMES: &[(&str, Loop); 10] = &[
 ];
 
 #[test]
-fn each_name_is_read(rt: HostRuntime) -> Result<(), Fail> {
+fn each_name_is_read(rt: HostRuntime) {
     for (name, kind) in NAMES {
         let command = Command::Measure {
             channel: Channel::Oneshot,
             kind: *kind,
             count: 12,
         };
-        let read = parsed(rt.alloc(), &[name, "12"])?;
-        assert_eq!(rt; (*name, read), (*name, Some(command)));
+        let read = parsed(&rt, &[name, "12"]);
+        assert_same!(rt; (*name, read), (*name, Some(command)));
     }
-    Ok(())
 }
 
 const CHANNELS: &[(&str, Channel); 3] = &[
@@ -56,17 +56,16 @@ const CHANNELS: &[(&str, Channel); 3] = &[
 ];
 
 #[test]
-fn each_channel_is_read(rt: HostRuntime) -> Result<(), Fail> {
+fn each_channel_is_read(rt: HostRuntime) {
     for (name, channel) in CHANNELS {
         let command = Command::Measure {
             channel: *channel,
             kind: Loop::MakeDrop,
             count: 12,
         };
-        let read = parsed(rt.alloc(), &[name, "make_drop", "12"])?;
-        assert_eq!(rt; (*name, read), (*name, Some(command)));
+        let read = parsed(&rt, &[name, "make_drop", "12"]);
+        assert_same!(rt; (*name, read), (*name, Some(command)));
     }
-    Ok(())
 }
 
 const NO_CHANNELS: &[&str; 5] = &["", "one", "oneshot ", "Futures", "make_drop"];
@@ -76,10 +75,10 @@ const NO_LOOPS: &[&str; 6] = &["", "make", "make_drop_", "make_drop ", "Make_dro
 #[test]
 fn other_names_are_refused(rt: HostRuntime) {
     for name in NO_CHANNELS {
-        assert_eq!(rt; (*name, Channel::named(name)), (*name, None));
+        assert_same!(rt; (*name, Channel::named(name)), (*name, None));
     }
     for name in NO_LOOPS {
-        assert_eq!(rt; (*name, Loop::named(name)), (*name, None));
+        assert_same!(rt; (*name, Loop::named(name)), (*name, None));
     }
 }
 
@@ -103,7 +102,7 @@ const COUNTS: &[(&str, Option<u64>); 14] = &[
 #[test]
 fn counts_of_64_bits_are_read(rt: HostRuntime) {
     for (word, count) in COUNTS {
-        assert_eq!(rt; (*word, parse_count(word)), (*word, *count));
+        assert_same!(rt; (*word, parse_count(word)), (*word, *count));
     }
 }
 
@@ -117,22 +116,20 @@ const NO_COMMANDS: &[&[&str]; 6] = &[
 ];
 
 #[test]
-fn a_command_has_no_word_or_two_or_three(rt: HostRuntime) -> Result<(), Fail> {
-    assert_eq!(rt; parsed(rt.alloc(), &[])?, Some(Command::Usage));
+fn a_command_has_no_word_or_two_or_three(rt: HostRuntime) {
+    assert_same!(rt; parsed(&rt, &[]), Some(Command::Usage));
     for words in NO_COMMANDS {
-        let read = parsed(rt.alloc(), words)?;
-        assert_eq!(rt; (*words, read), (*words, None));
+        assert_same!(rt; (*words, parsed(&rt, words)), (*words, None));
     }
-    Ok(())
 }
 
 /// The status of a fault, and its text.
-fn told(alloc: Global, fault: &Fault) -> Result<String, AllocError> {
-    format!(in alloc; "{} {fault}", fault.status())
+fn told(rt: &(impl Asserts + AllocGlobal), fault: &Fault) -> String {
+    format!(in rt.alloc(); "{} {fault}", fault.status()).expect(rt, "memory")
 }
 
 #[test]
-fn a_fault_is_one_line_and_a_status(rt: HostRuntime) -> Result<(), Fail> {
+fn a_fault_is_one_line_and_a_status(rt: HostRuntime) {
     let faults = [
         (Fault::Rounds(rounds::Fault::ClockFailed), "1 clock failed"),
         (Fault::WriteFailed, "1 write failed"),
@@ -148,19 +145,17 @@ fn a_fault_is_one_line_and_a_status(rt: HostRuntime) -> Result<(), Fail> {
         ),
         (Fault::OutOfMemory(AllocError), "3 out of memory"),
     ];
-    for (fault, text) in faults {
-        assert_eq!(rt; told(rt.alloc(), &fault)?.as_str(), text);
+    for (fault, text) in &faults {
+        assert_same!(rt; told(&rt, fault).as_str(), *text);
     }
-    Ok(())
 }
 
 #[test]
-fn the_fault_of_bad_arguments_is_the_usage(rt: HostRuntime) -> Result<(), Fail> {
-    let usage = told(rt.alloc(), &Fault::BadArguments)?;
+fn the_fault_of_bad_arguments_is_the_usage(rt: HostRuntime) {
+    let usage = told(&rt, &Fault::BadArguments);
     assert!(rt;
         usage
             .as_str()
             .starts_with("2 usage: oneshot_bench [CHANNEL] LOOP COUNT")
     );
-    Ok(())
 }

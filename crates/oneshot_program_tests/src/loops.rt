@@ -3,6 +3,7 @@
 use futures::future::ready;
 use futures::task::Context;
 use oneshot::{async_channel, channel};
+use oneshot_asserts::{Asserts, assert_same};
 use oneshot_loops::awaited_trips;
 use oneshot_loops::channels::Channel;
 use oneshot_loops::fault::Fault;
@@ -16,11 +17,9 @@ use oneshot_loops::tally::Tally;
 use std::alloc::{Alloc, AllocGlobal, Global};
 use std::cell::Cell;
 use std::io;
-use std::process::{Abort, Termination};
 use std::random::RandomSource;
 use std::sync::Wait;
 use std::sync::atomic::{AtomicU64, Ordering};
-use std::test::Fail;
 use std::thread::Threads;
 use std::time::{Clock, Duration};
 
@@ -82,77 +81,95 @@ fn awaited(bytes: u64) -> Tally {
 const OF_FUTURES: [Channel; 2] = [Channel::Oneshot, Channel::Futures];
 
 #[test]
-fn each_awaited_loop_makes_its_rounds(rt: HostRuntime) -> Result<(), Fail> {
-    let kinds = [
-        (Awaited::MakeSendBlockOn, awaited(8)),
-        (Awaited::MakeSendAwait, awaited(8)),
-    ];
+fn each_awaited_loop_makes_its_rounds(rt: HostRuntime) {
     for channel in OF_FUTURES {
-        for (kind, round) in kinds {
-            assert_rounds(&rt, channel, Loop::Awaited(kind), round)?;
+        for kind in [Awaited::MakeSendBlockOn, Awaited::MakeSendAwait] {
+            assert_rounds(&rt, channel, Loop::Awaited(kind), awaited(8));
         }
     }
-    Ok(())
+}
+
+/// Makes so many rounds, and returns their tally.
+fn run_rounds<R>(rt: &R, channel: Channel, kind: Loop, count: u64) -> Tally
+where
+    R: Asserts + AllocGlobal + RandomSource + Threads + Wait + Clock + Sync,
+{
+    let measured = measure(rt, channel, kind, count).expect(rt, "each round is made");
+    measured.tally
 }
 
 /// Asserts the tally of no round, and that of three.
-fn assert_rounds<R>(rt: &R, channel: Channel, kind: Loop, round: Tally) -> Result<(), Fail>
+fn assert_rounds<R>(rt: &R, channel: Channel, kind: Loop, round: Tally)
 where
-    R: Abort + AllocGlobal + RandomSource + Threads + Wait + Clock + Sync,
+    R: Asserts + AllocGlobal + RandomSource + Threads + Wait + Clock + Sync,
 {
     for count in [0, 3] {
-        let tally = measure(rt, channel, kind, count)?.tally;
-        assert_eq!(rt;
+        let tally = run_rounds(rt, channel, kind, count);
+        assert_same!(rt;
             (channel, kind, count, tally),
             (channel, kind, count, tally_of(count, round))
         );
     }
-    Ok(())
 }
 
 #[test]
 #[should_panic(expected = "Oneshot, MakeDrop, 3, Tally { channels: 3, room: 27,")]
 fn a_round_with_other_counts_ends_a_test(rt: HostRuntime) {
-    let _ = assert_rounds(&rt, Channel::Oneshot, Loop::MakeDrop, made(9)).report(&rt);
+    assert_rounds(&rt, Channel::Oneshot, Loop::MakeDrop, made(9));
 }
 
 // `poll_pending` makes one channel for all its polls.
 #[test]
-fn each_poll_before_the_message_is_pending(rt: HostRuntime) -> Result<(), Fail> {
+fn each_poll_before_the_message_is_pending(rt: HostRuntime) {
+    let kind = Loop::Awaited(Awaited::PollPending);
     for channel in OF_FUTURES {
         for count in [0, 3] {
-            let tally = measure(&rt, channel, Loop::Awaited(Awaited::PollPending), count)?.tally;
+            let tally = run_rounds(&rt, channel, kind, count);
             let pended = Tally {
                 pended: count,
                 ..awaited(8)
             };
-            assert_eq!(rt; (channel, count, tally), (channel, count, pended));
+            assert_same!(rt; (channel, count, tally), (channel, count, pended));
         }
     }
-    Ok(())
 }
 
+// A round trip makes two channels, and awaits the message of each.
 #[test]
-fn each_round_trip_of_futures_is_made(rt: HostRuntime) -> Result<(), Fail> {
+fn each_round_trip_of_futures_is_made(rt: HostRuntime) {
+    let trip = Tally {
+        channels: 2,
+        polled: 2,
+        ..Tally::new()
+    };
     for channel in OF_FUTURES {
-        for count in [0, 1, 1024, 1025] {
-            let tally = measure(&rt, channel, Loop::Awaited(Awaited::RoundTripAwait), count)?.tally;
-            let received = (tally.polled, tally.waited, tally.tried);
-            assert_eq!(rt;
-                (channel, count, tally.channels, received),
-                (channel, count, 2 * count, (2 * count, 0, 0))
-            );
-        }
+        assert_trips(&rt, channel, Loop::Awaited(Awaited::RoundTripAwait), trip);
     }
-    Ok(())
+}
+
+/// Asserts the channels and the receives of no round trip, of one, of a batch, and of one more than that.
+fn assert_trips<R>(rt: &R, channel: Channel, kind: Loop, trip: Tally)
+where
+    R: Asserts + AllocGlobal + RandomSource + Threads + Wait + Clock + Sync,
+{
+    for count in [0, 1, 1024, 1025] {
+        let tally = Tally {
+            room: 0,
+            pended: 0,
+            ..run_rounds(rt, channel, kind, count)
+        };
+        assert_same!(rt;
+            (channel, kind, count, tally),
+            (channel, kind, count, tally_of(count, trip))
+        );
+    }
 }
 
 #[test]
-fn a_future_that_is_ready_is_not_pending(rt: HostRuntime) -> Result<(), Fail> {
+fn a_future_that_is_ready_is_not_pending(rt: HostRuntime) {
     let mut tally = Tally::new();
     let ready = repeat_in_task(&rt, 1, PolledOnceTooOften, &mut tally);
     assert!(rt; matches!(ready, Err(Fault::MessageLost)));
-    Ok(())
 }
 
 /// A round that polls a future that is ready.
@@ -166,23 +183,21 @@ impl PolledRound for PolledOnceTooOften {
 }
 
 #[test]
-fn a_request_to_no_future_is_lost(rt: HostRuntime) -> Result<(), Fail> {
-    let queue = queue(&rt)?;
-    let (requests, served) = async_channel::<awaited_trips::Request, ()>((), rt.alloc())?;
+fn a_request_to_no_future_is_lost(rt: HostRuntime) {
+    let queue = queue(&rt).expect(&rt, "a queue");
+    let (requests, served) = async_channel((), rt.alloc()).expect(&rt, "memory");
     drop(served);
     let lost = awaited_trips::ask(&rt, &queue, rt.alloc(), requests, &mut Tally::new());
     assert!(rt; matches!(lost, Err(Fault::MessageLost)));
-    Ok(())
 }
 
 #[test]
-fn a_request_that_no_future_gets_is_lost(rt: HostRuntime) -> Result<(), Fail> {
-    let queue = queue(&rt)?;
-    let (requests, served) = async_channel::<awaited_trips::Request, ()>((), rt.alloc())?;
+fn a_request_that_no_future_gets_is_lost(rt: HostRuntime) {
+    let queue = queue(&rt).expect(&rt, "a queue");
+    let (requests, served) = async_channel((), rt.alloc()).expect(&rt, "memory");
     drop(requests);
     let lost = awaited_trips::serve(&rt, &queue, served, &mut Tally::new());
     assert!(rt; matches!(lost, Err(Fault::MessageLost)));
-    Ok(())
 }
 
 /// What a round does with its channel.
@@ -243,11 +258,10 @@ const LOOPS: &[(Channel, Loop, Round, u64); 13] = &[
 ];
 
 #[test]
-fn each_loop_makes_its_rounds(rt: HostRuntime) -> Result<(), Fail> {
+fn each_loop_makes_its_rounds(rt: HostRuntime) {
     for (channel, kind, round, bytes) in LOOPS {
-        assert_rounds(&rt, *channel, *kind, round.tally(*bytes))?;
+        assert_rounds(&rt, *channel, *kind, round.tally(*bytes));
     }
-    Ok(())
 }
 
 const REFUSED: &[(Channel, Loop); 5] = &[
@@ -262,24 +276,21 @@ const REFUSED: &[(Channel, Loop); 5] = &[
 fn a_channel_refuses_a_loop_that_it_has_no_call_for(rt: HostRuntime) {
     for (channel, kind) in REFUSED {
         let refused = matches!(measure(&rt, *channel, *kind, 3), Err(Fault::CannotRun));
-        assert_eq!(rt; (*channel, *kind, refused), (*channel, *kind, true));
+        assert_same!(rt; (*channel, *kind, refused), (*channel, *kind, true));
     }
 }
 
 // A round trip makes two channels, and blocks for the message of each.
 #[test]
-fn each_round_trip_is_made(rt: HostRuntime) -> Result<(), Fail> {
+fn each_round_trip_is_made(rt: HostRuntime) {
+    let trip = Tally {
+        channels: 2,
+        waited: 2,
+        ..Tally::new()
+    };
     for channel in [Channel::Oneshot, Channel::Crossbeam] {
-        for count in [0, 1, 1024, 1025] {
-            let tally = measure(&rt, channel, Loop::RoundTrip, count)?.tally;
-            let received = (tally.waited, tally.tried, tally.polled);
-            assert_eq!(rt;
-                (channel, count, tally.channels, received),
-                (channel, count, 2 * count, (2 * count, 0, 0))
-            );
-        }
+        assert_trips(&rt, channel, Loop::RoundTrip, trip);
     }
-    Ok(())
 }
 
 /// A clock that the test sets.
@@ -299,7 +310,7 @@ impl Clock for Moved {
 }
 
 #[test]
-fn the_time_is_that_of_the_work(rt: HostRuntime) -> Result<(), Fail> {
+fn the_time_is_that_of_the_work(rt: HostRuntime) {
     let clock = Moved {
         nanoseconds: Cell::new(5),
     };
@@ -308,8 +319,8 @@ fn the_time_is_that_of_the_work(rt: HostRuntime) -> Result<(), Fail> {
         Ok(())
     });
     clock.nanoseconds.set(40);
-    assert_eq!(rt; time?, Duration::from_nanos(7));
-    Ok(())
+    let time = time.expect(&rt, "the clock is read");
+    assert_same!(rt; time, Duration::from_nanos(7));
 }
 
 /// A runtime whose clock reads how often its allocator was asked for.
@@ -317,6 +328,19 @@ fn the_time_is_that_of_the_work(rt: HostRuntime) -> Result<(), Fail> {
 struct Asked<'a, R> {
     rt: &'a R,
     times: AtomicU64,
+}
+
+impl<'a, R> Asked<'a, R> {
+    fn new(rt: &'a R) -> Asked<'a, R> {
+        Asked {
+            rt,
+            times: AtomicU64::new(0),
+        }
+    }
+
+    fn times(&self) -> u64 {
+        self.times.load(Ordering::SeqCst)
+    }
 }
 
 impl<'a, R: Threads> Threads for Asked<'a, R> {}
@@ -340,7 +364,7 @@ impl<'a, R: AllocGlobal> Alloc for Asked<'a, R> {
 
 impl<'a, R> Clock for Asked<'a, R> {
     fn monotonic(&self) -> io::Result<Duration> {
-        Ok(Duration::from_nanos(self.times.load(Ordering::SeqCst)))
+        Ok(Duration::from_nanos(self.times()))
     }
 
     fn since_1970(&self) -> io::Result<Duration> {
@@ -350,46 +374,38 @@ impl<'a, R> Clock for Asked<'a, R> {
 
 // Each of these rounds asks for the allocator.
 #[test]
-fn no_round_is_made_before_the_time_or_after_it(rt: HostRuntime) -> Result<(), Fail> {
+fn no_round_is_made_before_the_time_or_after_it(rt: HostRuntime) {
+    let kind = Loop::Awaited(Awaited::MakeSendBlockOn);
     for channel in OF_FUTURES {
-        let asked = Asked {
-            rt: &rt,
-            times: AtomicU64::new(0),
-        };
-        let kind = Loop::Awaited(Awaited::MakeSendBlockOn);
-        let time = measure(&asked, channel, kind, 20)?.time;
-        let times = asked.times.load(Ordering::SeqCst);
-        assert_eq!(rt;
-            (channel, times >= 20, time),
+        let asked = Asked::new(&rt);
+        let measured = measure(&asked, channel, kind, 20).expect(&rt, "each round is made");
+        let times = asked.times();
+        assert_same!(rt;
+            (channel, times >= 20, measured.time),
             (channel, true, Duration::from_nanos(times))
         );
     }
-    Ok(())
 }
 
 /// How often so many rounds ask for the allocator. Fails unless each round awaits.
-fn asked_in<R>(rt: &R, channel: Channel, count: u64) -> Result<u64, Fail>
+fn asked_in<R>(rt: &R, channel: Channel, count: u64) -> u64
 where
-    R: Abort + AllocGlobal + RandomSource + Threads + Wait + Sync,
+    R: Asserts + AllocGlobal + RandomSource + Threads + Wait + Sync,
 {
-    let asked = Asked {
-        rt,
-        times: AtomicU64::new(0),
-    };
+    let asked = Asked::new(rt);
     let kind = Loop::Awaited(Awaited::MakeSendAwait);
-    let tally = measure(&asked, channel, kind, count)?.tally;
-    assert_eq!(rt; (channel, tally.polled), (channel, count));
-    Ok(asked.times.load(Ordering::SeqCst))
+    let measured = measure(&asked, channel, kind, count).expect(rt, "each round is made");
+    assert_same!(rt; (channel, measured.tally.polled), (channel, count));
+    asked.times()
 }
 
 // All rounds run as tasks of one queue, so no round asks for the allocator.
 #[test]
-fn a_round_that_awaits_makes_no_executor(rt: HostRuntime) -> Result<(), Fail> {
+fn a_round_that_awaits_makes_no_executor(rt: HostRuntime) {
     for channel in OF_FUTURES {
-        let (none, twenty) = (asked_in(&rt, channel, 0)?, asked_in(&rt, channel, 20)?);
-        assert_eq!(rt; (channel, twenty), (channel, none));
+        let (none, twenty) = (asked_in(&rt, channel, 0), asked_in(&rt, channel, 20));
+        assert_same!(rt; (channel, twenty), (channel, none));
     }
-    Ok(())
 }
 
 #[test]
@@ -404,19 +420,15 @@ fn a_tally_adds_each_count_of_another(rt: HostRuntime) {
     };
     let mut tally = tally_of(10, other);
     tally.add(other);
-    assert_eq!(rt; tally, tally_of(11, other));
+    assert_same!(rt; tally, tally_of(11, other));
 }
 
 #[test]
 fn memory_that_a_task_is_refused_is_a_fault_of_its_own(rt: HostRuntime) {
     let refused = task_fault(io::ErrorKind::OutOfMemory.into());
+    assert!(rt; matches!(refused, Fault::OutOfMemory(_)));
     let failed = task_fault(io::ErrorKind::Other.into());
-    assert!(rt;
-        matches!(
-            (refused, failed),
-            (Fault::OutOfMemory(_), Fault::TaskFailed)
-        )
-    );
+    assert!(rt; matches!(failed, Fault::TaskFailed));
 }
 
 #[test]
@@ -431,24 +443,22 @@ fn rounds_end_at_the_first_fault(rt: HostRuntime) {
         }
     });
     let is_lost = matches!(ended, Err(Fault::MessageLost));
-    assert_eq!(rt; (is_lost, made), (true, 3));
+    assert_same!(rt; (is_lost, made), (true, 3));
 }
 
 #[test]
-fn a_request_to_nobody_is_lost(rt: HostRuntime) -> Result<(), Fail> {
-    let (requests, served) = channel::<Request, ()>((), rt.alloc())?;
+fn a_request_to_nobody_is_lost(rt: HostRuntime) {
+    let (requests, served) = channel::<Request, ()>((), rt.alloc()).expect(&rt, "memory");
     drop(served);
     let lost = ask(&rt, rt.alloc(), requests, &mut Tally::new());
     assert!(rt; matches!(lost, Err(Fault::MessageLost)));
-    Ok(())
 }
 
 #[test]
-fn a_request_that_never_comes_is_lost(rt: HostRuntime) -> Result<(), Fail> {
-    let (requests, served) = channel::<Request, _>(&rt, rt.alloc())?;
+fn a_request_that_never_comes_is_lost(rt: HostRuntime) {
+    let (requests, served) = channel(&rt, rt.alloc()).expect(&rt, "memory");
     drop(requests);
     assert!(rt; matches!(serve(served, &mut Tally::new()), Err(Fault::MessageLost)));
-    Ok(())
 }
 
 /// A round whose message is lost once two rounds were made. It counts how often it is begun.
@@ -469,16 +479,16 @@ impl PolledRound for LostAtTheThird<'_> {
 }
 
 #[test]
-fn rounds_in_a_task_end_at_the_first_fault(rt: HostRuntime) -> Result<(), Fail> {
+fn rounds_in_a_task_end_at_the_first_fault(rt: HostRuntime) {
     let mut tally = Tally::new();
     let begun = Cell::new(0);
     let lost = repeat_in_task(&rt, 5, LostAtTheThird { begun: &begun }, &mut tally);
     let is_lost = matches!(lost, Err(Fault::MessageLost));
     let begun_first = begun.get();
-    repeat_in_task(&rt, 2, LostAtTheThird { begun: &begun }, &mut tally)?;
-    assert_eq!(rt;
+    let made_two = repeat_in_task(&rt, 2, LostAtTheThird { begun: &begun }, &mut tally);
+    made_two.expect(&rt, "two rounds are made");
+    assert_same!(rt;
         (is_lost, begun_first, begun.get(), tally),
         (true, 3, 5, tally_of(2, made(8)))
     );
-    Ok(())
 }

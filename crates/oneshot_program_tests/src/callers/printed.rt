@@ -5,9 +5,8 @@ use oneshot::replay::{
     SenderScript,
 };
 use oneshot::text::{CalledLine, EntryLine, ParseError, Request, parse_request};
+use oneshot_asserts::{Asserts, assert_same};
 use std::alloc::{AllocError, Global};
-use std::process::Abort;
-use std::test::Fail;
 
 /// Makes the run that a text asks for, and returns each entry's line with the call that the entry belongs to.
 fn called_lines(alloc: Global, text: &str) -> Result<Vec<String>, ParseError> {
@@ -68,15 +67,14 @@ fn run_of_a_send(alloc: Global, message: u64) -> Replayer<u64> {
 }
 
 #[test]
-fn a_message_comes_back_and_its_lines_are_printed(rt: HostRuntime) -> Result<(), Fail> {
+fn a_message_comes_back_and_its_lines_are_printed(rt: HostRuntime) {
     let mut run = run_of_a_send(rt.alloc(), 7);
     let receives = Move::Receiver {
         over: false,
         refuse: false,
     };
     let moves = [receives, Move::Sender, Move::Sender];
-    let lines = lines_of(rt.alloc(), &mut run, &moves, 7)?;
-
+    let lines = lines_of(rt.alloc(), &mut run, &moves, 7).expect(&rt, "memory");
     let [dropped, written, refused] = lines.as_slice() else {
         panic!(rt; "a line a move")
     };
@@ -86,8 +84,7 @@ fn a_message_comes_back_and_its_lines_are_printed(rt: HostRuntime) -> Result<(),
         "2 S write-message 2>2 m:NotSent>InCell",
         "3 S add 2>3 m:InCell>InError = Err",
     );
-    assert_eq!(rt; (entries, run.block_freed()), (wanted, false));
-    Ok(())
+    assert_same!(rt; (entries, run.block_freed()), (wanted, false));
 }
 
 const ASKED: &str = "S closed send 7\nR full closed try full closed drop\nX rrsssrrrrrrrr\n";
@@ -109,30 +106,21 @@ const CALLED: [&str; 13] = [
 ];
 
 #[test]
-fn each_line_names_its_call(rt: HostRuntime) -> Result<(), Fail> {
-    let Ok(lines) = called_lines(rt.alloc(), ASKED) else {
-        panic!(rt; "the text asks for a run")
-    };
-    assert_called(&rt, lines.as_slice());
-    Ok(())
+fn each_line_names_its_call(rt: HostRuntime) {
+    assert_called(&rt, ASKED);
 }
 
-/// Asserts that the lines are those of `CALLED`.
-fn assert_called(rt: &impl Abort, lines: &[String]) {
-    assert_eq!(rt; lines.len(), CALLED.len());
+/// Asserts that the lines of the run that a text asks for are those of `CALLED`.
+fn assert_called(rt: &(impl Asserts + AllocGlobal), text: &str) {
+    let lines = called_lines(rt.alloc(), text).expect(rt, "the text asks for a run");
+    assert_same!(rt; lines.len(), CALLED.len());
     for (line, called) in lines.iter().zip(&CALLED) {
-        assert_eq!(rt; line.as_str(), *called);
+        assert_same!(rt; line.as_str(), *called);
     }
 }
 
 #[test]
 #[should_panic(expected = "right: \"3 S load 3>3 = false (closed)\"")]
 fn a_line_of_another_call_ends_a_test(rt: HostRuntime) {
-    let Ok(lines) = called_lines(
-        rt.alloc(),
-        "S drop\nR full closed try drop\nX rrsrrrrrrrrrr\n",
-    ) else {
-        return;
-    };
-    assert_called(&rt, lines.as_slice());
+    assert_called(&rt, "S drop\nR full closed try drop\nX rrsrrrrrrrrrr\n");
 }

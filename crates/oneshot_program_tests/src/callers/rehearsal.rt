@@ -8,6 +8,7 @@ use oneshot::replay::{
     CallList, ErrorLast, ErrorScript, Move, ReceiverLast, ReceiverScript, Refused, Rest,
     SenderLast, SenderScript, Trace, replay,
 };
+use oneshot_asserts::assert_same;
 use std::alloc::Global;
 
 /// Replays both scripts. Once the sender's `send` or drop has replied, the receiver never waits unwoken.
@@ -65,7 +66,7 @@ fn a_rehearsal_has_an_entry_for_each_move(rt: HostRuntime) {
     };
     let moves = [Move::Sender; 3];
     match rehearsed(rt.alloc(), sender, receiver, &moves) {
-        Ok(trace) => assert_eq!(rt; trace.entries().len(), 3),
+        Ok(trace) => assert_same!(rt; trace.entries().len(), 3),
         Err(_) => panic!(rt; "out of memory"),
     }
 }

@@ -11,8 +11,8 @@ use oneshot::replay::{
     CallList, Entry, ErrorLast, ErrorScript, Move, ReceiverLast, ReceiverScript, Replayer,
     SenderLast, SenderScript,
 };
+use oneshot_asserts::assert_same;
 use std::alloc::{AllocError, Global};
-use std::test::Fail;
 
 /// Makes these moves one by one, and returns their entries.
 fn stepped(
@@ -46,13 +46,13 @@ fn send(message: u64) -> SenderScript<u64> {
 }
 
 #[test]
-fn a_send_is_two_steps_and_the_sender_is_idle_then(rt: HostRuntime) -> Result<(), Fail> {
+fn a_send_is_two_steps_and_the_sender_is_idle_then(rt: HostRuntime) {
     let receiver = ReceiverScript {
         calls: CallList::from(Vec::new(rt.alloc())),
         last: ReceiverLast::Stop,
     };
     let moves = [Move::Sender, Move::Sender, Move::Sender];
-    let entries = stepped(rt.alloc(), send(7), receiver, &moves)?;
+    let entries = stepped(rt.alloc(), send(7), receiver, &moves).expect(&rt, "memory");
     let [
         Entry::Made(write),
         Entry::Made(add),
@@ -61,9 +61,8 @@ fn a_send_is_two_steps_and_the_sender_is_idle_then(rt: HostRuntime) -> Result<()
     else {
         panic!(rt; "the send ends with its second step")
     };
-    assert_eq!(rt;
+    assert_same!(rt;
         (write.step, add.reply),
         (Step::WriteMessage, Some(Reply::Sent))
     );
-    Ok(())
 }

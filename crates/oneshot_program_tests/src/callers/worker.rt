@@ -5,8 +5,8 @@ ghost use Rattle.oneshot_values.specs.Values.{OnlyTheLastGot};
 
 use oneshot::laws::{a_receiver_has_its_calls, calls_add_up};
 use oneshot::{Receiver, TryRecvError, channel};
+use oneshot_asserts::assert_same;
 use oneshot_values::a_receiver_runs;
-use std::test::Fail;
 
 /// Tries to receive, whatever was done with the receiver before. `Ok`: no earlier receive got the message.
 fn tried<T: Send + Drop, Rt: Drop>(receiver: &mut Receiver<T, Rt>) -> Result<T, TryRecvError>
@@ -20,13 +20,13 @@ fn tried<T: Send + Drop, Rt: Drop>(receiver: &mut Receiver<T, Rt>) -> Result<T, 
 }
 
 #[test]
-fn a_worker_gets_the_message_once(rt: HostRuntime) -> Result<(), Fail> {
-    let (sender, mut receiver) = channel::<u8, ()>((), rt.alloc())?;
+fn a_worker_gets_the_message_once(rt: HostRuntime) {
+    let (sender, mut receiver) = channel::<u8, ()>((), rt.alloc()).expect(&rt, "memory");
     let before = tried(&mut receiver);
     let sent = sender.send(7).is_ok();
     let after = tried(&mut receiver);
     let again = tried(&mut receiver);
-    assert_eq!(rt;
+    assert_same!(rt;
         (before, sent, after, again),
         (
             Err(TryRecvError::Empty),
@@ -35,5 +35,4 @@ fn a_worker_gets_the_message_once(rt: HostRuntime) -> Result<(), Fail> {
             Err(TryRecvError::Disconnected),
         )
     );
-    Ok(())
 }

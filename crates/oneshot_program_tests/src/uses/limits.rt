@@ -1,15 +1,15 @@
 //! Tests that each wait lasts as long as its limit, by a clock that returns written readings.
 
+use super::ask;
 use oneshot::channel;
 use oneshot::reply::request;
+use oneshot_asserts::assert_same;
 use oneshot_patterns::pool::{pooled, total};
-use oneshot_patterns::request::{Square, Unanswered, ask};
+use oneshot_patterns::request::Unanswered;
 use oneshot_patterns::tickets::{asked, square_within};
-use std::alloc::AllocError;
 use std::io;
 use std::sync::Wait;
 use std::sync::atomic::{AtomicUsize, Ordering};
-use std::test::Fail;
 use std::thread::Threads;
 use std::time::{Clock, Duration};
 
@@ -78,47 +78,40 @@ fn limit() -> Duration {
 }
 
 #[test]
-fn a_wait_for_a_reply_lasts_to_its_limit(rt: HostRuntime) -> Result<(), Fail> {
+fn a_wait_for_a_reply_lasts_to_its_limit(rt: HostRuntime) {
     let clock = Written::new(&rt);
-    let (_request, asked) = ask(&clock, rt.alloc(), 3)?;
+    let (_request, asked) = ask(&rt, &clock, 3);
     let late = asked.wait_within(limit()).square;
-    assert_eq!(rt; (late, clock.made()), (Err(Unanswered::Late), A_WAIT));
-    Ok(())
+    assert_same!(rt; (late, clock.made()), (Err(Unanswered::Late), A_WAIT));
 }
 
 #[test]
-fn a_wait_for_a_square_lasts_to_its_limit(rt: HostRuntime) -> Result<(), Fail> {
+fn a_wait_for_a_square_lasts_to_its_limit(rt: HostRuntime) {
     let clock = Written::new(&rt);
-    let (_request, mut ticket) = request::<_, Square, _>(&clock, rt.alloc(), 3).map_err(
-        |_| AllocError,
-    )?;
+    let (_request, mut ticket) = request(&clock, rt.alloc(), 3).expect(&rt, "memory");
     let late = square_within(&mut ticket, limit());
-    assert_eq!(rt; (late, clock.made()), (Err(Unanswered::Late), A_WAIT));
-    Ok(())
+    assert_same!(rt; (late, clock.made()), (Err(Unanswered::Late), A_WAIT));
 }
 
 #[test]
-fn a_wait_for_a_report_lasts_to_its_limit(rt: HostRuntime) -> Result<(), Fail> {
+fn a_wait_for_a_report_lasts_to_its_limit(rt: HostRuntime) {
     let clock = Written::new(&rt);
-    let (_report, reported) = channel(&clock, rt.alloc())?;
+    let (_report, reported) = channel(&clock, rt.alloc()).expect(&rt, "memory");
     let mut reports = Vec::new(rt.alloc());
-    reports.push(reported)?;
-    assert_eq!(rt; (total(reports, limit()), clock.made()), (None, A_WAIT));
-    Ok(())
+    reports.push(reported).expect(&rt, "memory");
+    assert_same!(rt; (total(reports, limit()), clock.made()), (None, A_WAIT));
 }
 
 #[test]
-fn each_wait_for_a_worker_lasts_to_its_limit(rt: HostRuntime) -> Result<(), Fail> {
+fn each_wait_for_a_worker_lasts_to_its_limit(rt: HostRuntime) {
     let clock = Written::new(&rt);
-    let done = pooled(&clock, rt.alloc(), 0, &[3, 5], limit())?;
-    assert_eq!(rt; (done.answers.len(), clock.made()), (2, 2 * A_WAIT));
-    Ok(())
+    let done = pooled(&clock, rt.alloc(), 0, &[3, 5], limit()).expect(&rt, "memory");
+    assert_same!(rt; (done.answers.len(), clock.made()), (2, 2 * A_WAIT));
 }
 
 #[test]
-fn each_wait_for_a_worker_by_a_ticket_lasts_to_its_limit(rt: HostRuntime) -> Result<(), Fail> {
+fn each_wait_for_a_worker_by_a_ticket_lasts_to_its_limit(rt: HostRuntime) {
     let clock = Written::new(&rt);
-    let answers = asked(&clock, rt.alloc(), 0, &[3, 5], limit())?;
-    assert_eq!(rt; (answers.len(), clock.made()), (2, 2 * A_WAIT));
-    Ok(())
+    let answers = asked(&clock, rt.alloc(), 0, &[3, 5], limit()).expect(&rt, "memory");
+    assert_same!(rt; (answers.len(), clock.made()), (2, 2 * A_WAIT));
 }

@@ -1,87 +1,81 @@
 //! Tests of two replies awaited at once, and of those that do not come.
 
+use super::ask;
+use oneshot::AsyncReceiver;
+use oneshot_asserts::{Asserts, assert_same};
 use oneshot_patterns::replies::{both_replies, both_squares, first_reply, first_square};
-use oneshot_patterns::request::ask;
-use std::test::Fail;
-use std::thread::{join, sleep};
+use oneshot_patterns::request::{Request, Square};
+use std::thread::{sleep, spawn};
 use std::time::Duration;
 
-#[test]
-fn both_numbers_have_their_squares(rt: HostRuntime) -> Result<(), Fail> {
-    assert_eq!(rt;
-        both_squares(&rt, rt.alloc(), 7, 11)?,
-        (Some(49), Some(121))
-    );
-    Ok(())
+/// A request for the square of 13, and the future of its reply.
+fn requested(rt: &(impl Asserts + AllocGlobal)) -> (Request, AsyncReceiver<Square, ()>) {
+    let (request, asked) = ask(rt, (), 13);
+    (request, asked.reply.into_future())
 }
 
 #[test]
-fn a_request_that_is_dropped_leaves_the_other_reply(rt: HostRuntime) -> Result<(), Fail> {
-    let (dropped, first) = ask((), rt.alloc(), 7)?;
-    let (served, second) = ask((), rt.alloc(), 11)?;
-    let (awaited, was_awaited) = join(
-        &rt,
-        || both_replies(&rt, first, second),
-        || {
-            sleep(&rt, Duration::from_millis(20));
-            drop(dropped);
-            served.serve()
-        },
-    );
-    assert_eq!(rt; (awaited?, was_awaited), ((None, Some(121)), true));
-    Ok(())
+fn both_numbers_have_their_squares(rt: HostRuntime) {
+    let squares = both_squares(&rt, rt.alloc(), 7, 11).expect(&rt, "an executor");
+    assert_same!(rt; squares, (Some(49), Some(121)));
 }
 
 #[test]
-fn the_later_request_may_be_served_first(rt: HostRuntime) -> Result<(), Fail> {
-    let (first_request, first) = ask((), rt.alloc(), 7)?;
-    let (second_request, second) = ask((), rt.alloc(), 11)?;
+fn a_request_that_is_dropped_leaves_the_other_reply(rt: HostRuntime) {
+    let (dropped, first) = ask(&rt, (), 7);
+    let (served, second) = ask(&rt, (), 11);
+    let serving = spawn(&rt, move || {
+        sleep(&rt, Duration::from_millis(20));
+        drop(dropped);
+        served.serve()
+    });
+    let serving = serving.expect(&rt, "a thread");
+    let replies = both_replies(&rt, first, second).expect(&rt, "an executor");
+    assert_same!(rt; (replies, serving.join(&rt)), ((None, Some(121)), true));
+}
+
+#[test]
+fn the_later_request_may_be_served_first(rt: HostRuntime) {
+    let (first_request, first) = ask(&rt, (), 7);
+    let (second_request, second) = ask(&rt, (), 11);
     let served = (second_request.serve(), first_request.serve());
-    let replies = both_replies(&rt, first, second)?;
-    assert_eq!(rt; (served, replies), ((true, true), (Some(49), Some(121))));
-    Ok(())
+    let replies = both_replies(&rt, first, second).expect(&rt, "an executor");
+    assert_same!(rt; (served, replies), ((true, true), (Some(49), Some(121))));
 }
 
 #[test]
-fn the_first_reply_is_the_square(rt: HostRuntime) -> Result<(), Fail> {
-    assert_eq!(rt; first_square(&rt, rt.alloc(), 13)?, Some(169));
-    Ok(())
+fn the_first_reply_is_the_square(rt: HostRuntime) {
+    let square = first_square(&rt, rt.alloc(), 13).expect(&rt, "an executor");
+    assert_same!(rt; square, Some(169));
 }
 
 #[test]
-fn one_reply_is_awaited_where_nobody_serves_the_other_request(rt: HostRuntime) -> Result<(), Fail> {
-    let (served, first) = ask((), rt.alloc(), 13)?;
-    let (unserved, second) = ask((), rt.alloc(), 13)?;
-    let (first, second) = (first.reply.into_future(), second.reply.into_future());
+fn one_reply_is_awaited_where_nobody_serves_the_other_request(rt: HostRuntime) {
+    let (served, first) = requested(&rt);
+    let (unserved, second) = requested(&rt);
     assert!(rt; served.serve());
-    let reply = first_reply(&rt, 13, first, second)?;
-    assert_eq!(rt; (reply, unserved.serve()), (Some(169), false));
-    Ok(())
+    let reply = first_reply(&rt, 13, first, second).expect(&rt, "an executor");
+    assert_same!(rt; (reply, unserved.serve()), (Some(169), false));
 }
 
 #[test]
-fn a_request_that_is_dropped_leaves_one_reply_to_await(rt: HostRuntime) -> Result<(), Fail> {
-    let (dropped, first) = ask((), rt.alloc(), 13)?;
-    let (served, second) = ask((), rt.alloc(), 13)?;
-    let (first, second) = (first.reply.into_future(), second.reply.into_future());
+fn a_request_that_is_dropped_leaves_one_reply_to_await(rt: HostRuntime) {
+    let (dropped, first) = requested(&rt);
+    let (served, second) = requested(&rt);
     drop(dropped);
-    let (awaited, was_awaited) = join(
-        &rt,
-        || first_reply(&rt, 13, first, second),
-        || {
-            sleep(&rt, Duration::from_millis(20));
-            served.serve()
-        },
-    );
-    assert_eq!(rt; (awaited?, was_awaited), (Some(169), true));
-    Ok(())
+    let serving = spawn(&rt, move || {
+        sleep(&rt, Duration::from_millis(20));
+        served.serve()
+    });
+    let serving = serving.expect(&rt, "a thread");
+    let reply = first_reply(&rt, 13, first, second).expect(&rt, "an executor");
+    assert_same!(rt; (reply, serving.join(&rt)), (Some(169), true));
 }
 
 #[test]
-fn no_reply_comes_where_both_requests_are_dropped(rt: HostRuntime) -> Result<(), Fail> {
-    let (_, first) = ask((), rt.alloc(), 13)?;
-    let (_, second) = ask((), rt.alloc(), 13)?;
-    let (first, second) = (first.reply.into_future(), second.reply.into_future());
-    assert_eq!(rt; first_reply(&rt, 13, first, second)?, None);
-    Ok(())
+fn no_reply_comes_where_both_requests_are_dropped(rt: HostRuntime) {
+    let (_, first) = requested(&rt);
+    let (_, second) = requested(&rt);
+    let reply = first_reply(&rt, 13, first, second).expect(&rt, "an executor");
+    assert_same!(rt; reply, None);
 }

@@ -1,11 +1,11 @@
 //! Tests of tickets whose reply comes, comes too late or never comes.
 
+use super::assert_answers;
 use oneshot::reply::{Request, Ticket, request};
+use oneshot_asserts::{Asserts, assert_same};
 use oneshot_patterns::request::{Square, Unanswered};
 use oneshot_patterns::tickets::{asked, serve, square_awaited, square_within};
-use std::alloc::{AllocError, Global};
-use std::test::Fail;
-use std::thread::{join, sleep};
+use std::thread::{sleep, spawn};
 use std::time::Duration;
 
 fn minute() -> Duration {
@@ -18,68 +18,64 @@ fn moment() -> Duration {
 
 type Ends<Rt> = (Request<u32, Square>, Ticket<u32, Square, Rt>);
 
-fn ask<Rt: Drop>(rt: Rt, alloc: Global, root: u32) -> Result<Ends<Rt>, AllocError> {
-    request(rt, alloc, root).map_err(|_| AllocError)
+fn ask<Rt: Drop>(rt: &(impl Asserts + AllocGlobal), waits: Rt, root: u32) -> Ends<Rt> {
+    request(waits, rt.alloc(), root).expect(rt, "memory")
 }
 
 /// Numbers and their squares.
-const SQUARES: &[(u32, u64); 5] = &[(2, 4), (4, 16), (6, 36), (8, 64), (10, 100)];
+const SQUARES: &[(u32, Result<u64, Unanswered>); 5] = &[
+    (2, Ok(4)),
+    (4, Ok(16)),
+    (6, Ok(36)),
+    (8, Ok(64)),
+    (10, Ok(100)),
+];
 
 #[test]
-fn each_ticket_has_its_square(rt: HostRuntime) -> Result<(), Fail> {
-    let answers = asked(&rt, rt.alloc(), 3, &[2, 4, 6, 8, 10], minute())?;
-    assert_eq!(rt; answers.len(), 5);
-    for (answer, (root, square)) in answers.iter().zip(SQUARES) {
-        assert_eq!(rt; (answer.root, answer.square), (*root, Ok(*square)));
-    }
-    Ok(())
+fn each_ticket_has_its_square(rt: HostRuntime) {
+    let roots = [2, 4, 6, 8, 10];
+    let answers = asked(&rt, rt.alloc(), 3, &roots, minute()).expect(&rt, "memory");
+    assert_answers(&rt, answers.as_slice(), SQUARES);
 }
 
 #[test]
-fn without_a_worker_each_square_is_late(rt: HostRuntime) -> Result<(), Fail> {
-    for answer in asked(&rt, rt.alloc(), 0, &[3, 5], moment())? {
-        let root = answer.root;
-        assert_eq!(rt; (root, answer.square), (root, Err(Unanswered::Late)));
-    }
-    Ok(())
+fn without_a_worker_each_square_is_late(rt: HostRuntime) {
+    let answers = asked(&rt, rt.alloc(), 0, &[3, 5], moment()).expect(&rt, "memory");
+    let late = Err(Unanswered::Late);
+    assert_answers(&rt, answers.as_slice(), &[(3, late), (5, late)]);
 }
 
 #[test]
-fn a_late_answer_is_refused(rt: HostRuntime) -> Result<(), Fail> {
-    let (request, mut ticket) = ask(&rt, rt.alloc(), 3)?;
+fn a_late_answer_is_refused(rt: HostRuntime) {
+    let (request, mut ticket) = ask(&rt, &rt, 3);
     let late = square_within(&mut ticket, moment());
     drop(ticket);
-    assert_eq!(rt; (late, serve(request)), (Err(Unanswered::Late), false));
-    Ok(())
+    assert_same!(rt; (late, serve(request)), (Err(Unanswered::Late), false));
 }
 
 #[test]
-fn a_dropped_request_loses_its_square(rt: HostRuntime) -> Result<(), Fail> {
-    let (request, mut ticket) = ask(&rt, rt.alloc(), 3)?;
+fn a_dropped_request_loses_its_square(rt: HostRuntime) {
+    let (request, mut ticket) = ask(&rt, &rt, 3);
     drop(request);
-    assert_eq!(rt; square_within(&mut ticket, minute()), Err(Unanswered::Lost));
-    Ok(())
+    assert_same!(rt; square_within(&mut ticket, minute()), Err(Unanswered::Lost));
 }
 
 #[test]
-fn a_task_awaits_its_square(rt: HostRuntime) -> Result<(), Fail> {
-    let (request, ticket) = ask((), rt.alloc(), 12)?;
-    let (awaited, served) = join(
-        &rt,
-        || square_awaited(&rt, ticket),
-        || {
-            sleep(&rt, Duration::from_millis(20));
-            serve(request)
-        },
-    );
-    assert_eq!(rt; (served, awaited?), (true, Some(144)));
-    Ok(())
+fn a_task_awaits_its_square(rt: HostRuntime) {
+    let (request, ticket) = ask(&rt, (), 12);
+    let serving = spawn(&rt, move || {
+        sleep(&rt, Duration::from_millis(20));
+        serve(request)
+    });
+    let serving = serving.expect(&rt, "a thread");
+    let square = square_awaited(&rt, ticket).expect(&rt, "an executor");
+    assert_same!(rt; (serving.join(&rt), square), (true, Some(144)));
 }
 
 #[test]
-fn a_task_gets_no_square_of_a_dropped_request(rt: HostRuntime) -> Result<(), Fail> {
-    let (request, ticket) = ask((), rt.alloc(), 12)?;
+fn a_task_gets_no_square_of_a_dropped_request(rt: HostRuntime) {
+    let (request, ticket) = ask(&rt, (), 12);
     drop(request);
-    assert_eq!(rt; square_awaited(&rt, ticket)?, None);
-    Ok(())
+    let square = square_awaited(&rt, ticket).expect(&rt, "an executor");
+    assert_same!(rt; square, None);
 }
