@@ -5,32 +5,43 @@ mod threads;
 mod waits;
 
 use futures::executor::block_on;
+use oneshot_asserts::{Asserts, assert_same};
 use oneshot_channel::reply::{Answer, Length, Request, Ticket, request};
 use oneshot_channel::{RecvError, RecvTimeoutError, TryRecvError};
-use std::alloc::{AllocError, Global};
-use std::test::Fail;
-use std::time::Duration;
+use std::sync::Wait;
+use std::time::{Clock, Duration};
 
 /// A text of 21 bytes.
 pub(crate) const TEXT: &str = "data from sync thread";
 
-type Ends<Rt> = (Request<String, Length>, Ticket<String, Length, Rt>);
-
-/// A request for the length of `TEXT`.
-pub(crate) fn ask<Rt: Drop>(rt: Rt, alloc: Global) -> Result<Ends<Rt>, AllocError> {
-    request(rt, alloc, String::from_str(alloc, TEXT)?).map_err(|_| AllocError)
+/// `TEXT`, in memory of its own. Ends the test if there is none.
+pub(crate) fn new_text(rt: &(impl AllocGlobal + Asserts)) -> String {
+    String::from_str(rt.alloc(), TEXT).expect(rt, "memory")
 }
 
-/// Answers with the length of the text. Inner `Err`: the ticket was gone, and the reply came back. Outer `Err`: out of
-/// memory, or the reply does not fit.
-pub(crate) fn answer(request: Request<String, Length>) -> Result<Result<(), Length>, AllocError> {
-    let length = Length::of(request.question().clone()?);
+/// A request for the length of `TEXT`, whose ticket has this runtime. Ends the test if there is no memory.
+pub(crate) fn ask<Rt: Drop>(
+    rt: &(impl AllocGlobal + Asserts),
+    runtime: Rt,
+) -> (Request<String, Length>, Ticket<String, Length, Rt>) {
+    request(runtime, rt.alloc(), new_text(rt)).expect(rt, "memory")
+}
+
+/// The length of this text. Ends the test if there is no memory.
+pub(crate) fn length_of(rt: &impl Asserts, text: &String) -> Length {
+    Length::of(text.clone().expect(rt, "memory"))
+}
+
+/// Answers with the length of the text. `Err`: the ticket was gone, and the reply came back. Ends the test if there is
+/// no memory, or if the reply does not fit.
+pub(crate) fn answer(rt: &impl Asserts, request: Request<String, Length>) -> Result<(), Length> {
+    let length = length_of(rt, request.question());
     if !request.fits(&length) {
-        return Err(AllocError);
+        panic!(rt; "the length of a text does not fit its request")
     }
     match request.answer(length) {
-        Ok(()) => Ok(Ok(())),
-        Err(refused) => Ok(Err(refused.into_inner())),
+        Ok(()) => Ok(()),
+        Err(refused) => Err(refused.into_inner()),
     }
 }
 
@@ -38,10 +49,25 @@ pub(crate) fn bytes_of(length: Length) -> usize {
     length.bytes()
 }
 
-#[test]
-fn a_reply_is_taken_once(rt: HostRuntime) -> Result<(), Fail> {
-    let (request, mut ticket) = ask((), rt.alloc())?;
-    assert_eq!(rt;
+/// The bytes of a reply that is taken.
+fn take<Rt: Drop>(ticket: &mut Ticket<String, Length, Rt>) -> Result<usize, TryRecvError> {
+    ticket.try_take().map(bytes_of)
+}
+
+/// The bytes of a reply that is waited for, at most a millisecond.
+fn wait_a_moment<Rt: Wait + Clock + Drop>(
+    ticket: &mut Ticket<String, Length, Rt>,
+) -> Result<usize, RecvTimeoutError> {
+    ticket.wait_for(Duration::from_millis(1)).map(bytes_of)
+}
+
+/// Fails unless the request has its question, and both ends are there.
+fn assert_is_asked(
+    rt: &impl Asserts,
+    request: &Request<String, Length>,
+    ticket: &Ticket<String, Length, ()>,
+) {
+    assert_same!(rt;
         (
             request.question().as_str(),
             request.is_cancelled(),
@@ -49,47 +75,52 @@ fn a_reply_is_taken_once(rt: HostRuntime) -> Result<(), Fail> {
         ),
         (TEXT, false, false)
     );
-    let sent = (answer(request)?.is_ok(), ticket.is_closed());
-    let taken = ticket.try_take().map(bytes_of);
-    let again = ticket.try_take().map(bytes_of);
-    assert_eq!(rt;
+}
+
+#[test]
+fn a_reply_is_taken_once(rt: HostRuntime) {
+    let (request, mut ticket) = ask(&rt, ());
+    assert_is_asked(&rt, &request, &ticket);
+    let sent = (answer(&rt, request).is_ok(), ticket.is_closed());
+    let taken = take(&mut ticket);
+    let again = take(&mut ticket);
+    assert_same!(rt;
         (sent, taken, again, ticket.is_closed()),
         ((true, false), Ok(21), Err(TryRecvError::Disconnected), true)
     );
-    Ok(())
 }
 
 #[test]
-fn an_answer_without_a_ticket_gives_the_reply_back(rt: HostRuntime) -> Result<(), Fail> {
-    let (request, ticket) = ask((), rt.alloc())?;
+fn an_answer_without_a_ticket_gives_the_reply_back(rt: HostRuntime) {
+    let (request, ticket) = ask(&rt, ());
     drop(ticket);
     let is_cancelled = request.is_cancelled();
-    let Err(length) = answer(request)? else {
-        return Err(Fail::new("an answer without a ticket"));
+    let Err(length) = answer(&rt, request) else {
+        panic!(rt; "an answer without a ticket")
     };
-    assert_eq!(rt;
+    assert_same!(rt;
         (is_cancelled, length.bytes(), length.question().as_str()),
         (true, 21, TEXT)
     );
-    Ok(())
 }
 
 #[test]
-fn a_dropped_request_has_no_reply(rt: HostRuntime) -> Result<(), Fail> {
-    let (request, ticket) = ask(&rt, rt.alloc())?;
+fn a_dropped_request_has_no_reply(rt: HostRuntime) {
+    let (request, ticket) = ask(&rt, &rt);
     drop(request);
     assert!(rt; ticket.is_closed());
-    assert_eq!(rt; ticket.wait().map(bytes_of), Err(RecvError));
-    Ok(())
+    assert_same!(rt; ticket.wait().map(bytes_of), Err(RecvError));
 }
 
-#[test]
-fn a_request_that_is_there_has_no_reply_yet(rt: HostRuntime) -> Result<(), Fail> {
-    let (request, mut ticket) = ask(&rt, rt.alloc())?;
-    let moment = Duration::from_millis(1);
-    let taken = ticket.try_take().map(bytes_of);
-    let waited = ticket.wait_for(moment).map(bytes_of);
-    assert_eq!(rt;
+/// Fails unless the ticket of this request, which is there, gets no reply yet.
+fn assert_has_no_reply_yet<Rt: Wait + Clock + Drop>(
+    rt: &impl Asserts,
+    request: &Request<String, Length>,
+    ticket: &mut Ticket<String, Length, Rt>,
+) {
+    let taken = take(ticket);
+    let waited = wait_a_moment(ticket);
+    assert_same!(rt;
         (taken, waited, request.is_cancelled()),
         (
             Err(TryRecvError::Empty),
@@ -97,38 +128,41 @@ fn a_request_that_is_there_has_no_reply_yet(rt: HostRuntime) -> Result<(), Fail>
             false
         )
     );
-    let answered = answer(request)?.is_ok();
-    let waited = ticket.wait_for(moment).map(bytes_of);
-    let again = ticket.wait_for(moment).map(bytes_of);
-    assert_eq!(rt;
+}
+
+#[test]
+fn a_request_that_is_there_has_no_reply_yet(rt: HostRuntime) {
+    let (request, mut ticket) = ask(&rt, &rt);
+    assert_has_no_reply_yet(&rt, &request, &mut ticket);
+    let answered = answer(&rt, request).is_ok();
+    let waited = wait_a_moment(&mut ticket);
+    let again = wait_a_moment(&mut ticket);
+    assert_same!(rt;
         (answered, waited, again),
         (true, Ok(21), Err(RecvTimeoutError::Disconnected))
     );
-    Ok(())
 }
 
 #[test]
-fn a_wait_returns_a_reply_that_has_come(rt: HostRuntime) -> Result<(), Fail> {
-    let (request, ticket) = ask(&rt, rt.alloc())?;
-    assert!(rt; answer(request)?.is_ok());
-    assert_eq!(rt; ticket.wait().map(bytes_of), Ok(21));
-    Ok(())
+fn a_wait_returns_a_reply_that_has_come(rt: HostRuntime) {
+    let (request, ticket) = ask(&rt, &rt);
+    assert!(rt; answer(&rt, request).is_ok());
+    assert_same!(rt; ticket.wait().map(bytes_of), Ok(21));
 }
 
 #[test]
-fn a_reply_is_awaited(rt: HostRuntime) -> Result<(), Fail> {
-    let (request, ticket) = ask((), rt.alloc())?;
-    assert!(rt; answer(request)?.is_ok());
-    let awaited = block_on(&rt, ticket.into_future())?;
-    assert_eq!(rt; awaited.map(bytes_of), Ok(21));
-    Ok(())
+fn a_reply_is_awaited(rt: HostRuntime) {
+    let (request, ticket) = ask(&rt, ());
+    assert!(rt; answer(&rt, request).is_ok());
+    let awaited = block_on(&rt, ticket.into_future()).expect(&rt, "an executor");
+    assert_same!(rt; awaited.map(bytes_of), Ok(21));
 }
 
 #[test]
-fn a_reply_to_another_text_does_not_fit(rt: HostRuntime) -> Result<(), Fail> {
-    let (request, _) = ask((), rt.alloc())?;
-    let own = Length::of(String::from_str(rt.alloc(), TEXT)?);
-    let other = Length::of(String::from_str(rt.alloc(), "data from sync threads")?);
-    assert_eq!(rt; (request.fits(&own), request.fits(&other)), (true, false));
-    Ok(())
+fn a_reply_to_another_text_does_not_fit(rt: HostRuntime) {
+    let (request, _) = ask(&rt, ());
+    let own = Length::of(new_text(&rt));
+    let other = String::from_str(rt.alloc(), "data from sync threads");
+    let other = Length::of(other.expect(&rt, "memory"));
+    assert_same!(rt; (request.fits(&own), request.fits(&other)), (true, false));
 }

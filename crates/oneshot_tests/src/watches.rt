@@ -9,82 +9,98 @@ use futures::executor::block_on;
 use futures::future::{Either, ready, select};
 use futures::task::Poll;
 use futures::test::MockTask;
-use oneshot_watch::watch;
+use oneshot_asserts::{Asserts, assert_same, assert_that};
+use oneshot_watch::{Guard, Watch, watch};
+use std::random::RandomSource;
+use std::sync::Wait;
 use std::sync::atomic::{AtomicU64, Ordering};
-use std::test::Fail;
 use std::thread::{join, sleep};
-use std::time::Duration;
+use std::time::{Clock, Duration};
 
 /// How long a guard lives while its watch waits, in milliseconds.
 const MOMENT: u64 = 20;
 
-#[test]
-fn a_look_sees_whether_the_guard_is_gone(rt: HostRuntime) -> Result<(), Fail> {
-    let (guard, mut watch) = watch((), rt.alloc())?;
-    assert_eq!(rt; (watch.is_gone(), watch.is_gone()), (false, false));
-    drop(guard);
-    assert_eq!(rt; (watch.is_gone(), watch.is_gone()), (true, true));
-    Ok(())
+/// Makes a guard, and its watch with this runtime. Ends the test if there is no memory.
+fn guarded<Rt: Drop>(rt: &(impl AllocGlobal + Asserts), runtime: Rt) -> (Guard, Watch<Rt>) {
+    watch(runtime, rt.alloc()).expect(rt, "memory")
 }
 
 #[test]
-fn a_guard_goes_with_what_holds_it(rt: HostRuntime) -> Result<(), Fail> {
-    let (guard, mut watch) = watch((), rt.alloc())?;
+fn a_look_sees_whether_the_guard_is_gone(rt: HostRuntime) {
+    let (guard, mut watch) = guarded(&rt, ());
+    assert_same!(rt; (watch.is_gone(), watch.is_gone()), (false, false));
+    drop(guard);
+    assert_same!(rt; (watch.is_gone(), watch.is_gone()), (true, true));
+}
+
+#[test]
+fn a_guard_goes_with_what_holds_it(rt: HostRuntime) {
+    let (guard, mut watch) = guarded(&rt, ());
     let held = Some((guard, 7u8));
     assert!(rt; !watch.is_gone());
     drop(held);
     assert!(rt; watch.is_gone());
-    Ok(())
 }
 
 #[test]
-fn a_polled_watch_is_woken_by_the_guards_drop_alone(rt: HostRuntime) -> Result<(), Fail> {
-    let task = MockTask::new(&rt)?;
-    let (guard, watch) = watch((), rt.alloc())?;
+fn a_polled_watch_is_woken_by_the_guards_drop_alone(rt: HostRuntime) {
+    let task = MockTask::new(&rt).expect(&rt, "a task");
+    let (guard, watch) = guarded(&rt, ());
     let mut gone = watch.into_future();
     let polled = task.poll(&mut gone);
-    assert_eq!(rt;
+    assert_same!(rt;
         (polled, gone.is_gone(), task.is_woken()),
         (Poll::Pending, false, false)
     );
     drop(guard);
     let is_woken = task.is_woken();
     let (polled, again) = (task.poll(&mut gone), task.poll(&mut gone));
-    assert_eq!(rt;
+    assert_same!(rt;
         (is_woken, polled, again, gone.is_gone(), task.is_woken()),
         (true, Poll::Ready(()), Poll::Ready(()), true, false)
     );
-    Ok(())
+}
+
+/// Waits until the guard of this watch is gone. Returns what is then stored in `goes`.
+fn await_it(
+    rt: &(impl Wait + RandomSource + AllocGlobal + Asserts),
+    watch: Watch<()>,
+    goes: &AtomicU64,
+) -> u64 {
+    block_on(rt, watch.into_future()).expect(rt, "an executor");
+    goes.load(Ordering::SeqCst)
+}
+
+/// Stores 1 in `goes` after a moment, and then drops the guard.
+fn drop_later(rt: &impl Clock, guard: Guard, goes: &AtomicU64) {
+    sleep(rt, Duration::from_millis(MOMENT));
+    goes.store(1, Ordering::SeqCst);
+    drop(guard);
 }
 
 #[test]
-fn a_watch_is_awaited(rt: HostRuntime) -> Result<(), Fail> {
-    let (guard, watch) = watch((), rt.alloc())?;
+fn a_watch_is_awaited(rt: HostRuntime) {
+    let (guard, watch) = guarded(&rt, ());
     let goes = AtomicU64::new(0);
     let (went, ()) = join(
         &rt,
-        || block_on(&rt, watch.into_future()).map(|()| goes.load(Ordering::SeqCst)),
-        || {
-            sleep(&rt, Duration::from_millis(MOMENT));
-            goes.store(1, Ordering::SeqCst);
-            drop(guard);
-        },
+        || await_it(&rt, watch, &goes),
+        || drop_later(&rt, guard, &goes),
     );
-    assert_eq!(rt; went?, 1, "the watch is ready before its guard goes");
-    Ok(())
+    assert_that!(rt; went == 1, "the watch is ready before its guard goes");
 }
 
 #[test]
-fn what_is_selected_beside_a_watch_comes_back(rt: HostRuntime) -> Result<(), Fail> {
-    let (guard, watch) = watch((), rt.alloc())?;
-    let selected = block_on(&rt, select(watch.into_future(), ready(7u8)))?;
-    let Either::Right((number, mut gone)) = selected else {
-        return Err(Fail::new("the watch reports a guard as gone that is there"));
+fn what_is_selected_beside_a_watch_comes_back(rt: HostRuntime) {
+    let (guard, watch) = guarded(&rt, ());
+    let selected = block_on(&rt, select(watch.into_future(), ready(7u8)));
+    let Either::Right((number, mut gone)) = selected.expect(&rt, "an executor") else {
+        panic!(rt; "the watch reports a guard as gone that is there")
     };
-    assert_eq!(rt; (number, gone.is_gone()), (7, false));
+    assert_same!(rt; (number, gone.is_gone()), (7, false));
     drop(guard);
-    let Either::Left(((), _)) = block_on(&rt, select(gone, ready(7u8)))? else {
-        return Err(Fail::new("the watch reports a guard as there that is gone"));
+    let selected = block_on(&rt, select(gone, ready(7u8)));
+    let Either::Left(((), _)) = selected.expect(&rt, "an executor") else {
+        panic!(rt; "the watch reports a guard as there that is gone")
     };
-    Ok(())
 }

@@ -1,16 +1,13 @@
 //! A receive that waits sleeps: it uses little processor time, however long it waits.
 
-use super::beside::{Before, Calls, Pace, WAITS, beside};
+use super::beside::{Before, Calls, Pace, WAITS, beside, used_time};
 use super::clocks::assert_spins;
-use oneshot_calls::{ReceiverCall, Reply, SenderCall, script, shows};
+use oneshot_asserts::{Asserts, assert_that};
+use oneshot_calls::{ReceiverCall, SenderCall, script, shows};
 use std::alloc::AllocGlobal;
 use std::hint::spin_loop;
-use std::io;
-use std::process::Abort;
 use std::random::RandomSource;
-use std::sync::atomic::AtomicU64;
 use std::sync::{Arc, Wait};
-use std::test::Fail;
 use std::thread::Threads;
 use std::time::{Clock, CpuClock, Duration};
 
@@ -30,100 +27,89 @@ const SHORT_WAITS: u32 = 10;
 /// sleeps.
 const HINTS: u32 = 50_000;
 
-/// The reply of a receive from a sender that sleeps for `lingers` milliseconds and sends 19, and the receive's
-/// processor time.
-fn time_of<R: Threads + Wait + Clock + CpuClock + RandomSource + AllocGlobal + Sync>(
+/// The processor time of a receive from a sender that sleeps for `lingers` milliseconds and sends 19. Fails unless the
+/// receive gets the message.
+fn time_of<R: Threads + Wait + Clock + CpuClock + RandomSource + AllocGlobal + Asserts + Sync>(
     rt: &R,
     receives: &[ReceiverCall],
     lingers: u64,
-) -> Result<(Reply<u64>, Duration), Fail> {
-    let message = Arc::new(rt.alloc(), 19)?;
+) -> Duration {
+    let message = Arc::new(rt.alloc(), 19).expect(rt, "memory");
     let calls = Calls {
         sends: &[SenderCall::Closed, SenderCall::Send],
         receives,
     };
-    let pace = Pace {
-        here: AtomicU64::new(0),
-        before: Before::Sleep(Duration::from_millis(lingers)),
-    };
-    let outcome = beside(rt, message, calls, &pace)?;
-    Ok((outcome.received.numbered(), outcome.used))
+    let pace = Pace::new(Before::Sleep(Duration::from_millis(lingers)));
+    let (received, _) = beside(rt, message, calls, &pace);
+    let used = received.used;
+    let reply = received.reply.numbered();
+    assert_that!(rt; shows(&reply, "Ok(19)"), (receives, &reply));
+    used
 }
 
 /// The processor time of `HINTS` hints.
-fn time_of_hints(rt: &impl CpuClock) -> io::Result<Duration> {
-    let before = rt.thread_cpu_time()?;
+fn time_of_hints(rt: &(impl CpuClock + Asserts)) -> Duration {
+    let before = used_time(rt);
     for _ in 0..HINTS {
         spin_loop();
     }
-    Ok(rt.thread_cpu_time()?.saturating_sub(before))
+    used_time(rt).saturating_sub(before)
 }
 
 /// Whether a receive from a sender that sleeps for `lingers` milliseconds uses at least the processor time of `HINTS`
-/// hints, and its reply. The hints are timed just before the receive, since other programs slow both. If the clock
-/// stood still, both times would be zero, and the receive would count as one that spins.
-fn spins<R: Threads + Wait + Clock + CpuClock + RandomSource + AllocGlobal + Sync>(
+/// hints. The hints are timed just before the receive, since other programs slow both. If the clock stood still, both
+/// times would be zero, and the receive would count as one that spins. Fails unless the receive gets the message.
+fn spins<R: Threads + Wait + Clock + CpuClock + RandomSource + AllocGlobal + Asserts + Sync>(
     rt: &R,
     receives: &[ReceiverCall],
     lingers: u64,
-) -> Result<(bool, Reply<u64>), Fail> {
-    let much = time_of_hints(rt)?;
-    let (received, used) = time_of(rt, receives, lingers)?;
-    Ok((used >= much, received))
+) -> bool {
+    let much = time_of_hints(rt);
+    time_of(rt, receives, lingers) >= much
 }
 
 /// Whether a receive that waits long sleeps in one of `TRIES` tries. Fails unless it gets the message in each.
-fn sleeps<R: Threads + Wait + Clock + CpuClock + RandomSource + AllocGlobal + Abort + Sync>(
+fn sleeps<R: Threads + Wait + Clock + CpuClock + RandomSource + AllocGlobal + Asserts + Sync>(
     rt: &R,
     receives: &str,
-) -> Result<bool, Fail> {
-    let calls = script::<ReceiverCall>(rt.alloc(), receives)?;
+) -> bool {
+    let calls = script::<ReceiverCall>(rt.alloc(), receives).expect(rt, "a script");
     for _ in 0..TRIES {
-        let (spins, received) = spins(rt, &calls, LONG)?;
-        assert!(rt; shows(&received, "Ok(19)"), "{receives}: {received}");
-        if !spins {
-            return Ok(true);
+        if !spins(rt, &calls, LONG) {
+            return true;
         }
     }
-    Ok(false)
+    false
 }
 
 #[test]
-fn a_receive_that_waits_uses_little_processor_time(rt: HostRuntime) -> Result<(), Fail> {
+fn a_receive_that_waits_uses_little_processor_time(rt: HostRuntime) {
     for receives in WAITS {
-        assert!(rt; sleeps(&rt, receives)?, "{receives} does not sleep");
+        assert_that!(rt; sleeps(&rt, receives), receives);
     }
-    Ok(())
 }
 
-/// In how many of `SHORT_WAITS` short waits a receive spins.
-fn spinning_waits<R: Threads + Wait + Clock + CpuClock + RandomSource + AllocGlobal + Abort + Sync>(
-    rt: &R,
-    receives: &[ReceiverCall],
-) -> Result<u32, Fail> {
+/// In how many of `SHORT_WAITS` short waits a receive spins. Fails unless it gets the message in each.
+fn spinning_waits<
+    R: Threads + Wait + Clock + CpuClock + RandomSource + AllocGlobal + Asserts + Sync,
+>(rt: &R, receives: &str) -> u32 {
+    let calls = script::<ReceiverCall>(rt.alloc(), receives).expect(rt, "a script");
     let mut spinning = 0u32;
     for _ in 0..SHORT_WAITS {
-        let (spins, received) = spins(rt, receives, SHORT)?;
-        assert!(rt; shows(&received, "Ok(19)"), "{receives:?}: {received}");
-        if spins {
+        if spins(rt, &calls, SHORT) {
             spinning = spinning.saturating_add(1);
         }
     }
-    Ok(spinning)
+    spinning
 }
 
 #[test]
-fn a_receive_spins_little_before_it_sleeps(rt: HostRuntime) -> Result<(), Fail> {
-    assert_spins(&rt)?;
+fn a_receive_spins_little_before_it_sleeps(rt: HostRuntime) {
+    assert_spins(&rt);
     // `recv` and `recv_ref` read no clock, so `assert_spins` cannot count their spins.
     for receives in ["recv", "ref try ref"] {
-        let calls = script::<ReceiverCall>(rt.alloc(), receives)?;
-        let spinning = spinning_waits(&rt, &calls)?;
+        let spinning = spinning_waits(&rt, receives);
         // Other programs may have disturbed a few of the waits.
-        assert!(rt;
-            spinning < SHORT_WAITS / 2,
-            "{receives} spun in {spinning} waits"
-        );
+        assert_that!(rt; spinning < SHORT_WAITS / 2, (receives, spinning));
     }
-    Ok(())
 }

@@ -1,13 +1,13 @@
 //! Receives by clocks that return written readings, count them, or have the sender act at one.
 
+use super::open;
+use oneshot_asserts::{Asserts, assert_same};
 use oneshot_calls::{SenderCall, Sending};
-use oneshot_channel::{Receiver, RecvError, RecvTimeoutError, Sender, channel};
-use std::alloc::{AllocError, AllocGlobal, Global};
+use oneshot_channel::{Receiver, RecvError, RecvTimeoutError, Sender};
+use std::alloc::AllocGlobal;
 use std::cell::Cell;
 use std::io;
-use std::process::{Abort, Termination};
 use std::sync::Wait;
-use std::test::Fail;
 use std::time::{Clock, Duration, Instant};
 
 /// A runtime whose clock reads the given nanoseconds, one after the other, and then fails. It counts its readings.
@@ -50,19 +50,9 @@ impl<'a, R> Clock for Written<'a, R> {
     }
 }
 
-type Ends<'w, 'a, R> = (Sender<u8>, Receiver<u8, &'w Written<'a, R>>);
-
-// A channel whose receiver has the written clock.
-fn by_clock<'w, 'a, R>(
-    clock: &'w Written<'a, R>,
-    alloc: Global,
-) -> Result<Ends<'w, 'a, R>, AllocError> {
-    channel(clock, alloc)
-}
-
-// The instant that many nanoseconds after a clock's start.
-pub(crate) fn instant_at(rt: &impl Wait, nanos: u64) -> io::Result<Instant> {
-    Instant::now(&Written::new(rt, &[nanos]))
+/// The instant that many nanoseconds after a clock's start.
+pub(crate) fn instant_at(rt: &(impl Wait + Asserts), nanos: u64) -> Instant {
+    Instant::now(&Written::new(rt, &[nanos])).expect(rt, "a written clock")
 }
 
 /// A second, in nanoseconds.
@@ -98,17 +88,10 @@ pub(crate) const DEADLINES: [(u64, &[u64], usize); 10] = [
 ];
 
 #[test]
-fn a_deadline_ends_a_receive_once_the_clock_is_past_it(rt: HostRuntime) -> Result<(), Fail> {
+fn a_deadline_ends_a_receive_once_the_clock_is_past_it(rt: HostRuntime) {
     for (deadline, written, made) in DEADLINES {
-        let clock = Written::new(&rt, written);
-        let (_sender, mut receiver) = by_clock(&clock, rt.alloc())?;
-        let received = receiver.recv_deadline(instant_at(&rt, deadline)?);
-        assert_eq!(rt;
-            (deadline, written, received, clock.made()),
-            (deadline, written, Err(RecvTimeoutError::Timeout), made)
-        );
+        assert_times_out(&rt, Limit::Deadline, deadline, written, made);
     }
-    Ok(())
 }
 
 /// A timeout in nanoseconds, a clock's readings, and how many a receive with this timeout makes. The first is for the
@@ -139,17 +122,10 @@ pub(crate) const TIMEOUTS: [(u64, &[u64], usize); 13] = [
 ];
 
 #[test]
-fn a_timeout_counts_from_one_reading(rt: HostRuntime) -> Result<(), Fail> {
+fn a_timeout_counts_from_one_reading(rt: HostRuntime) {
     for (timeout, written, made) in TIMEOUTS {
-        let clock = Written::new(&rt, written);
-        let (_sender, mut receiver) = by_clock(&clock, rt.alloc())?;
-        let received = receiver.recv_timeout(Duration::from_nanos(timeout));
-        assert_eq!(rt;
-            (timeout, written, received, clock.made()),
-            (timeout, written, Err(RecvTimeoutError::Timeout), made)
-        );
+        assert_times_out(&rt, Limit::Timeout, timeout, written, made);
     }
-    Ok(())
 }
 
 /// How often a receive spins before it sleeps.
@@ -177,120 +153,128 @@ enum Limit {
 }
 
 impl Limit {
-    /// What a receive by this clock returns. Its deadline is a second after its start.
+    /// What a receive by this clock returns, and how many readings the clock has then made. A timeout is so many
+    /// nanoseconds, and a deadline as far from the clock's start.
     fn receive(
         self,
-        rt: &(impl Wait + AllocGlobal),
+        rt: &(impl Wait + AllocGlobal + Asserts),
         clock: &Written<'_, impl Wait>,
-    ) -> Result<Result<u8, RecvTimeoutError>, Fail> {
-        let (_sender, mut receiver) = by_clock(clock, rt.alloc())?;
-        Ok(match self {
-            Limit::Timeout => receiver.recv_timeout(Duration::from_nanos(SECOND)),
-            Limit::Deadline => receiver.recv_deadline(instant_at(rt, SECOND)?),
-        })
+        nanos: u64,
+    ) -> (Result<u8, RecvTimeoutError>, usize) {
+        let (_sender, mut receiver) = open(rt, clock);
+        let received = match self {
+            Limit::Timeout => receiver.recv_timeout(Duration::from_nanos(nanos)),
+            Limit::Deadline => receiver.recv_deadline(instant_at(rt, nanos)),
+        };
+        (received, clock.made())
     }
 
     /// How many readings a receive makes after the one for its deadline. By this clock the deadline is a second away in
     /// `rounds` rounds, and past in the next. Fails unless the receive times out.
-    fn readings(
-        self,
-        rt: &(impl Wait + AllocGlobal + Abort),
-        rounds: usize,
-    ) -> Result<usize, Fail> {
-        let same = match self {
-            Limit::Timeout => rounds.saturating_add(1),
-            Limit::Deadline => rounds,
+    fn readings(self, rt: &(impl Wait + AllocGlobal + Asserts), rounds: usize) -> usize {
+        // A receive with a timeout makes one reading for its deadline.
+        let first = match self {
+            Limit::Timeout => 1,
+            Limit::Deadline => 0,
         };
-        let readings = still_for(same);
+        let readings = still_for(rounds.saturating_add(first));
         let clock = Written::new(rt, &readings);
-        let received = self.receive(rt, &clock)?;
-        assert_eq!(rt;
+        let (received, _) = self.receive(rt, &clock, SECOND);
+        assert_same!(rt;
             (self, rounds, received),
             (self, rounds, Err(RecvTimeoutError::Timeout))
         );
-        // A receive with a timeout makes one reading for its deadline.
-        let first = same.saturating_sub(rounds);
-        Ok(clock.made().saturating_sub(first))
+        clock.made().saturating_sub(first)
     }
+}
+
+/// Fails unless a receive with this limit times out after `wanted` readings, with those that fail since none is
+/// written.
+fn assert_times_out(
+    rt: &(impl Wait + AllocGlobal + Asserts),
+    limit: Limit,
+    nanos: u64,
+    written: &[u64],
+    wanted: usize,
+) {
+    let (received, made) = limit.receive(rt, &Written::new(rt, written), nanos);
+    assert_same!(rt;
+        (limit, nanos, written, received, made),
+        (limit, nanos, written, Err(RecvTimeoutError::Timeout), wanted)
+    );
 }
 
 /// Fails unless a receive whose deadline is far in `rounds` rounds makes `wanted` readings after the one for its
 /// deadline.
 fn assert_readings(
-    rt: &(impl Wait + AllocGlobal + Abort),
+    rt: &(impl Wait + AllocGlobal + Asserts),
     limit: Limit,
     rounds: usize,
     wanted: usize,
-) -> Result<(), Fail> {
-    let made = limit.readings(rt, rounds)?;
-    assert_eq!(rt; (limit, rounds, made), (limit, rounds, wanted));
-    Ok(())
+) {
+    let made = limit.readings(rt, rounds);
+    assert_same!(rt; (limit, rounds, made), (limit, rounds, wanted));
 }
 
 #[test]
 #[should_panic(expected = "right: (Deadline, 0, 2)")]
 fn another_count_of_readings_ends_a_test(rt: HostRuntime) {
-    let _ = assert_readings(&rt, Limit::Deadline, 0, 2).report(&rt);
+    assert_readings(&rt, Limit::Deadline, 0, 2);
 }
 
 /// Fails unless a receive with a far deadline spins seventeen times and then sleeps. A round that spins reads the clock
 /// once, and one that sleeps also reads it in its sleep. The last round finds the deadline past.
-pub(super) fn assert_spins(rt: &(impl Wait + AllocGlobal + Abort)) -> Result<(), Fail> {
+pub(super) fn assert_spins(rt: &(impl Wait + AllocGlobal + Asserts)) {
     for limit in [Limit::Timeout, Limit::Deadline] {
         for rounds in 0..=SPINS {
-            assert_readings(rt, limit, rounds, rounds.saturating_add(1))?;
+            assert_readings(rt, limit, rounds, rounds.saturating_add(1));
         }
-        assert_readings(rt, limit, SPINS + 1, SPINS + 3)?;
+        assert_readings(rt, limit, SPINS + 1, SPINS + 3);
     }
-    Ok(())
 }
 
 /// The least time left before its deadline, in nanoseconds, with which a receive spins.
 const FAR: u64 = 100_000_000;
 
 #[test]
-fn a_receive_spins_only_with_a_far_deadline(rt: HostRuntime) -> Result<(), Fail> {
+fn a_receive_spins_only_with_a_far_deadline(rt: HostRuntime) {
     // The first round spins or sleeps, and the second finds the deadline past.
     for (timeout, made) in [(FAR, 3), (FAR - 1, 4)] {
-        let clock = Written::new(&rt, &[1, 1, 2 * FAR, 2 * FAR]);
-        let (_sender, mut receiver) = by_clock(&clock, rt.alloc())?;
-        let received = receiver.recv_timeout(Duration::from_nanos(timeout));
-        assert_eq!(rt;
-            (timeout, received, clock.made()),
-            (timeout, Err(RecvTimeoutError::Timeout), made)
-        );
+        let written = [1, 1, 2 * FAR, 2 * FAR];
+        assert_times_out(&rt, Limit::Timeout, timeout, &written, made);
     }
-    Ok(())
 }
 
 #[test]
-fn a_clock_that_fails_hides_no_message(rt: HostRuntime) -> Result<(), Fail> {
+fn a_clock_that_fails_hides_no_message(rt: HostRuntime) {
     let clock = Written::new(&rt, &[]);
-    let (sender, mut receiver) = by_clock(&clock, rt.alloc())?;
+    let (sender, mut receiver) = open(&rt, &clock);
+    let is_sent = sender.send(19u8).is_ok();
     let limit = Duration::from_nanos(5);
-    assert_eq!(rt;
-        (
-            sender.send(19).is_ok(),
-            receiver.recv_timeout(limit),
-            receiver.recv_timeout(limit)
-        ),
-        (true, Ok(19), Err(RecvTimeoutError::Disconnected))
+    let received = (receiver.recv_timeout(limit), receiver.recv_timeout(limit));
+    assert_same!(rt;
+        (is_sent, received),
+        (true, (Ok(19), Err(RecvTimeoutError::Disconnected)))
     );
-    Ok(())
+}
+
+/// Fails unless `recv_ref` receives 19, closes the receiver and then receives nothing.
+fn assert_is_received_once(
+    rt: &impl Asserts,
+    receiver: &mut Receiver<u8, &Written<'_, impl Wait>>,
+) {
+    assert_same!(rt; (receiver.recv_ref(), receiver.is_closed()), (Ok(19), true));
+    assert_same!(rt; receiver.recv_ref(), Err(RecvError));
 }
 
 #[test]
-fn a_receive_without_a_deadline_reads_no_clock(rt: HostRuntime) -> Result<(), Fail> {
+fn a_receive_without_a_deadline_reads_no_clock(rt: HostRuntime) {
     let clock = Written::new(&rt, &[]);
-    let (sender, mut receiver) = by_clock(&clock, rt.alloc())?;
-    assert!(rt; sender.send(19).is_ok());
-    assert_eq!(rt; (receiver.recv_ref(), receiver.is_closed()), (Ok(19), true));
-    let received = (receiver.recv_ref(), receiver.recv());
-    assert_eq!(rt;
-        (received, clock.made()),
-        ((Err(RecvError), Err(RecvError)), 0)
-    );
-    Ok(())
+    let (sender, mut receiver) = open(&rt, &clock);
+    assert!(rt; sender.send(19u8).is_ok());
+    assert_is_received_once(&rt, &mut receiver);
+    let received = receiver.recv();
+    assert_same!(rt; (received, clock.made()), (Err(RecvError), 0));
 }
 
 /// A runtime that counts the readings of its clock.
@@ -298,6 +282,15 @@ fn a_receive_without_a_deadline_reads_no_clock(rt: HostRuntime) -> Result<(), Fa
 struct Counting<'a, R> {
     rt: &'a R,
     readings: Cell<u64>,
+}
+
+impl<'a, R> Counting<'a, R> {
+    fn new(rt: &'a R) -> Counting<'a, R> {
+        Counting {
+            rt,
+            readings: Cell::new(0),
+        }
+    }
 }
 
 impl<'a, R: Wait> Wait for Counting<'a, R> {}
@@ -313,20 +306,23 @@ impl<'a, R: Clock> Clock for Counting<'a, R> {
     }
 }
 
+/// The instant 20 milliseconds after now.
+fn soon(rt: &(impl Clock + Asserts)) -> Instant {
+    let now = Instant::now(rt).expect(rt, "a clock");
+    let soon = now.checked_add(Duration::from_millis(20));
+    soon.expect(rt, "an instant can hold it")
+}
+
 // A busy wait would read the clock some ten thousand times in this time.
 #[test]
-fn a_receive_that_waits_reads_the_clock_few_times(rt: HostRuntime) -> Result<(), Fail> {
-    let counting = Counting {
-        rt: &rt,
-        readings: Cell::new(0),
-    };
-    let (_sender, mut receiver) = channel::<u8, _>(&counting, rt.alloc())?;
+fn a_receive_that_waits_reads_the_clock_few_times(rt: HostRuntime) {
+    let counting = Counting::new(&rt);
+    let (_sender, mut receiver) = open::<u8, _>(&rt, &counting);
     let by_timeout = receiver.recv_timeout(Duration::from_millis(20));
     let few_by_timeout = counting.readings.get() < 100;
-    let end = Instant::now(&rt)?.checked_add(Duration::from_millis(20));
-    let by_deadline = receiver.recv_deadline(end.ok_or("an instant can hold it")?);
+    let by_deadline = receiver.recv_deadline(soon(&rt));
     let few_by_both = counting.readings.get() < 200;
-    assert_eq!(rt;
+    assert_same!(rt;
         (by_timeout, few_by_timeout, by_deadline, few_by_both),
         (
             Err(RecvTimeoutError::Timeout),
@@ -335,7 +331,6 @@ fn a_receive_that_waits_reads_the_clock_few_times(rt: HostRuntime) -> Result<(),
             true
         )
     );
-    Ok(())
 }
 
 /// More readings than a receive with a far deadline makes: one for the deadline, one before each of its
@@ -347,19 +342,16 @@ const SPINLESS: u64 = 10;
 
 // A receive reads its clock before each spin, so more spins show as more readings.
 #[test]
-fn a_receive_spins_few_times_before_it_sleeps(rt: HostRuntime) -> Result<(), Fail> {
-    let counting = Counting {
-        rt: &rt,
-        readings: Cell::new(0),
-    };
-    let (_sender, mut receiver) = channel::<u8, _>(&counting, rt.alloc())?;
+fn a_receive_spins_few_times_before_it_sleeps(rt: HostRuntime) {
+    let counting = Counting::new(&rt);
+    let (_sender, mut receiver) = open::<u8, _>(&rt, &counting);
     let far = receiver.recv_timeout(Duration::from_millis(150));
     let spins_few_times = counting.readings.replace(0) < READINGS;
     // With less than a tenth of a second left it does not spin: it reads the clock for the deadline, before its
     // sleep, twice in it, and after it.
     let near = receiver.recv_timeout(Duration::from_millis(5));
     let does_not_spin = counting.readings.get() < SPINLESS;
-    assert_eq!(rt;
+    assert_same!(rt;
         (far, spins_few_times, near, does_not_spin),
         (
             Err(RecvTimeoutError::Timeout),
@@ -368,30 +360,23 @@ fn a_receive_spins_few_times_before_it_sleeps(rt: HostRuntime) -> Result<(), Fai
             true
         )
     );
-    Ok(())
 }
 
-/// The sender, and the call that it makes.
-type Act = (Sending<u64, Sender<u64>>, SenderCall);
-
-/// A runtime whose clock always reads an hour. At its next reading the sender acts.
+/// A runtime whose clock always reads an hour. At its next reading the sender makes its call.
 #[derive(Drop)]
 struct Meanwhile<'a, R> {
     rt: &'a R,
-    act: Cell<Option<Act>>,
+    call: SenderCall,
+    sending: Cell<Option<Sending<u64, Sender<u64>>>>,
 }
 
 impl<'a, R> Meanwhile<'a, R> {
-    fn new(rt: &'a R) -> Meanwhile<'a, R> {
+    fn new(rt: &'a R, call: SenderCall) -> Meanwhile<'a, R> {
         Meanwhile {
             rt,
-            act: Cell::new(None),
+            call,
+            sending: Cell::new(None),
         }
-    }
-
-    // Sets which call the sender makes at the next reading. Its message is 19.
-    fn will(&self, sender: Sender<u64>, call: SenderCall) {
-        self.act.set(Some((Sending::new(sender, Some(19)), call)));
     }
 }
 
@@ -399,9 +384,9 @@ impl<'a, R: Wait> Wait for Meanwhile<'a, R> {}
 
 impl<'a, R> Clock for Meanwhile<'a, R> {
     fn monotonic(&self) -> io::Result<Duration> {
-        if let Some((mut sending, call)) = self.act.take() {
+        if let Some(mut sending) = self.sending.take() {
             // A refused send shows in what the receive returns.
-            let _ = sending.make(call);
+            let _ = sending.make(self.call);
         }
         Ok(Duration::from_secs(3_600))
     }
@@ -411,26 +396,28 @@ impl<'a, R> Clock for Meanwhile<'a, R> {
     }
 }
 
+/// What a receive returns at whose deadline the sender makes this call, and whether the receiver is then closed. The
+/// message is 19.
+fn received_beside(
+    rt: &(impl Wait + AllocGlobal + Asserts),
+    call: SenderCall,
+) -> (Result<u64, RecvTimeoutError>, bool) {
+    let clock = Meanwhile::new(rt, call);
+    let (sender, mut receiver) = open(rt, &clock);
+    clock.sending.set(Some(Sending::new(sender, Some(19))));
+    let received = receiver.recv_deadline(instant_at(rt, 5));
+    (received, receiver.is_closed())
+}
+
 // The receiver finds what the sender left when it swaps the word to end its wait.
 #[test]
-fn a_message_that_comes_at_the_deadline_is_found(rt: HostRuntime) -> Result<(), Fail> {
-    let clock = Meanwhile::new(&rt);
-    let (sender, mut receiver) = channel::<u64, _>(&clock, rt.alloc())?;
-    clock.will(sender, SenderCall::Send);
-    let received = receiver.recv_deadline(instant_at(&rt, 5)?);
-    assert_eq!(rt; (received, receiver.is_closed()), (Ok(19), true));
-    Ok(())
+fn a_message_that_comes_at_the_deadline_is_found(rt: HostRuntime) {
+    let found = received_beside(&rt, SenderCall::Send);
+    assert_same!(rt; found, (Ok(19), true));
 }
 
 #[test]
-fn a_drop_at_the_deadline_is_found(rt: HostRuntime) -> Result<(), Fail> {
-    let clock = Meanwhile::new(&rt);
-    let (sender, mut receiver) = channel::<u64, _>(&clock, rt.alloc())?;
-    clock.will(sender, SenderCall::Drop);
-    let received = receiver.recv_deadline(instant_at(&rt, 5)?);
-    assert_eq!(rt;
-        (received, receiver.is_closed()),
-        (Err(RecvTimeoutError::Disconnected), true)
-    );
-    Ok(())
+fn a_drop_at_the_deadline_is_found(rt: HostRuntime) {
+    let found = received_beside(&rt, SenderCall::Drop);
+    assert_same!(rt; found, (Err(RecvTimeoutError::Disconnected), true));
 }

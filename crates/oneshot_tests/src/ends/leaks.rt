@@ -6,14 +6,10 @@ use super::steps::read;
 use crate::pages::{grown_pages, reserved_pages, resident_pages};
 use crate::reply::{answer, ask};
 use crate::watches::cancelled;
-use std::alloc::Global;
-use std::io;
-use std::io::ErrorKind;
-use std::process::{Abort, Termination};
+use oneshot_asserts::{Asserts, assert_that};
 use std::random::RandomSource;
 use std::rt::Files;
 use std::sync::{Arc, Wait};
-use std::test::Fail;
 use std::time::Clock;
 
 /// How many rounds: even the smallest leak in each takes more than `MOST_PAGES`.
@@ -26,195 +22,213 @@ const MOST_PAGES: u64 = 128;
 const MOST_RESERVED: u64 = 1 << 28;
 
 /// How many pages the process grows by in `rounds` rounds, after a tenth as many.
-fn growth<F: FnMut() -> io::Result<()>>(
-    rt: &(impl Files + AllocGlobal),
-    rounds: u64,
-    mut round: F,
-) -> Result<u64, Fail>
+fn growth<F: FnMut()>(rt: &(impl Files + AllocGlobal + Asserts), rounds: u64, mut round: F) -> u64
     requires { F.IsAlwaysCallable round }
 {
     for _ in 0..rounds / 10 {
-        round()?;
+        round();
     }
-    let before = resident_pages(rt)?;
+    let before = resident_pages(rt);
     for _ in 0..rounds {
-        round()?;
+        round();
     }
-    Ok(grown_pages(rt, before)?)
+    grown_pages(rt, before)
 }
 
-/// Whether this process reuses freed memory. Under a sanitizer it does not.
-fn frees_memory(rt: &(impl Files + AllocGlobal)) -> Result<bool, Fail> {
-    let alloc = rt.alloc();
-    let grown = growth(rt, ROUNDS, || {
-        Arc::new(alloc, [0u64; 8])?;
-        Ok(())
-    })?;
-    Ok(grown <= MOST_PAGES)
+/// Takes some memory, and frees it.
+fn take_and_free(rt: &(impl AllocGlobal + Asserts)) {
+    drop(Arc::new(rt.alloc(), [0u64; 8]).expect(rt, "memory"));
 }
 
-/// Whether a leak would be seen in this process. Prints a line if not.
-fn compares_memory(rt: &(impl Files + Print + AllocGlobal)) -> Result<bool, Fail> {
-    let compares = frees_memory(rt)?;
+/// Whether a leak would be seen in this process. A process under a sanitizer does not reuse freed memory, so a leak is
+/// not seen there. Prints a line if no leak would be seen.
+fn compares_memory(rt: &(impl Files + Print + AllocGlobal + Asserts)) -> bool {
+    let compares = growth(rt, ROUNDS, || take_and_free(rt)) <= MOST_PAGES;
     if !compares {
-        println!(rt; "no leak is looked for, since this process keeps what was freed")?;
+        let told = println!(rt; "no leak is looked for, since this process keeps what was freed");
+        told.expect(rt, "an output");
     }
-    Ok(compares)
+    compares
 }
 
 /// Fails if each of many rounds leaks some memory. `about` names what a round does.
-fn assert_leaves_nothing<F: FnMut() -> io::Result<()>>(
-    rt: &(impl Files + AllocGlobal + Abort),
+fn assert_leaves_nothing<F: FnMut()>(
+    rt: &(impl Files + AllocGlobal + Asserts),
     about: &str,
     round: F,
-) -> Result<(), Fail>
+)
     requires { F.IsAlwaysCallable round }
 {
-    let grown = growth(rt, ROUNDS, round)?;
-    assert!(rt; grown <= MOST_PAGES, "{about}: {grown} pages");
-    Ok(())
+    let grown = growth(rt, ROUNDS, round);
+    assert_that!(rt; grown <= MOST_PAGES, (about, grown));
 }
 
 /// Lives each of these lives many times, or once where no leak would be seen. Fails if a channel leaks some memory each
 /// time, or if a call returns something else than its line states.
 fn assert_none_leaks(
-    rt: &(impl Files + Print + Wait + Clock + AllocGlobal + RandomSource + Abort),
+    rt: &(impl Files + Print + Wait + Clock + AllocGlobal + RandomSource + Asserts),
     lives: &[&str],
-) -> Result<(), Fail> {
-    let compares = compares_memory(rt)?;
+) {
+    let compares = compares_memory(rt);
     for text in lives {
-        let life = read(rt.alloc(), text)?;
+        let life = read(rt, text).expect(rt, "a life");
         if compares {
-            assert_leaves_nothing(rt, life.text, || live(rt, &life))?;
+            assert_leaves_nothing(rt, text, || live(rt, &life));
         } else {
-            live(rt, &life)?;
+            live(rt, &life);
         }
     }
-    Ok(())
 }
 
 #[test]
-#[should_panic(expected = "S send = Err | gone full: Ok")]
+#[should_panic(expected = "(\"S send = Err | gone full\", Ok)")]
 fn a_life_that_goes_otherwise_ends_a_test(rt: HostRuntime) {
     let lives = [
         "channel\nS drop = dropped | gone closed",
         "channel\nS send = Err | gone full",
     ];
-    let _ = assert_none_leaks(&rt, &lives).report(&rt);
+    assert_none_leaks(&rt, &lives);
 }
 
 #[test]
-fn a_process_without_a_sanitizer_looks_for_leaks(rt: HostRuntime) -> Result<(), Fail> {
-    let compares = compares_memory(&rt)?;
-    let reserved = reserved_pages(&rt)?;
-    assert!(rt; compares || reserved > MOST_RESERVED, "{reserved} pages");
-    Ok(())
+fn a_process_without_a_sanitizer_looks_for_leaks(rt: HostRuntime) {
+    let compares = compares_memory(&rt);
+    let reserved = reserved_pages(&rt);
+    assert_that!(rt; compares || reserved > MOST_RESERVED, reserved);
 }
 
 #[test]
-fn a_received_message_leaves_nothing(rt: HostRuntime) -> Result<(), Fail> {
-    assert_none_leaks(&rt, RECEIVED)
+fn a_received_message_leaves_nothing(rt: HostRuntime) {
+    assert_none_leaks(&rt, RECEIVED);
 }
 
 #[test]
-fn a_receiver_without_its_message_leaves_nothing(rt: HostRuntime) -> Result<(), Fail> {
-    assert_none_leaks(&rt, UNRECEIVED)
+fn a_receiver_without_its_message_leaves_nothing(rt: HostRuntime) {
+    assert_none_leaks(&rt, UNRECEIVED);
 }
 
 #[test]
-fn a_receiver_whose_time_was_over_leaves_nothing(rt: HostRuntime) -> Result<(), Fail> {
-    assert_none_leaks(&rt, OVER)
+fn a_receiver_whose_time_was_over_leaves_nothing(rt: HostRuntime) {
+    assert_none_leaks(&rt, OVER);
 }
 
 #[test]
-fn a_future_that_was_ready_leaves_nothing(rt: HostRuntime) -> Result<(), Fail> {
-    assert_none_leaks(&rt, READY)
+fn a_future_that_was_ready_leaves_nothing(rt: HostRuntime) {
+    assert_none_leaks(&rt, READY);
 }
 
 #[test]
-fn a_future_that_is_tried_leaves_nothing(rt: HostRuntime) -> Result<(), Fail> {
-    assert_none_leaks(&rt, TRIED)
+fn a_future_that_is_tried_leaves_nothing(rt: HostRuntime) {
+    assert_none_leaks(&rt, TRIED);
 }
 
 #[test]
-fn a_future_that_is_dropped_leaves_nothing(rt: HostRuntime) -> Result<(), Fail> {
-    assert_none_leaks(&rt, DROPPED)
+fn a_future_that_is_dropped_leaves_nothing(rt: HostRuntime) {
+    assert_none_leaks(&rt, DROPPED);
 }
 
 #[test]
-fn raw_ends_leave_nothing(rt: HostRuntime) -> Result<(), Fail> {
-    assert_none_leaks(&rt, RAW)
+fn raw_ends_leave_nothing(rt: HostRuntime) {
+    assert_none_leaks(&rt, RAW);
 }
 
-/// Fails with `InvalidData` unless a call ended as it should.
-fn ended_so(as_it_should: bool) -> io::Result<()> {
-    if as_it_should {
-        Ok(())
-    } else {
-        Err(io::Error::from(ErrorKind::InvalidData))
-    }
+/// Ends a request with its reply.
+fn end_with_a_reply(rt: &(impl AllocGlobal + Asserts)) {
+    let (request, mut ticket) = ask(rt, ());
+    assert!(rt; answer(rt, request).is_ok() && ticket.try_take().is_ok());
 }
 
-/// Ends five requests: one with its reply, one whose reply comes back, one without a reply, and two whose reply is not
-/// taken, of which one's ticket became a future.
-fn end_requests(alloc: Global) -> io::Result<()> {
-    let (request, mut ticket) = ask((), alloc)?;
-    ended_so(answer(request)?.is_ok() && ticket.try_take().is_ok())?;
-    let (request, ticket) = ask((), alloc)?;
+/// Ends a request whose reply comes back.
+fn end_without_a_ticket(rt: &(impl AllocGlobal + Asserts)) {
+    let (request, ticket) = ask(rt, ());
     drop(ticket);
-    ended_so(answer(request)?.is_err())?;
-    let (request, ticket) = ask((), alloc)?;
+    assert!(rt; answer(rt, request).is_err());
+}
+
+/// Ends a request without a reply.
+fn end_without_a_reply(rt: &(impl AllocGlobal + Asserts)) {
+    let (request, ticket) = ask(rt, ());
     drop(request);
     drop(ticket);
-    let (request, ticket) = ask((), alloc)?;
-    ended_so(answer(request)?.is_ok())?;
-    drop(ticket);
-    let (request, ticket) = ask((), alloc)?;
-    let reply = ticket.into_future();
-    ended_so(answer(request)?.is_ok())?;
-    drop(reply);
-    Ok(())
 }
 
-/// Ends three requests that have a watch: one with its reply, one whose ticket goes first, and one whose ticket became
-/// a future, and whose reply is not taken.
-fn end_cancellable_requests(alloc: Global) -> io::Result<()> {
-    let (request, mut ticket) = cancelled::ask((), alloc)?;
-    ended_so(cancelled::answer(request)?.is_ok() && ticket.try_take().is_ok())?;
-    let (request, ticket) = cancelled::ask((), alloc)?;
+/// Ends a request whose reply is not taken.
+fn end_with_a_reply_in_a_ticket(rt: &(impl AllocGlobal + Asserts)) {
+    let (request, ticket) = ask(rt, ());
+    assert!(rt; answer(rt, request).is_ok());
+    drop(ticket);
+}
+
+/// Ends a request whose ticket became a future, and whose reply is not taken.
+fn end_with_a_reply_in_a_future(rt: &(impl AllocGlobal + Asserts)) {
+    let (request, ticket) = ask(rt, ());
+    let reply = ticket.into_future();
+    assert!(rt; answer(rt, request).is_ok());
+    drop(reply);
+}
+
+/// Ends a request in each of five ways.
+fn end_requests(rt: &(impl AllocGlobal + Asserts)) {
+    end_with_a_reply(rt);
+    end_without_a_ticket(rt);
+    end_without_a_reply(rt);
+    end_with_a_reply_in_a_ticket(rt);
+    end_with_a_reply_in_a_future(rt);
+}
+
+/// Ends, with its reply, a request that has a watch.
+fn end_cancellable_with_a_reply(rt: &(impl AllocGlobal + Asserts)) {
+    let (request, mut ticket) = cancelled::ask(rt, ());
+    assert!(rt; cancelled::answer(rt, request).is_ok() && ticket.try_take().is_ok());
+}
+
+/// Ends a request that has a watch, and whose ticket goes first.
+fn end_cancellable_without_a_ticket(rt: &(impl AllocGlobal + Asserts)) {
+    let (request, ticket) = cancelled::ask(rt, ());
     let (request, watch) = request.into_parts();
     drop(ticket);
-    ended_so(answer(request)?.is_err())?;
+    assert!(rt; answer(rt, request).is_err());
     drop(watch);
-    let (request, ticket) = cancelled::ask((), alloc)?;
+}
+
+/// Ends a request that has a watch, whose ticket became a future, and whose reply is not taken.
+fn end_cancellable_with_a_reply_in_a_future(rt: &(impl AllocGlobal + Asserts)) {
+    let (request, ticket) = cancelled::ask(rt, ());
     let reply = ticket.into_future();
-    ended_so(cancelled::answer(request)?.is_ok())?;
+    assert!(rt; cancelled::answer(rt, request).is_ok());
     drop(reply);
-    Ok(())
+}
+
+/// In each of three ways, ends a request that has a watch.
+fn end_cancellable_requests(rt: &(impl AllocGlobal + Asserts)) {
+    end_cancellable_with_a_reply(rt);
+    end_cancellable_without_a_ticket(rt);
+    end_cancellable_with_a_reply_in_a_future(rt);
 }
 
 #[test]
-fn requests_leave_nothing(rt: HostRuntime) -> Result<(), Fail> {
-    if compares_memory(&rt)? {
-        assert_leaves_nothing(&rt, "requests", || end_requests(rt.alloc()))?;
-        return assert_leaves_nothing(
+fn requests_leave_nothing(rt: HostRuntime) {
+    if compares_memory(&rt) {
+        assert_leaves_nothing(&rt, "requests", || end_requests(&rt));
+        assert_leaves_nothing(
             &rt,
             "cancellable requests",
-            || end_cancellable_requests(rt.alloc()),
+            || end_cancellable_requests(&rt),
         );
+    } else {
+        end_requests(&rt);
+        end_cancellable_requests(&rt);
     }
-    end_requests(rt.alloc())?;
-    Ok(end_cancellable_requests(rt.alloc())?)
 }
 
-// Keeps what each round allocates.
-fn keep_each_round(rt: &(impl Files + AllocGlobal + Abort)) -> Result<(), Fail> {
+/// Keeps what each round allocates.
+fn keep_each_round(rt: &(impl Files + AllocGlobal + Asserts)) {
     let mut kept = Vec::new(rt.alloc());
-    assert_leaves_nothing(rt, "kept", || Ok(kept.push([0u64; 8])?))
+    assert_leaves_nothing(rt, "kept", || kept.push([0u64; 8]).expect(rt, "memory"));
 }
 
 #[test]
-#[should_panic(expected = "kept: ")]
+#[should_panic(expected = "(\"kept\", ")]
 fn a_round_that_leaves_something_ends_a_test(rt: HostRuntime) {
-    let _ = keep_each_round(&rt).report(&rt);
+    keep_each_round(&rt);
 }

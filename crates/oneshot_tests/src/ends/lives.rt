@@ -1,13 +1,12 @@
 //! Lives of a channel, line by line: what each step returns, and what the looks of both ends return after it.
 
 use super::steps::{Ends, Life, Step, read};
+use oneshot_asserts::{Asserts, assert_same, assert_that};
 use oneshot_calls::{Fault, Tasks, shows};
-use std::alloc::{AllocError, AllocGlobal};
+use std::alloc::AllocGlobal;
 use std::io;
-use std::process::{Abort, Termination};
 use std::random::RandomSource;
 use std::sync::{Arc, Wait};
-use std::test::Fail;
 use std::time::{Clock, Duration};
 
 /// Futures that become ready.
@@ -238,32 +237,40 @@ const TIMED: &[&str; 6] = &[
     "fardeadline",
 ];
 
+/// The life of a message that was sent before a timed receive, which is named `timed`.
+const SENT: &str = "channel
+    S send = Ok | gone full
+    R timed = Ok(19) | gone closed
+    R timed = Err(Disconnected) | gone closed";
+
+/// The life of a sender that was dropped before a timed receive, which is named `timed`.
+const GONE: &str = "channel
+    S drop = dropped | gone closed
+    R timed = Err(Disconnected) | gone closed";
+
 /// Makes a step. Fails unless it returns what it states.
 fn assert_reply<W: Wait + Clock + Drop>(
-    rt: &(impl Wait + Clock + AllocGlobal + RandomSource + Abort),
+    rt: &(impl Wait + Clock + AllocGlobal + RandomSource + Asserts),
     ends: &mut Ends<W>,
     tasks: &Tasks,
     step: &Step<'_>,
-) -> Result<(), AllocError> {
-    let line = step.line;
-    let reply = ends.make(rt, tasks, step.call)?;
-    assert!(rt; shows(&reply, step.reply), "{line}: {reply}");
-    Ok(())
+) {
+    let reply = ends.make(rt, tasks, step.call);
+    assert_that!(rt; shows(&reply, step.reply), (step.line, &reply));
 }
 
 /// Makes the steps of a life, with tasks of its own for polls, and drops the ends that are left. Fails
 /// unless each step returns what the life states, and the message then has no owner but the test.
 pub(super) fn live(
-    rt: &(impl Wait + Clock + AllocGlobal + RandomSource + Abort),
+    rt: &(impl Wait + Clock + AllocGlobal + RandomSource + Asserts),
     life: &Life<'_>,
-) -> io::Result<()> {
-    let tasks = Tasks::new(rt)?;
-    let mut ends = Ends::open(rt.alloc(), rt, life)?;
+) {
+    let tasks = Tasks::new(rt).expect(rt, "two tasks");
+    let mut ends = Ends::open(rt, rt, life);
     for step in &life.steps {
-        assert_reply(rt, &mut ends, &tasks, step)?;
+        assert_reply(rt, &mut ends, &tasks, step);
     }
-    assert_eq!(rt; (life.text, ends.finish()), (life.text, 1));
-    Ok(())
+    assert_same!(rt; (life.text, ends.finish()), (life.text, 1));
 }
 
 /// A runtime with an `Arc`, whose count shows whether the runtime is alive.
@@ -271,6 +278,15 @@ pub(super) fn live(
 struct CountedRuntime<'a, R> {
     rt: &'a R,
     _alive: Arc<u8>,
+}
+
+impl<'a, R: Asserts> CountedRuntime<'a, R> {
+    fn new(rt: &'a R, alive: &Arc<u8>) -> CountedRuntime<'a, R> {
+        CountedRuntime {
+            rt,
+            _alive: Arc::try_clone(alive).expect(rt, "memory"),
+        }
+    }
 }
 
 impl<'a, R: Wait> Wait for CountedRuntime<'a, R> {}
@@ -300,157 +316,122 @@ fn owners_by((sender, receiver): (&str, &str)) -> (usize, usize) {
 /// Fails unless the looks after a step return what it states, and the message and the runtime, which has an owner
 /// beside `alive`, are owned accordingly.
 fn assert_looks_after<W: Wait + Clock + Drop>(
-    rt: &(impl Wait + Clock + AllocGlobal + RandomSource + Abort),
+    rt: &(impl Wait + Clock + AllocGlobal + RandomSource + Asserts),
     ends: &mut Ends<W>,
-    tasks: &Tasks,
     step: &Step<'_>,
     alive: &Arc<u8>,
 ) {
-    let line = step.line;
-    let looks = ends.looks(rt, tasks);
+    let looks = ends.looks(rt);
     let owners = (ends.owners_inside(), Arc::strong_count(alive));
-    assert_eq!(rt;
-        (looks, owners),
-        (step.looks, owners_by(step.looks)),
-        "after {line}"
-    );
+    let wanted = (step.looks, owners_by(step.looks));
+    assert_same!(rt; (step.line, (looks, owners)), (step.line, wanted));
 }
 
 /// Makes the steps of a life. Fails unless each returns what the life states, and so do the looks after it, and unless
 /// the message and the runtime have the owners that go with the looks.
-fn assert_looks(
-    rt: &(impl Wait + Clock + AllocGlobal + RandomSource + Abort),
-    text: &str,
-) -> Result<(), Fail> {
-    let alive = Arc::new(rt.alloc(), 0u8)?;
-    let tasks = Tasks::new(rt)?;
-    let life = read(rt.alloc(), text)?;
-    let counted = CountedRuntime {
-        rt,
-        _alive: Arc::try_clone(&alive)?,
-    };
-    let mut ends = Ends::open(rt.alloc(), counted, &life)?;
-    assert_steps(rt, &mut ends, &tasks, &life, &alive)?;
-    assert_eq!(rt;
+fn assert_looks(rt: &(impl Wait + Clock + AllocGlobal + RandomSource + Asserts), text: &str) {
+    let alive = Arc::new(rt.alloc(), 0u8).expect(rt, "memory");
+    let tasks = Tasks::new(rt).expect(rt, "two tasks");
+    let life = read(rt, text).expect(rt, "a life");
+    let mut ends = Ends::open(rt, CountedRuntime::new(rt, &alive), &life);
+    assert_steps(rt, &mut ends, &tasks, &life, &alive);
+    assert_same!(rt;
         (text, ends.finish(), Arc::strong_count(&alive)),
         (text, 1, 1)
     );
-    Ok(())
 }
 
 /// Makes the steps, of which the first finds both ends open.
 fn assert_steps<W: Wait + Clock + Drop>(
-    rt: &(impl Wait + Clock + AllocGlobal + RandomSource + Abort),
+    rt: &(impl Wait + Clock + AllocGlobal + RandomSource + Asserts),
     ends: &mut Ends<W>,
     tasks: &Tasks,
     life: &Life<'_>,
     alive: &Arc<u8>,
-) -> Result<(), AllocError> {
+) {
     let text = life.text;
-    assert_eq!(rt; (text, ends.looks(rt, tasks)), (text, ("open", "open")));
+    assert_same!(rt; (text, ends.looks(rt)), (text, ("open", "open")));
     for step in &life.steps {
-        assert_reply(rt, ends, tasks, step)?;
-        assert_looks_after(rt, ends, tasks, step, alive);
+        assert_reply(rt, ends, tasks, step);
+        assert_looks_after(rt, ends, step, alive);
     }
-    Ok(())
 }
 
 #[test]
-fn each_step_of_a_life_returns_what_its_line_states(rt: HostRuntime) -> Result<(), Fail> {
+fn each_step_of_a_life_returns_what_its_line_states(rt: HostRuntime) {
     for lives in LIVES {
         for life in *lives {
-            assert_looks(&rt, life)?;
+            assert_looks(&rt, life);
         }
     }
-    Ok(())
 }
 
-fn live_by(
-    rt: &(impl Wait + Clock + AllocGlobal + RandomSource + Abort),
-    text: &str,
-) -> Result<(), Fail> {
-    Ok(live(rt, &read(rt.alloc(), text)?)?)
+fn live_by(rt: &(impl Wait + Clock + AllocGlobal + RandomSource + Asserts), text: &str) {
+    live(rt, &read(rt, text).expect(rt, "a life"));
 }
 
-/// Fails unless this timed receive gets a message that was sent before it.
-fn assert_gets_a_message(
-    rt: &(impl Wait + Clock + AllocGlobal + RandomSource + Abort),
+/// Fails unless this life, with this timed receive, goes as it states.
+fn assert_timed(
+    rt: &(impl Wait + Clock + AllocGlobal + RandomSource + Asserts),
+    life: &str,
     receive: &str,
-) -> Result<(), Fail> {
-    let sent = format!(in rt.alloc();
-        "channel
-        S send = Ok | gone full
-        R {receive} = Ok(19) | gone closed
-        R {receive} = Err(Disconnected) | gone closed"
-    )?;
-    assert_looks(rt, &sent)
+) {
+    let life = life.replace(rt.alloc(), "timed", receive);
+    assert_looks(rt, &life.expect(rt, "memory"));
 }
 
 #[test]
-#[should_panic(expected = "R ref = Err(Disconnected) | gone closed: Err(RecvError)")]
+#[should_panic(expected = "(\"R ref = Err(Disconnected) | gone closed\", Err(RecvError))")]
 fn a_receive_with_another_error_ends_a_test(rt: HostRuntime) {
-    let _ = assert_gets_a_message(&rt, "ref").report(&rt);
+    assert_timed(&rt, SENT, "ref");
 }
 
 #[test]
-#[should_panic(expected = "R ref = Err(Disconnected) | gone closed: Err(RecvError)")]
+#[should_panic(expected = "(\"R ref = Err(Disconnected) | gone closed\", Err(RecvError))")]
 fn a_drop_with_another_error_ends_a_test(rt: HostRuntime) {
-    let _ = assert_finds_a_drop(&rt, "ref").report(&rt);
-}
-
-/// Fails unless this timed receive finds that the sender was dropped before it.
-fn assert_finds_a_drop(
-    rt: &(impl Wait + Clock + AllocGlobal + RandomSource + Abort),
-    receive: &str,
-) -> Result<(), Fail> {
-    let dropped = format!(in rt.alloc();
-        "channel
-        S drop = dropped | gone closed
-        R {receive} = Err(Disconnected) | gone closed"
-    )?;
-    assert_looks(rt, &dropped)
+    assert_timed(&rt, GONE, "ref");
 }
 
 #[test]
-fn a_timed_receive_gets_what_is_there_whenever_its_time_is_over(
-    rt: HostRuntime,
-) -> Result<(), Fail> {
+fn a_timed_receive_gets_what_is_there_whenever_its_time_is_over(rt: HostRuntime) {
     for receive in TIMED {
-        assert_gets_a_message(&rt, receive)?;
-        assert_finds_a_drop(&rt, receive)?;
+        assert_timed(&rt, SENT, receive);
+        assert_timed(&rt, GONE, receive);
     }
-    Ok(())
 }
 
 #[test]
-#[should_panic(expected = "R try = Ok(19) | gone open: Err(Empty)")]
+#[should_panic(expected = "(\"R try = Ok(19) | gone open\", Err(Empty))")]
 fn another_reply_ends_a_test(rt: HostRuntime) {
-    let _ = live_by(&rt, "channel\nR try = Ok(19) | gone open").report(&rt);
+    live_by(&rt, "channel\nR try = Ok(19) | gone open");
 }
 
 // The text of the reply is the beginning of what the line has.
 #[test]
-#[should_panic(expected = "S send = Ok(19) | gone full: Ok")]
+#[should_panic(expected = "(\"S send = Ok(19) | gone full\", Ok)")]
 fn a_shorter_reply_ends_a_test(rt: HostRuntime) {
-    let _ = live_by(&rt, "channel\nS send = Ok(19) | gone full").report(&rt);
+    live_by(&rt, "channel\nS send = Ok(19) | gone full");
 }
 
 #[test]
-fn a_line_that_is_no_step_is_reported(rt: HostRuntime) -> Result<(), Fail> {
-    for line in [
-        "R tri = Ok(19) | gone open",
-        "R try Ok(19) | gone open",
-        "R try = Ok(19)",
+fn a_line_that_is_no_step_is_reported(rt: HostRuntime) {
+    for (text, line) in [
+        (
+            "channel\n    R tri = Ok(19) | gone open",
+            "R tri = Ok(19) | gone open",
+        ),
+        (
+            "channel\n    R try Ok(19) | gone open",
+            "R try Ok(19) | gone open",
+        ),
+        ("channel\n    R try = Ok(19)", "R try = Ok(19)"),
     ] {
-        let text = format!(in rt.alloc(); "channel\n    {line}")?;
-        let fault = read(rt.alloc(), &text).err();
-        assert_eq!(rt; fault, Some(Fault::Unknown(line)));
+        assert_same!(rt; read(&rt, text).err(), Some(Fault::Unknown(line)));
     }
-    Ok(())
 }
 
 #[test]
-#[should_panic(expected = "after R try = Err(Empty) | open full")]
+#[should_panic(expected = "left: (\"R try = Err(Empty) | open full\", ")]
 fn another_look_ends_a_test(rt: HostRuntime) {
-    let _ = assert_looks(&rt, "channel\nR try = Err(Empty) | open full").report(&rt);
+    assert_looks(&rt, "channel\nR try = Err(Empty) | open full");
 }

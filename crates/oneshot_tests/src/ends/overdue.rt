@@ -1,14 +1,11 @@
 //! Deadlines that pass during the sender's send or drop. If a wakeup were lost, or the receive parked once more than it
 //! is woken, this test would not end.
 
-use super::beside::{Before, Calls, Pace, assert_receives};
+use super::beside::{Before, Calls, assert_receives};
+use oneshot_asserts::Asserts;
 use oneshot_calls::{Ask, ReceiverCall, SenderCall};
-use std::io;
-use std::process::{Abort, Termination};
 use std::random::RandomSource;
 use std::sync::Wait;
-use std::sync::atomic::AtomicU64;
-use std::test::Fail;
 use std::thread::Threads;
 use std::time::{Clock, CpuClock, Duration, Instant};
 
@@ -25,50 +22,49 @@ const SENDS: &[SenderCall] = &[SenderCall::Closed, SenderCall::Send];
 const DROPS: &[SenderCall] = &[SenderCall::Drop];
 
 /// Whether an act's time is over, and the fewest rounds are made.
-fn is_enough(rt: &impl Clock, first: Instant, round: u64) -> io::Result<bool> {
-    let is_late = first.elapsed(rt)? > Duration::from_secs(SECONDS);
-    Ok(is_late && round >= FEWEST_ROUNDS)
+fn is_enough(rt: &(impl Clock + Asserts), first: Instant, round: u64) -> bool {
+    let passed = first.elapsed(rt).expect(rt, "a clock");
+    passed > Duration::from_secs(SECONDS) && round >= FEWEST_ROUNDS
 }
 
-/// Makes an act, after up to 399 loads, beside a receive with a limit of up to six microseconds.
-fn assert_round<R: Threads + Wait + Clock + CpuClock + RandomSource + AllocGlobal + Abort + Sync>(
-    rt: &R,
-    sends: &[SenderCall],
-    round: u64,
-) -> Result<(), Fail> {
+/// The receive of a round, with a limit of up to six microseconds.
+fn timed(round: u64) -> ReceiverCall {
     let limit = Duration::from_micros(round % 7);
-    let timed = if round % 2 == 0 {
+    ReceiverCall::Ask(if round % 2 == 0 {
         Ask::Deadline(limit)
     } else {
         Ask::Timeout(limit)
-    };
+    })
+}
+
+/// Makes an act, after up to 399 loads, beside a timed receive.
+fn assert_round<R: Threads + Wait + Clock + CpuClock + RandomSource + AllocGlobal + Asserts + Sync>(
+    rt: &R,
+    sends: &[SenderCall],
+    round: u64,
+) {
     let calls = Calls {
         sends,
-        receives: &[ReceiverCall::Ask(timed), ReceiverCall::Recv],
+        receives: &[timed(round), ReceiverCall::Recv],
     };
-    let pace = Pace {
-        here: AtomicU64::new(0),
-        before: Before::Load(round % 400),
-    };
-    assert_receives(rt, calls, &pace)
+    assert_receives(rt, calls, Before::Load(round % 400));
 }
 
 #[test]
 #[should_panic(expected = "sends: [], receives: [Ask(")]
 fn a_round_without_an_act_ends_a_test(rt: HostRuntime) {
-    let _ = assert_round(&rt, &[], 0).report(&rt);
+    assert_round(&rt, &[], 0);
 }
 
 #[test]
-fn an_act_at_the_deadline_ends_the_receive(rt: HostRuntime) -> Result<(), Fail> {
+fn an_act_at_the_deadline_ends_the_receive(rt: HostRuntime) {
     for sends in [SENDS, DROPS] {
-        let first = Instant::now(&rt)?;
+        let first = Instant::now(&rt).expect(&rt, "a clock");
         for round in 0..ROUNDS {
-            if is_enough(&rt, first, round)? {
+            if is_enough(&rt, first, round) {
                 break;
             }
-            assert_round(&rt, sends, round)?;
+            assert_round(&rt, sends, round);
         }
     }
-    Ok(())
 }

@@ -2,16 +2,16 @@
 
 ghost use Rattle.std.specs.Prelude.{◌≡◌};
 
+use super::open_async;
 use futures::Future;
 use futures::executor::block_on;
 use futures::future::join;
 use futures::task::{Context, Poll};
-use oneshot_channel::{AsyncReceiver, RecvError, async_channel};
-use std::process::Abort;
+use oneshot_asserts::{Asserts, assert_same, assert_that};
+use oneshot_channel::{AsyncReceiver, RecvError, Sender};
 use std::random::RandomSource;
 use std::sync::Wait;
 use std::sync::atomic::{AtomicU64, Ordering};
-use std::test::Fail;
 use std::thread;
 use std::time::{Clock, Duration};
 
@@ -51,29 +51,42 @@ fn wait_for_a_poll(rt: &impl Clock, polls: &AtomicU64) {
     }
 }
 
+/// A sender, and its receiver, whose polls are counted.
+fn open_counted<'a, R: AllocGlobal + Asserts>(
+    rt: &'a R,
+    polls: &'a AtomicU64,
+) -> (Sender<u8>, CountedReceiver<'a, u8, &'a R>) {
+    let (sender, receiver) = open_async(rt, rt);
+    (sender, CountedReceiver { receiver, polls })
+}
+
+/// Sends a message so many milliseconds after now. Returns whether it is sent.
+fn send_after(rt: &impl Clock, millis: u64, sender: Sender<u8>, message: u8) -> bool {
+    thread::sleep(rt, Duration::from_millis(millis));
+    sender.send(message).is_ok()
+}
+
+/// Sends 19 some time after a future was polled. Returns whether it is sent.
+fn send_to_polled(rt: &impl Clock, polls: &AtomicU64, sender: Sender<u8>) -> bool {
+    wait_for_a_poll(rt, polls);
+    send_after(rt, 100, sender, 19)
+}
+
 // The receiver is polled once, and again when the send wakes its task. Without that wake this test would not end, and
 // a poll that wakes its own task makes hundreds of polls.
 #[test]
-fn a_send_of_another_thread_wakes_the_task(rt: HostRuntime) -> Result<(), Fail> {
+fn a_send_of_another_thread_wakes_the_task(rt: HostRuntime) {
     let polls = AtomicU64::new(0);
-    let (sender, receiver) = async_channel(&rt, rt.alloc())?;
-    let counted = CountedReceiver {
-        receiver,
-        polls: &polls,
-    };
+    let (sender, counted) = open_counted(&rt, &polls);
     let (received, sent) = thread::join(
         &rt,
         || block_on(&rt, counted),
-        || {
-            wait_for_a_poll(&rt, &polls);
-            thread::sleep(&rt, Duration::from_millis(100));
-            sender.send(19u8).is_ok()
-        },
+        || send_to_polled(&rt, &polls, sender),
     );
-    assert_eq!(rt; (sent, received?), (true, Ok(19)));
+    let received = received.expect(&rt, "an executor");
+    assert_same!(rt; (sent, received), (true, Ok(19)));
     let polls = polls.load(Ordering::SeqCst);
-    assert!(rt; 1 < polls && polls <= MOST_POLLS, "{polls} polls");
-    Ok(())
+    assert_that!(rt; 1 < polls && polls <= MOST_POLLS, polls);
 }
 
 /// A future that polls a receiver once, and then returns it.
@@ -94,50 +107,44 @@ impl<T: Drop, Rt: Drop> Future for Lent<T, Rt> {
     }
 }
 
+/// Sends 1 by `first` some time after a future was polled, and then 19 by `last`. Returns whether both are sent.
+fn send_to_both(rt: &impl Clock, polls: &AtomicU64, first: Sender<u8>, last: Sender<u8>) -> bool {
+    wait_for_a_poll(rt, polls);
+    let is_sent = send_after(rt, 100, first, 1);
+    send_after(rt, 100, last, 19) && is_sent
+}
+
 /// How often two joined receivers are polled, one of which gets its message later. Fails unless both get theirs.
-fn polls_of_two<R: thread::Threads + Wait + Clock + RandomSource + AllocGlobal + Abort + Sync>(
+fn polls_of_two<R: thread::Threads + Wait + Clock + RandomSource + AllocGlobal + Asserts + Sync>(
     rt: &R,
-) -> Result<u64, Fail> {
+) -> u64 {
     let polls = AtomicU64::new(0);
-    let (sender, receiver) = async_channel(rt, rt.alloc())?;
-    let (other_sender, other) = async_channel(rt, rt.alloc())?;
-    let counted = CountedReceiver {
-        receiver,
-        polls: &polls,
-    };
-    let other = CountedReceiver {
-        receiver: other,
-        polls: &polls,
-    };
+    let (sender, counted) = open_counted(rt, &polls);
+    let (other_sender, other) = open_counted(rt, &polls);
     let (received, sent) = thread::join(
         rt,
         || block_on(rt, join(counted, other)),
-        || {
-            wait_for_a_poll(rt, &polls);
-            thread::sleep(rt, Duration::from_millis(100));
-            let first = other_sender.send(1u8).is_ok();
-            thread::sleep(rt, Duration::from_millis(100));
-            first && sender.send(19u8).is_ok()
-        },
+        || send_to_both(rt, &polls, other_sender, sender),
     );
-    assert_eq!(rt; (sent, received?), (true, (Ok(19), Ok(1))));
+    let received = received.expect(rt, "an executor");
+    assert_same!(rt; (sent, received), (true, (Ok(19), Ok(1))));
     let polls = polls.load(Ordering::SeqCst);
     // Both once, and the one that waits again.
-    assert!(rt; 2 < polls, "{polls} polls");
-    Ok(polls)
+    assert_that!(rt; 2 < polls, polls);
+    polls
 }
 
 // A receiver keeps the copy of a waker that its channel gives back. Dropping it would wake the task, which
 // would poll both receivers without end. A poll beside a sender that is about to finish is made again, on a busy
 // machine often, and then the test is tried again.
 #[test]
-fn two_joined_receivers_are_polled_as_often_as_they_are_woken(rt: HostRuntime) -> Result<(), Fail> {
+fn two_joined_receivers_are_polled_as_often_as_they_are_woken(rt: HostRuntime) {
     for _ in 0..TRIES {
-        if polls_of_two(&rt)? <= MOST_POLLS {
-            return Ok(());
+        if polls_of_two(&rt) <= MOST_POLLS {
+            return;
         }
     }
-    Err(Fail::new("two joined receivers are polled too often in each try"))
+    panic!(rt; "two joined receivers are polled too often in each try");
 }
 
 /// Polls a receiver once on another thread, and returns it.
@@ -153,32 +160,24 @@ fn polled_there<T: Send + Drop, Rt: Send + Drop>(
 }
 
 #[test]
-fn two_threads_and_two_executors_poll_one_receiver(rt: HostRuntime) -> Result<(), Fail> {
-    let (sender, receiver) = async_channel(&rt, rt.alloc())?;
+fn two_threads_and_two_executors_poll_one_receiver(rt: HostRuntime) {
+    let (sender, receiver) = open_async(&rt, &rt);
     let receiver = polled_there(&rt, receiver).expect(&rt, "the first poll returns the receiver");
     let receiver = polled_there(&rt, receiver).expect(&rt, "the second poll returns the receiver");
     let (received, sent) = thread::join(
         &rt,
         || block_on(&rt, receiver),
-        || {
-            thread::sleep(&rt, Duration::from_millis(20));
-            sender.send(19u8).is_ok()
-        },
+        || send_after(&rt, 20, sender, 19),
     );
-    assert_eq!(rt; (received?, sent), (Ok(19), true));
-    Ok(())
+    let received = received.expect(&rt, "an executor");
+    assert_same!(rt; (received, sent), (Ok(19), true));
 }
 
 #[test]
-fn a_message_that_was_sent_before_is_ready_at_once(rt: HostRuntime) -> Result<(), Fail> {
+fn a_message_that_was_sent_before_is_ready_at_once(rt: HostRuntime) {
     let polls = AtomicU64::new(0);
-    let (sender, receiver) = async_channel(&rt, rt.alloc())?;
-    assert!(rt; sender.send(19u8).is_ok());
-    let counted = CountedReceiver {
-        receiver,
-        polls: &polls,
-    };
-    let received = block_on(&rt, counted)?;
-    assert_eq!(rt; (received, polls.load(Ordering::SeqCst)), (Ok(19), 1));
-    Ok(())
+    let (sender, counted) = open_counted(&rt, &polls);
+    assert!(rt; sender.send(19).is_ok());
+    let received = block_on(&rt, counted).expect(&rt, "an executor");
+    assert_same!(rt; (received, polls.load(Ordering::SeqCst)), (Ok(19), 1));
 }

@@ -1,7 +1,8 @@
 //! Raw ends that go to other threads.
 
-use oneshot_channel::{RawReceiver, RawSender, Receiver, Sender, channel};
-use std::test::Fail;
+use super::open;
+use oneshot_asserts::assert_same;
+use oneshot_channel::{RawReceiver, RawSender, Receiver, Sender};
 use std::thread::{Threads, join};
 
 /// Moves a value to another thread, which returns it.
@@ -20,13 +21,12 @@ fn both_there_and_back<T: Send + Drop, Rt: Send + Drop>(
 }
 
 #[test]
-fn raw_ends_go_to_other_threads_and_back(rt: HostRuntime) -> Result<(), Fail> {
-    let (sender, receiver) = channel::<u32, ()>((), rt.alloc())?;
+fn raw_ends_go_to_other_threads_and_back(rt: HostRuntime) {
+    let (sender, receiver) = open::<u32, _>(&rt, ());
     let (sender, receiver) = both_there_and_back(&rt, sender.into_raw(), receiver.into_raw());
     let is_sent = Sender::from_raw(sender).send(100).is_ok();
-    assert_eq!(rt;
+    assert_same!(rt;
         (is_sent, Receiver::from_raw(receiver).try_recv()),
         (true, Ok(100))
     );
-    Ok(())
 }

@@ -1,8 +1,10 @@
 //! What threads share: a sender, a raw sender, and the error of a refused message.
 
-use oneshot_channel::{RawSender, SendError, Sender, channel};
+use super::open;
+use super::refused::refused;
+use oneshot_asserts::assert_same;
+use oneshot_channel::{RawSender, SendError, Sender};
 use std::mem::size_of_val;
-use std::test::Fail;
 use std::thread::{Threads, join};
 
 // What two threads see when they look at one sender.
@@ -11,13 +13,12 @@ fn two_looks<T: Send + Sync>(rt: &impl Threads, sender: &Sender<T>) -> (bool, bo
 }
 
 #[test]
-fn two_threads_look_at_one_sender(rt: HostRuntime) -> Result<(), Fail> {
-    let (sender, receiver) = channel::<u8, ()>((), rt.alloc())?;
+fn two_threads_look_at_one_sender(rt: HostRuntime) {
+    let (sender, receiver) = open::<u8, _>(&rt, ());
     let before = two_looks(&rt, &sender);
     drop(receiver);
     let after = two_looks(&rt, &sender);
-    assert_eq!(rt; (before, after), ((false, false), (true, true)));
-    Ok(())
+    assert_same!(rt; (before, after), ((false, false), (true, true)));
 }
 
 // What two threads read from one error.
@@ -32,15 +33,10 @@ fn taken_there<T: Send + Drop>(rt: &impl Threads, error: SendError<T>) -> T {
 }
 
 #[test]
-fn an_error_is_read_and_emptied_by_other_threads(rt: HostRuntime) -> Result<(), Fail> {
-    let (sender, receiver) = channel::<u8, ()>((), rt.alloc())?;
-    drop(receiver);
-    let Err(error) = sender.send(5) else {
-        panic!(rt; "the receiver is gone")
-    };
+fn an_error_is_read_and_emptied_by_other_threads(rt: HostRuntime) {
+    let error = refused(&rt);
     let read = two_readings(&rt, &error);
-    assert_eq!(rt; (read, taken_there(&rt, error)), ((5, 5), 5));
-    Ok(())
+    assert_same!(rt; (read, taken_there(&rt, error)), ((5, 5), 5));
 }
 
 // The size in bytes that two threads see of a raw sender, which has no call.
@@ -49,15 +45,14 @@ fn two_sights<T: Send + Sync>(rt: &impl Threads, raw: &RawSender<T>) -> (usize, 
 }
 
 #[test]
-fn two_threads_share_a_raw_sender(rt: HostRuntime) -> Result<(), Fail> {
-    let (sender, receiver) = channel::<u8, ()>((), rt.alloc())?;
+fn two_threads_share_a_raw_sender(rt: HostRuntime) {
+    let (sender, receiver) = open::<u8, _>(&rt, ());
     let raw = sender.into_raw();
     let size = size_of_val(&raw);
     let sights = two_sights(&rt, &raw);
     let is_sent = Sender::from_raw(raw).send(5).is_ok();
-    assert_eq!(rt;
+    assert_same!(rt;
         (sights, is_sent, receiver.has_message()),
         ((size, size), true, true)
     );
-    Ok(())
 }

@@ -1,33 +1,22 @@
 //! The texts that `{:?}` prints.
 
+use oneshot_asserts::{Asserts, assert_same};
 use oneshot_channel::{RecvError, RecvTimeoutError, TryRecvError};
-use std::alloc::Global;
 use std::fmt::Debug;
-use std::test::Fail;
 
-fn printed<E: Debug>(alloc: Global, error: &E) -> Result<String, Fail> {
-    Ok(format!(in alloc; "{error:?}")?)
+/// Fails unless `{:?}` prints this text of an error of this type.
+fn assert_prints<E: Debug>(rt: &(impl AllocGlobal + Asserts), name: &str, error: &E, text: &str) {
+    let printed = format!(in rt.alloc(); "{error:?}").expect(rt, "memory");
+    assert_same!(rt; (name, printed.as_str()), (name, text));
 }
 
 #[test]
-fn debug_texts_are_the_names(rt: HostRuntime) -> Result<(), Fail> {
-    let alloc = rt.alloc();
-    let received = printed(alloc, &RecvError)?;
-    let late = printed(alloc, &RecvTimeoutError::Timeout)?;
-    let gone = printed(alloc, &RecvTimeoutError::Disconnected)?;
-    let empty = printed(alloc, &TryRecvError::Empty)?;
-    let closed = printed(alloc, &TryRecvError::Disconnected)?;
-    assert_eq!(rt;
-        (
-            received.as_str(),
-            (late.as_str(), gone.as_str()),
-            (empty.as_str(), closed.as_str())
-        ),
-        (
-            "RecvError",
-            ("Timeout", "Disconnected"),
-            ("Empty", "Disconnected")
-        )
-    );
-    Ok(())
+fn debug_texts_are_the_names(rt: HostRuntime) {
+    assert_prints(&rt, "RecvError", &RecvError, "RecvError");
+    let timed = "RecvTimeoutError";
+    assert_prints(&rt, timed, &RecvTimeoutError::Timeout, "Timeout");
+    assert_prints(&rt, timed, &RecvTimeoutError::Disconnected, "Disconnected");
+    let tried = "TryRecvError";
+    assert_prints(&rt, tried, &TryRecvError::Empty, "Empty");
+    assert_prints(&rt, tried, &TryRecvError::Disconnected, "Disconnected");
 }

@@ -1,39 +1,26 @@
 //! The texts that `{}` prints of each error, through the trait `Error`.
 
+use oneshot_asserts::{Asserts, assert_same};
 use oneshot_channel::{RecvError, RecvTimeoutError, TryRecvError};
-use std::alloc::Global;
 use std::error::Error;
-use std::test::Fail;
 
-fn printed<E: Error>(alloc: Global, error: &E) -> Result<String, Fail> {
-    Ok(format!(in alloc; "{error}")?)
+/// Fails unless `{}` prints this text of an error of this type.
+fn assert_prints<E: Error>(rt: &(impl AllocGlobal + Asserts), name: &str, error: &E, text: &str) {
+    let printed = format!(in rt.alloc(); "{error}").expect(rt, "memory");
+    assert_same!(rt; (name, printed.as_str()), (name, text));
 }
 
 #[test]
-fn display_texts_are_those_of_the_original(rt: HostRuntime) -> Result<(), Fail> {
-    let alloc = rt.alloc();
-    let received = printed(alloc, &RecvError)?;
-    let late = printed(alloc, &RecvTimeoutError::Timeout)?;
-    let gone = printed(alloc, &RecvTimeoutError::Disconnected)?;
-    let empty = printed(alloc, &TryRecvError::Empty)?;
-    let closed = printed(alloc, &TryRecvError::Disconnected)?;
-    assert_eq!(rt;
-        (
-            received.as_str(),
-            (late.as_str(), gone.as_str()),
-            (empty.as_str(), closed.as_str())
-        ),
-        (
-            "receiving on a closed channel",
-            (
-                "timed out waiting on channel",
-                "channel is empty and sending half is closed"
-            ),
-            (
-                "receiving on an empty channel",
-                "receiving on a closed channel"
-            )
-        )
-    );
-    Ok(())
+fn display_texts_are_those_of_the_original(rt: HostRuntime) {
+    let closed = "receiving on a closed channel";
+    assert_prints(&rt, "RecvError", &RecvError, closed);
+    let timed = "RecvTimeoutError";
+    let late = "timed out waiting on channel";
+    assert_prints(&rt, timed, &RecvTimeoutError::Timeout, late);
+    let gone = "channel is empty and sending half is closed";
+    assert_prints(&rt, timed, &RecvTimeoutError::Disconnected, gone);
+    let tried = "TryRecvError";
+    let empty = "receiving on an empty channel";
+    assert_prints(&rt, tried, &TryRecvError::Empty, empty);
+    assert_prints(&rt, tried, &TryRecvError::Disconnected, closed);
 }

@@ -2,14 +2,13 @@
 
 ghost use Rattle.std.specs.Prelude.{◌≡◌};
 
+use crate::ends::open_async;
 use futures::executor::block_on;
-use oneshot_channel::async_channel;
+use oneshot_asserts::{Asserts, assert_same};
 use oneshot_channel::reply::{Answer, Ticket, request};
 use std::fmt::Debug;
-use std::process::{Abort, Termination};
 use std::random::RandomSource;
 use std::sync::Wait;
-use std::test::Fail;
 use std::time::{Clock, Duration};
 
 /// An answer that repeats its question.
@@ -38,83 +37,88 @@ fn question_of<Q: Drop>(echo: Echo<Q>) -> Q {
 }
 
 /// A ticket whose reply has come.
-fn answered<'r, R: AllocGlobal + Abort, Q: Copy + Eq + Send + Drop>(
+fn answered<'r, R: AllocGlobal + Asserts, Q: Copy + Eq + Send + Drop>(
     rt: &'r R,
     question: Q,
-) -> Result<Ticket<Q, Echo<Q>, &'r R>, Fail> {
+) -> Ticket<Q, Echo<Q>, &'r R> {
     let Ok((request, ticket)) = request(rt, rt.alloc(), question) else {
-        return Err(Fail::new("no memory"));
+        panic!(rt; "memory")
     };
     let echo = Echo {
         question: *request.question(),
     };
     assert!(rt; request.fits(&echo) && request.answer(echo).is_ok());
-    Ok(ticket)
+    ticket
 }
 
 /// Sends `message`. Fails unless `wanted` comes by `try_recv` of a future.
-fn assert_message_comes<
-    R: AllocGlobal + Wait + Clock + RandomSource + Abort,
-    Q: Copy + Debug + Eq + Send + Drop,
->(rt: &R, message: Q, wanted: Q) -> Result<(), Fail> {
-    let (sender, mut receiver) = async_channel((), rt.alloc())?;
+fn assert_message_comes<R: AllocGlobal + Asserts, Q: Copy + Debug + Eq + Send + Drop>(
+    rt: &R,
+    message: Q,
+    wanted: Q,
+) {
+    let (sender, mut receiver) = open_async(rt, ());
     assert!(rt; sender.send(message).is_ok());
-    assert_eq!(rt; receiver.try_recv(), Ok(wanted));
-    Ok(())
+    assert_same!(rt; receiver.try_recv(), Ok(wanted));
 }
 
 /// Asks `question`. Fails unless `wanted` comes by each call of a ticket.
 fn assert_reply_comes<
-    R: AllocGlobal + Wait + Clock + RandomSource + Abort,
+    R: AllocGlobal + Wait + Clock + RandomSource + Asserts,
     Q: Copy + Debug + Eq + Send + Drop,
->(rt: &R, question: Q, wanted: Q) -> Result<(), Fail> {
-    let taken = answered(rt, question)?.try_take().map(question_of);
-    let timed = answered(rt, question)?.wait_for(Duration::ZERO);
-    let tried = answered(rt, question)?.into_future().try_recv();
-    assert_eq!(rt;
+>(rt: &R, question: Q, wanted: Q) {
+    let taken = answered(rt, question).try_take().map(question_of);
+    let timed = answered(rt, question).wait_for(Duration::ZERO);
+    let tried = answered(rt, question).into_future().try_recv();
+    assert_same!(rt;
         (taken, timed.map(question_of), tried.map(question_of)),
         (Ok(wanted), Ok(wanted), Ok(wanted))
     );
-    let waited = answered(rt, question)?.wait().map(question_of);
-    let awaited = block_on(rt, answered(rt, question)?.into_future())?;
-    assert_eq!(rt;
-        (waited, awaited.map(question_of)),
-        (Ok(wanted), Ok(wanted))
-    );
-    Ok(())
+    assert_awaited_reply_comes(rt, question, wanted);
+}
+
+/// Asks `question`. Fails unless `wanted` comes by `wait` of a ticket, and of a future by `block_on`.
+fn assert_awaited_reply_comes<
+    R: AllocGlobal + Wait + Clock + RandomSource + Asserts,
+    Q: Copy + Debug + Eq + Send + Drop,
+>(rt: &R, question: Q, wanted: Q) {
+    let waited = answered(rt, question).wait().map(question_of);
+    let awaited = block_on(rt, answered(rt, question).into_future());
+    let awaited = awaited.expect(rt, "an executor").map(question_of);
+    assert_same!(rt; (waited, awaited), (Ok(wanted), Ok(wanted)));
 }
 
 /// Sends and asks `question`. Fails unless `wanted` comes by `try_recv` of a future, and by each call of a ticket.
 fn assert_comes<
-    R: AllocGlobal + Wait + Clock + RandomSource + Abort,
+    R: AllocGlobal + Wait + Clock + RandomSource + Asserts,
     Q: Copy + Debug + Eq + Send + Drop,
->(rt: &R, question: Q, wanted: Q) -> Result<(), Fail> {
-    assert_message_comes(rt, question, wanted)?;
-    assert_reply_comes(rt, question, wanted)
+>(rt: &R, question: Q, wanted: Q) {
+    assert_message_comes(rt, question, wanted);
+    assert_reply_comes(rt, question, wanted);
 }
 
 #[test]
-fn a_reply_of_no_size_comes(rt: HostRuntime) -> Result<(), Fail> {
-    assert_comes(&rt, (), ())
+fn a_reply_of_no_size_comes(rt: HostRuntime) {
+    assert_comes(&rt, (), ());
 }
 
 #[test]
-fn a_reply_of_a_page_comes_whole(rt: HostRuntime) -> Result<(), Fail> {
+fn a_reply_of_a_page_comes_whole(rt: HostRuntime) {
     let mut page = [0u8; 4096];
     for (place, byte) in page.iter_mut().enumerate() {
         *byte = (place % 251) as u8;
     }
-    assert_comes(&rt, page, page)
+    assert_comes(&rt, page, page);
 }
 
 #[test]
 #[should_panic(expected = "right: Ok(2)")]
 fn another_message_ends_a_test(rt: HostRuntime) {
-    let _ = assert_comes(&rt, 1u8, 2).report(&rt);
+    assert_comes(&rt, 1u8, 2);
 }
 
 #[test]
 #[should_panic(expected = "right: (Ok(2), Ok(2), Ok(2))")]
 fn another_reply_ends_a_test(rt: HostRuntime) {
-    let _ = assert_reply_comes(&rt, 1u8, 2).report(&rt);
+    assert_reply_comes(&rt, 1u8, 2);
 }

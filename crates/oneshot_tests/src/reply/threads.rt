@@ -1,9 +1,9 @@
 //! Requests, tickets and replies on threads other than their makers'.
 
-use super::{TEXT, ask, bytes_of};
+use super::{ask, bytes_of, new_text};
+use oneshot_asserts::assert_same;
 use oneshot_channel::TryRecvError;
 use oneshot_channel::reply::{Answer, Length, Request, Ticket};
-use std::test::Fail;
 use std::thread::{Threads, join};
 
 // What a ticket takes on another thread.
@@ -15,28 +15,30 @@ fn taken_there<Q: Eq + Send + Drop, A: Answer<Q> + Send + Drop, Rt: Send + Drop>
     taken
 }
 
-// Whether another thread answered: the reply fits, and the ticket was there.
+/// Answers a request. Returns whether the reply fits, and the ticket was there.
+fn answers<Q: Eq + Send + Drop, A: Answer<Q> + Send + Drop>(
+    request: Request<Q, A>,
+    reply: A,
+) -> bool {
+    request.fits(&reply) && request.answer(reply).is_ok()
+}
+
+/// Whether another thread answered.
 fn answered_there<Q: Eq + Send + Drop, A: Answer<Q> + Send + Drop>(
     rt: &impl Threads,
     request: Request<Q, A>,
     reply: A,
 ) -> bool {
-    let (answered, ()) = join(
-        rt,
-        move || request.fits(&reply) && request.answer(reply).is_ok(),
-        || (),
-    );
+    let (answered, ()) = join(rt, move || answers(request, reply), || ());
     answered
 }
 
 #[test]
-fn a_request_and_its_ticket_go_to_other_threads(rt: HostRuntime) -> Result<(), Fail> {
-    let (request, ticket) = ask((), rt.alloc())?;
-    let length = Length::of(String::from_str(rt.alloc(), TEXT)?);
-    let answered = answered_there(&rt, request, length);
+fn a_request_and_its_ticket_go_to_other_threads(rt: HostRuntime) {
+    let (request, ticket) = ask(&rt, ());
+    let answered = answered_there(&rt, request, Length::of(new_text(&rt)));
     let taken = taken_there(&rt, ticket).map(bytes_of);
-    assert_eq!(rt; (answered, taken), (true, Ok(21)));
-    Ok(())
+    assert_same!(rt; (answered, taken), (true, Ok(21)));
 }
 
 // What two threads see when they look at one request.
@@ -48,11 +50,10 @@ fn two_looks<Q: Eq + Send + Sync, A: Answer<Q> + Send + Sync>(
 }
 
 #[test]
-fn two_threads_look_at_one_request(rt: HostRuntime) -> Result<(), Fail> {
-    let (request, ticket) = ask((), rt.alloc())?;
+fn two_threads_look_at_one_request(rt: HostRuntime) {
+    let (request, ticket) = ask(&rt, ());
     let before = two_looks(&rt, &request);
     drop(ticket);
     let after = two_looks(&rt, &request);
-    assert_eq!(rt; (before, after), ((false, false), (true, true)));
-    Ok(())
+    assert_same!(rt; (before, after), ((false, false), (true, true)));
 }

@@ -2,49 +2,104 @@
 
 use super::MOMENT;
 use crate::ends::clocks::{TIMEOUTS, Written};
-use crate::reply::{TEXT, bytes_of};
+use crate::reply::{TEXT, bytes_of, length_of, new_text};
 use futures::executor::block_on;
 use futures::task::Poll;
 use futures::test::MockTask;
-use oneshot_channel::reply::Length;
+use oneshot_asserts::{Asserts, assert_same};
+use oneshot_channel::reply::{Length, Request};
 use oneshot_channel::{RecvError, RecvTimeoutError, TryRecvError};
-use oneshot_watch::{CancellableRequest, CancellableTicket, cancellable_request};
-use std::alloc::{AllocError, Global};
-use std::test::Fail;
+use oneshot_watch::{
+    CancellableReply, CancellableRequest, CancellableTicket, Watch, cancellable_request,
+};
+use std::sync::Wait;
 use std::thread::{join, sleep};
-use std::time::Duration;
+use std::time::{Clock, Duration};
 
-/// A request for the length of a text, whose watch never blocks, and its ticket.
-type Ends<Rt> = (
-    CancellableRequest<String, Length, ()>,
-    CancellableTicket<String, Length, Rt>,
-);
+/// A request for the length of a text, whose watch never blocks.
+type LengthRequest = CancellableRequest<String, Length, ()>;
 
-/// A request for the length of `TEXT`.
-pub(crate) fn ask<Rt: Drop>(rt: Rt, alloc: Global) -> Result<Ends<Rt>, AllocError> {
-    let question = String::from_str(alloc, TEXT)?;
-    cancellable_request(rt, (), alloc, question).map_err(|_| AllocError)
+/// The ticket of such a request.
+type LengthTicket<Rt> = CancellableTicket<String, Length, Rt>;
+
+/// The reply to such a request, which tasks await.
+type LengthReply = CancellableReply<String, Length, ()>;
+
+/// A request for the length of `TEXT`, whose ticket has this runtime. Ends the test if there is no memory.
+pub(crate) fn ask<Rt: Drop>(
+    rt: &(impl AllocGlobal + Asserts),
+    runtime: Rt,
+) -> (LengthRequest, LengthTicket<Rt>) {
+    cancellable_request(runtime, (), rt.alloc(), new_text(rt)).expect(rt, "memory")
 }
 
-/// Answers with the length of the text. Inner `Err`: the ticket was gone, and the reply came back. Outer `Err`: out of
-/// memory, or the reply does not fit.
+/// The parts of such a request, and its ticket.
+fn ask_in_parts<Rt: Drop>(
+    rt: &(impl AllocGlobal + Asserts),
+    runtime: Rt,
+) -> (Request<String, Length>, Watch<()>, LengthTicket<Rt>) {
+    let (request, ticket) = ask(rt, runtime);
+    let (request, watch) = request.into_parts();
+    (request, watch, ticket)
+}
+
+/// Answers with the length of the text. `Err`: the ticket was gone, and the reply came back. Ends the test if there is
+/// no memory, or if the reply does not fit.
 pub(crate) fn answer<Rt: Drop>(
+    rt: &impl Asserts,
     request: CancellableRequest<String, Length, Rt>,
-) -> Result<Result<(), Length>, AllocError> {
-    let length = Length::of(request.question().clone()?);
+) -> Result<(), Length> {
+    let length = length_of(rt, request.question());
     if !request.fits(&length) {
-        return Err(AllocError);
+        panic!(rt; "the length of a text does not fit its request")
     }
     match request.answer(length) {
-        Ok(()) => Ok(Ok(())),
-        Err(refused) => Ok(Err(refused.into_inner())),
+        Ok(()) => Ok(()),
+        Err(refused) => Err(refused.into_inner()),
     }
 }
 
-#[test]
-fn a_reply_is_taken_once(rt: HostRuntime) -> Result<(), Fail> {
-    let (request, mut ticket) = ask((), rt.alloc())?;
-    assert_eq!(rt;
+/// The bytes of a reply that is taken.
+fn take<Rt: Drop>(ticket: &mut LengthTicket<Rt>) -> Result<usize, TryRecvError> {
+    ticket.try_take().map(bytes_of)
+}
+
+/// The bytes of a reply that is waited for, at most this long.
+fn wait_for<Rt: Wait + Clock + Drop>(
+    ticket: &mut LengthTicket<Rt>,
+    timeout: Duration,
+) -> Result<usize, RecvTimeoutError> {
+    ticket.wait_for(timeout).map(bytes_of)
+}
+
+/// The bytes of a reply that is waited for, at most a millisecond.
+fn wait_a_moment<Rt: Wait + Clock + Drop>(
+    ticket: &mut LengthTicket<Rt>,
+) -> Result<usize, RecvTimeoutError> {
+    wait_for(ticket, Duration::from_millis(1))
+}
+
+/// The bytes of a reply that is waited for.
+fn wait<Rt: Wait + Clock + Drop>(ticket: LengthTicket<Rt>) -> Result<usize, RecvError> {
+    ticket.wait().map(bytes_of)
+}
+
+/// The bytes of a reply that a poll returned.
+fn bytes_polled(polled: Poll<Result<Length, RecvError>>) -> Poll<Result<usize, RecvError>> {
+    match polled {
+        Poll::Ready(received) => Poll::Ready(received.map(bytes_of)),
+        Poll::Pending => Poll::Pending,
+    }
+}
+
+/// Whether a reply that tasks await is closed, and whether its message is there.
+fn looks_of(reply: &LengthReply) -> (bool, bool) {
+    (reply.is_closed(), reply.has_message())
+}
+
+/// Fails unless the request has its question, and both ends are there.
+fn assert_is_asked(rt: &impl Asserts, request: &LengthRequest, ticket: &LengthTicket<()>) {
+    assert_same!(rt;
         (
             request.question().as_str(),
             request.is_cancelled(),
@@ -52,11 +107,17 @@ fn a_reply_is_taken_once(rt: HostRuntime) -> Result<(), Fail> {
         ),
         (TEXT, false, false)
     );
-    let early = ticket.try_take().map(bytes_of);
-    let sent = (answer(request)?.is_ok(), ticket.is_closed());
-    let taken = ticket.try_take().map(bytes_of);
-    let again = ticket.try_take().map(bytes_of);
-    assert_eq!(rt;
+}
+
+#[test]
+fn a_reply_is_taken_once(rt: HostRuntime) {
+    let (request, mut ticket) = ask(&rt, ());
+    assert_is_asked(&rt, &request, &ticket);
+    let early = take(&mut ticket);
+    let sent = (answer(&rt, request).is_ok(), ticket.is_closed());
+    let taken = take(&mut ticket);
+    let again = take(&mut ticket);
+    assert_same!(rt;
         (early, sent, taken, again, ticket.is_closed()),
         (
             Err(TryRecvError::Empty),
@@ -66,145 +127,138 @@ fn a_reply_is_taken_once(rt: HostRuntime) -> Result<(), Fail> {
             true
         )
     );
-    Ok(())
 }
 
 #[test]
-fn a_reply_is_waited_for_with_a_timeout(rt: HostRuntime) -> Result<(), Fail> {
-    let (request, mut ticket) = ask(&rt, rt.alloc())?;
-    let moment = Duration::from_millis(1);
-    let early = ticket.wait_for(moment).map(bytes_of);
-    let answered = answer(request)?.is_ok();
-    let waited = ticket.wait_for(moment).map(bytes_of);
-    assert_eq!(rt;
+fn a_reply_is_waited_for_with_a_timeout(rt: HostRuntime) {
+    let (request, mut ticket) = ask(&rt, &rt);
+    let early = wait_a_moment(&mut ticket);
+    let answered = answer(&rt, request).is_ok();
+    let waited = wait_a_moment(&mut ticket);
+    assert_same!(rt;
         (early, answered, waited),
         (Err(RecvTimeoutError::Timeout), true, Ok(21))
     );
-    Ok(())
 }
 
 #[test]
-fn a_ticket_waits_to_the_nanosecond(rt: HostRuntime) -> Result<(), Fail> {
+fn a_ticket_waits_to_the_nanosecond(rt: HostRuntime) {
     for (timeout, written, made) in TIMEOUTS {
         let clock = Written::new(&rt, written);
-        let (_request, mut ticket) = ask(&clock, rt.alloc())?;
-        let waited = ticket.wait_for(Duration::from_nanos(timeout)).map(bytes_of);
-        assert_eq!(rt;
+        let (_request, mut ticket) = ask(&rt, &clock);
+        let waited = wait_for(&mut ticket, Duration::from_nanos(timeout));
+        assert_same!(rt;
             (timeout, written, waited, clock.made()),
             (timeout, written, Err(RecvTimeoutError::Timeout), made)
         );
     }
-    Ok(())
 }
 
 #[test]
-fn a_wait_returns_a_reply_that_has_come(rt: HostRuntime) -> Result<(), Fail> {
-    let (request, ticket) = ask(&rt, rt.alloc())?;
-    let (request, mut watch) = request.into_parts();
-    assert!(rt; crate::reply::answer(request)?.is_ok());
-    let waited = ticket.wait().map(bytes_of);
-    assert_eq!(rt; (waited, watch.is_gone()), (Ok(21), true));
-    Ok(())
+fn a_wait_returns_a_reply_that_has_come(rt: HostRuntime) {
+    let (request, mut watch, ticket) = ask_in_parts(&rt, &rt);
+    assert!(rt; crate::reply::answer(&rt, request).is_ok());
+    let waited = wait(ticket);
+    assert_same!(rt; (waited, watch.is_gone()), (Ok(21), true));
 }
 
 #[test]
-fn a_dropped_request_has_no_reply(rt: HostRuntime) -> Result<(), Fail> {
-    let (request, ticket) = ask(&rt, rt.alloc())?;
+fn a_dropped_request_has_no_reply(rt: HostRuntime) {
+    let (request, ticket) = ask(&rt, &rt);
     drop(request);
     assert!(rt; ticket.is_closed());
-    assert_eq!(rt; ticket.wait().map(bytes_of), Err(RecvError));
-    Ok(())
+    assert_same!(rt; wait(ticket), Err(RecvError));
+}
+
+/// A request, and its reply, which the task has polled twice.
+fn ask_and_poll(
+    rt: &(impl AllocGlobal + Asserts),
+    task: &MockTask,
+) -> (LengthRequest, LengthReply) {
+    let (request, ticket) = ask(rt, ());
+    let mut reply = ticket.into_future();
+    let first = bytes_polled(task.poll(&mut reply));
+    let second = bytes_polled(task.poll(&mut reply));
+    assert_same!(rt; (first, second), (Poll::Pending, Poll::Pending));
+    (request, reply)
 }
 
 #[test]
-fn a_reply_is_awaited(rt: HostRuntime) -> Result<(), Fail> {
-    let task = MockTask::new(&rt)?;
-    let (request, ticket) = ask((), rt.alloc())?;
-    let mut reply = ticket.into_future();
-    let first = matches!(task.poll(&mut reply), Poll::Pending);
-    let second = matches!(task.poll(&mut reply), Poll::Pending);
-    assert_eq!(rt; (first, second), (true, true));
+fn a_reply_is_awaited(rt: HostRuntime) {
+    let task = MockTask::new(&rt).expect(&rt, "a task");
+    let (request, mut reply) = ask_and_poll(&rt, &task);
     let tried = reply.try_recv().map(bytes_of);
     let before = (reply.has_message(), task.is_woken());
-    let answered = answer(request)?.is_ok();
+    let answered = answer(&rt, request).is_ok();
     let after = (reply.has_message(), task.is_woken());
-    assert_eq!(rt;
+    assert_same!(rt;
         (tried, before, answered, after),
         (Err(TryRecvError::Empty), (false, false), true, (true, true))
     );
-    let Poll::Ready(received) = task.poll(&mut reply) else {
-        return Err(Fail::new("a reply that was sent is not there"));
-    };
-    assert_eq!(rt; (received.map(bytes_of), task.is_woken()), (Ok(21), false));
-    Ok(())
-}
-
-#[test]
-fn a_dropped_request_closes_the_awaited_reply(rt: HostRuntime) -> Result<(), Fail> {
-    let task = MockTask::new(&rt)?;
-    let (request, ticket) = ask((), rt.alloc())?;
-    let mut reply = ticket.into_future();
-    let first = matches!(task.poll(&mut reply), Poll::Pending);
-    let second = matches!(task.poll(&mut reply), Poll::Pending);
-    assert_eq!(rt; (first, second), (true, true));
-    let before = (reply.is_closed(), reply.has_message());
-    drop(request);
-    let after = (reply.is_closed(), reply.has_message());
-    let is_lost = matches!(task.poll(&mut reply), Poll::Ready(Err(RecvError)));
-    assert_eq!(rt;
-        (before, after, is_lost, task.is_woken()),
-        ((false, false), (true, false), true, false)
+    let received = bytes_polled(task.poll(&mut reply));
+    assert_same!(rt;
+        (received, task.is_woken()),
+        (Poll::Ready(Ok(21)), false)
     );
-    assert_eq!(rt; block_on(&rt, reply)?.map(bytes_of), Err(RecvError));
-    Ok(())
 }
 
 #[test]
-fn a_dropped_ticket_cancels_its_request_and_the_reply_comes_back(
-    rt: HostRuntime,
-) -> Result<(), Fail> {
-    let (request, ticket) = ask((), rt.alloc())?;
+fn a_dropped_request_closes_the_awaited_reply(rt: HostRuntime) {
+    let task = MockTask::new(&rt).expect(&rt, "a task");
+    let (request, mut reply) = ask_and_poll(&rt, &task);
+    let before = looks_of(&reply);
+    drop(request);
+    let after = looks_of(&reply);
+    let lost = bytes_polled(task.poll(&mut reply));
+    assert_same!(rt;
+        (before, after, lost, task.is_woken()),
+        ((false, false), (true, false), Poll::Ready(Err(RecvError)), false)
+    );
+    let awaited = block_on(&rt, reply).expect(&rt, "an executor");
+    assert_same!(rt; awaited.map(bytes_of), Err(RecvError));
+}
+
+#[test]
+fn a_dropped_ticket_cancels_its_request_and_the_reply_comes_back(rt: HostRuntime) {
+    let (request, ticket) = ask(&rt, ());
     drop(ticket);
     let is_cancelled = request.is_cancelled();
-    let Err(length) = answer(request)? else {
-        return Err(Fail::new("an answer without a ticket"));
+    let Err(length) = answer(&rt, request) else {
+        panic!(rt; "an answer without a ticket")
     };
-    assert_eq!(rt; (is_cancelled, length.bytes()), (true, 21));
-    Ok(())
+    assert_same!(rt; (is_cancelled, length.bytes()), (true, 21));
 }
 
 #[test]
-fn a_watch_is_told_of_a_dropped_ticket(rt: HostRuntime) -> Result<(), Fail> {
-    let (request, ticket) = ask((), rt.alloc())?;
-    let (request, mut watch) = request.into_parts();
+fn a_watch_is_told_of_a_dropped_ticket(rt: HostRuntime) {
+    let (request, mut watch, ticket) = ask_in_parts(&rt, ());
     let before = (watch.is_gone(), request.is_cancelled());
     drop(ticket);
     let after = (watch.is_gone(), request.is_cancelled());
-    assert_eq!(rt; (before, after), ((false, false), (true, true)));
-    Ok(())
+    assert_same!(rt; (before, after), ((false, false), (true, true)));
 }
 
 #[test]
-fn a_watch_is_told_of_a_dropped_awaited_reply(rt: HostRuntime) -> Result<(), Fail> {
-    let (request, ticket) = ask((), rt.alloc())?;
-    let (request, mut watch) = request.into_parts();
+fn a_watch_is_told_of_a_dropped_awaited_reply(rt: HostRuntime) {
+    let (request, mut watch, ticket) = ask_in_parts(&rt, ());
     let reply = ticket.into_future();
     let was_gone = watch.is_gone();
     drop(reply);
-    assert_eq!(rt;
+    assert_same!(rt;
         (was_gone, watch.is_gone(), request.is_cancelled()),
         (false, true, true)
     );
-    Ok(())
 }
 
-#[test]
-fn a_watch_is_told_nothing_while_its_ticket_is_called(rt: HostRuntime) -> Result<(), Fail> {
-    let (request, mut ticket) = ask(&rt, rt.alloc())?;
-    let (request, mut watch) = request.into_parts();
-    let tried = ticket.try_take().map(bytes_of);
-    let waited = ticket.wait_for(Duration::from_millis(1)).map(bytes_of);
-    assert_eq!(rt;
+/// Fails unless the calls of this ticket find no reply, and tell the watch nothing.
+fn assert_tells_nothing<Rt: Wait + Clock + Drop>(
+    rt: &impl Asserts,
+    ticket: &mut LengthTicket<Rt>,
+    watch: &mut Watch<()>,
+) {
+    let tried = take(ticket);
+    let waited = wait_a_moment(ticket);
+    assert_same!(rt;
         (tried, waited, watch.is_gone()),
         (
             Err(TryRecvError::Empty),
@@ -212,59 +266,69 @@ fn a_watch_is_told_nothing_while_its_ticket_is_called(rt: HostRuntime) -> Result
             false
         )
     );
-    let answered = crate::reply::answer(request)?.is_ok();
-    let taken = ticket.try_take().map(bytes_of);
+}
+
+#[test]
+fn a_watch_is_told_nothing_while_its_ticket_is_called(rt: HostRuntime) {
+    let (request, mut watch, mut ticket) = ask_in_parts(&rt, &rt);
+    assert_tells_nothing(&rt, &mut ticket, &mut watch);
+    let answered = crate::reply::answer(&rt, request).is_ok();
+    let taken = take(&mut ticket);
     let was_gone = watch.is_gone();
     drop(ticket);
-    assert_eq!(rt;
+    assert_same!(rt;
         (answered, taken, was_gone, watch.is_gone()),
         (true, Ok(21), false, true)
     );
-    Ok(())
 }
 
-#[test]
-fn a_watch_is_told_nothing_while_the_awaited_reply_is_called(rt: HostRuntime) -> Result<(), Fail> {
-    let task = MockTask::new(&rt)?;
-    let (request, ticket) = ask((), rt.alloc())?;
-    let (request, mut watch) = request.into_parts();
-    let mut reply = ticket.into_future();
-    let is_pending = matches!(task.poll(&mut reply), Poll::Pending);
-    let tried = reply.try_recv().map(bytes_of);
-    assert_eq!(rt;
-        (is_pending, tried, watch.is_gone()),
-        (true, Err(TryRecvError::Empty), false)
-    );
-    let answered = crate::reply::answer(request)?.is_ok();
-    let full = (reply.is_closed(), reply.has_message());
+/// Fails unless this awaited reply, whose request was answered, is received and then closed, and the watch is told when
+/// the reply is dropped, and not before.
+fn assert_is_received_once(rt: &impl Asserts, mut reply: LengthReply, watch: &mut Watch<()>) {
+    let full = looks_of(&reply);
     let received = reply.try_recv().map(bytes_of);
-    let closed = (reply.is_closed(), reply.has_message());
+    let closed = looks_of(&reply);
     let was_gone = watch.is_gone();
     drop(reply);
-    assert_eq!(rt;
-        (answered, full, received, closed, was_gone, watch.is_gone()),
-        (true, (false, true), Ok(21), (true, false), false, true)
+    assert_same!(rt;
+        (full, received, closed, was_gone, watch.is_gone()),
+        ((false, true), Ok(21), (true, false), false, true)
     );
-    Ok(())
 }
 
 #[test]
-fn a_watch_is_told_nothing_while_its_ticket_waits(rt: HostRuntime) -> Result<(), Fail> {
-    let (request, ticket) = ask(&rt, rt.alloc())?;
-    let (request, mut watch) = request.into_parts();
+fn a_watch_is_told_nothing_while_the_awaited_reply_is_called(rt: HostRuntime) {
+    let task = MockTask::new(&rt).expect(&rt, "a task");
+    let (request, mut watch, ticket) = ask_in_parts(&rt, ());
+    let mut reply = ticket.into_future();
+    let polled = bytes_polled(task.poll(&mut reply));
+    let tried = reply.try_recv().map(bytes_of);
+    assert_same!(rt;
+        (polled, tried, watch.is_gone()),
+        (Poll::Pending, Err(TryRecvError::Empty), false)
+    );
+    assert!(rt; crate::reply::answer(&rt, request).is_ok());
+    assert_is_received_once(&rt, reply, &mut watch);
+}
+
+/// Drops the request after a moment. Returns whether its watch was told nothing until then.
+fn drop_later(rt: &impl Clock, request: Request<String, Length>, watch: &mut Watch<()>) -> bool {
+    sleep(rt, Duration::from_millis(MOMENT));
+    let was_there = !watch.is_gone();
+    drop(request);
+    was_there
+}
+
+#[test]
+fn a_watch_is_told_nothing_while_its_ticket_waits(rt: HostRuntime) {
+    let (request, mut watch, ticket) = ask_in_parts(&rt, &rt);
     let (reply, was_there) = join(
         &rt,
-        || ticket.wait().map(bytes_of),
-        || {
-            sleep(&rt, Duration::from_millis(MOMENT));
-            let was_there = !watch.is_gone();
-            drop(request);
-            was_there
-        },
+        || wait(ticket),
+        || drop_later(&rt, request, &mut watch),
     );
-    assert_eq!(rt;
+    assert_same!(rt;
         (reply, was_there, watch.is_gone()),
         (Err(RecvError), true, true)
     );
-    Ok(())
 }

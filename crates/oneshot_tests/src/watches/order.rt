@@ -2,13 +2,11 @@
 //! the server. An answer or the drop of a request tells the ticket before it drops the runtime of the server's watch.
 
 use super::cancelled::answer;
-use crate::reply::TEXT;
+use crate::reply::new_text;
+use oneshot_asserts::{Asserts, assert_same};
 use oneshot_channel::reply::{Length, Request};
 use oneshot_watch::{CancellableRequest, CancellableTicket, Watch, cancellable_request};
-use std::alloc::{AllocError, Global};
 use std::cell::Cell;
-use std::process::Abort;
-use std::test::Fail;
 
 /// A server's request with its watch, and whether the request was cancelled, and the server told, before the ticket's
 /// runtime was dropped. The request stays, so the ticket's drop finds it there.
@@ -28,6 +26,13 @@ impl Server {
             was_cancelled: Cell::new(None),
             was_told: Cell::new(None),
         }
+    }
+
+    /// Gives the server a request.
+    fn serve(&self, request: CancellableRequest<String, Length, ()>) {
+        let (request, watch) = request.into_parts();
+        self.request.set(Some(request));
+        self.watch.set(Some(watch));
     }
 
     /// Whether the request is cancelled. `None`: there is none.
@@ -62,21 +67,18 @@ impl Drop for Witness<'_> {
 
 /// A ticket whose runtime's drop looks at the server's watch.
 fn ticket_of<'a>(
-    alloc: Global,
+    rt: &(impl AllocGlobal + Asserts),
     server: &'a Server,
-) -> Result<CancellableTicket<String, Length, Witness<'a>>, AllocError> {
-    let question = String::from_str(alloc, TEXT)?;
-    let made = cancellable_request(Witness { server }, (), alloc, question);
-    let (request, ticket) = made.map_err(|_| AllocError)?;
-    let (request, watch) = request.into_parts();
-    server.request.set(Some(request));
-    server.watch.set(Some(watch));
-    Ok(ticket)
+) -> CancellableTicket<String, Length, Witness<'a>> {
+    let made = cancellable_request(Witness { server }, (), rt.alloc(), new_text(rt));
+    let (request, ticket) = made.expect(rt, "memory");
+    server.serve(request);
+    ticket
 }
 
 /// Fails unless the request was cancelled before the ticket's runtime was dropped, and the server told only after it.
-fn assert_told_last(rt: &impl Abort, server: &Server) {
-    assert_eq!(rt;
+fn assert_told_last(rt: &impl Asserts, server: &Server) {
+    assert_same!(rt;
         (
             server.was_cancelled.get(),
             server.was_told.get(),
@@ -93,21 +95,19 @@ fn a_server_without_a_ticket_ends_a_test(rt: HostRuntime) {
 }
 
 #[test]
-fn a_ticket_is_gone_before_its_server_is_told(rt: HostRuntime) -> Result<(), Fail> {
+fn a_ticket_is_gone_before_its_server_is_told(rt: HostRuntime) {
     let server = Server::new();
-    drop(ticket_of(rt.alloc(), &server)?);
+    drop(ticket_of(&rt, &server));
     assert_told_last(&rt, &server);
-    Ok(())
 }
 
 #[test]
-fn an_awaited_reply_is_gone_before_its_server_is_told(rt: HostRuntime) -> Result<(), Fail> {
+fn an_awaited_reply_is_gone_before_its_server_is_told(rt: HostRuntime) {
     let server = Server::new();
-    let reply = ticket_of(rt.alloc(), &server)?.into_future();
-    assert_eq!(rt; server.is_told(), Some(false));
+    let reply = ticket_of(&rt, &server).into_future();
+    assert_same!(rt; server.is_told(), Some(false));
     drop(reply);
     assert_told_last(&rt, &server);
-    Ok(())
 }
 
 /// A client's ticket, and what a look and a try found before the watch's runtime was dropped: whether the ticket was
@@ -146,28 +146,25 @@ impl Drop for Looking<'_> {
 
 /// A request whose ticket the client has, and the runtime of whose watch looks at it.
 fn request_of<'a>(
-    alloc: Global,
+    rt: &(impl AllocGlobal + Asserts),
     client: &'a Client,
-) -> Result<CancellableRequest<String, Length, Looking<'a>>, AllocError> {
-    let question = String::from_str(alloc, TEXT)?;
-    let made = cancellable_request((), Looking { client }, alloc, question);
-    let (request, ticket) = made.map_err(|_| AllocError)?;
+) -> CancellableRequest<String, Length, Looking<'a>> {
+    let made = cancellable_request((), Looking { client }, rt.alloc(), new_text(rt));
+    let (request, ticket) = made.expect(rt, "memory");
     client.ticket.set(Some(ticket));
-    Ok(request)
+    request
 }
 
 #[test]
-fn a_reply_is_sent_before_the_watch_goes(rt: HostRuntime) -> Result<(), Fail> {
+fn a_reply_is_sent_before_the_watch_goes(rt: HostRuntime) {
     let client = Client::new();
-    let answered = answer(request_of(rt.alloc(), &client)?)?.is_ok();
-    assert_eq!(rt; (answered, client.received.get()), (true, Some(true)));
-    Ok(())
+    let answered = answer(&rt, request_of(&rt, &client)).is_ok();
+    assert_same!(rt; (answered, client.received.get()), (true, Some(true)));
 }
 
 #[test]
-fn a_dropped_request_tells_its_ticket_before_the_watch_goes(rt: HostRuntime) -> Result<(), Fail> {
+fn a_dropped_request_tells_its_ticket_before_the_watch_goes(rt: HostRuntime) {
     let client = Client::new();
-    drop(request_of(rt.alloc(), &client)?);
-    assert_eq!(rt; client.was_closed.get(), Some(true));
-    Ok(())
+    drop(request_of(&rt, &client));
+    assert_same!(rt; client.was_closed.get(), Some(true));
 }

@@ -1,13 +1,14 @@
 //! Guards, watches, and cancellable requests with their tickets, on threads other than their makers'.
 
 use super::cancelled::{answer, ask};
+use super::guarded;
 use crate::ends::raw::there_and_back;
 use crate::reply::bytes_of;
+use oneshot_asserts::assert_same;
 use oneshot_channel::reply::Answer;
 use oneshot_watch::{
-    AsyncWatch, CancellableReply, CancellableRequest, CancellableTicket, Guard, Watch, watch,
+    AsyncWatch, CancellableReply, CancellableRequest, CancellableTicket, Guard, Watch,
 };
-use std::test::Fail;
 use std::thread::Threads;
 
 // Moves a guard, its watch and the watch's future to another thread and back, whatever the watch's runtime.
@@ -37,23 +38,21 @@ fn request_there<Q: Eq + Send + Drop, A: Answer<Q> + Send + Drop, Rt: Send + Dro
 }
 
 #[test]
-fn a_guard_and_its_watch_go_to_other_threads(rt: HostRuntime) -> Result<(), Fail> {
-    let (guard, watch) = watch((), rt.alloc())?;
+fn a_guard_and_its_watch_go_to_other_threads(rt: HostRuntime) {
+    let (guard, watch) = guarded(&rt, ());
     let (guard, mut gone) = watch_there(&rt, guard, watch);
     let was_gone = gone.is_gone();
     drop(guard);
-    assert_eq!(rt; (was_gone, gone.is_gone()), (false, true));
-    Ok(())
+    assert_same!(rt; (was_gone, gone.is_gone()), (false, true));
 }
 
 #[test]
-fn a_cancellable_request_and_its_ticket_go_to_other_threads(rt: HostRuntime) -> Result<(), Fail> {
-    let (request, ticket) = ask((), rt.alloc())?;
+fn a_cancellable_request_and_its_ticket_go_to_other_threads(rt: HostRuntime) {
+    let (request, ticket) = ask(&rt, ());
     let (request, mut reply) = request_there(&rt, request, ticket);
-    let is_answered = answer(request)?.is_ok();
-    assert_eq!(rt;
+    let is_answered = answer(&rt, request).is_ok();
+    assert_same!(rt;
         (is_answered, reply.try_recv().map(bytes_of)),
         (true, Ok(21))
     );
-    Ok(())
 }

@@ -118,8 +118,8 @@ fn a_long_output_ends_where_a_write_fails(rt: HostRuntime) {
     panic!(rt; "100 calls were too few")
 }
 
-/// Asserts that the output ends at a write that fails after this many others, unless it is whole, because that write was
-/// not made. Returns whether it is whole.
+/// Asserts that the output ends at a write that fails after this many others, unless it is whole, because that write
+/// was not made. Returns whether it is whole.
 fn assert_cut_or_whole(
     rt: &(impl Asserts + AllocGlobal),
     input: &str,
